@@ -3,16 +3,16 @@
 // REFUSE_AT=N makes the Nth request fail. If that request never came and the program succeeded, the
 // exit status is 99.
 //
-// REFUSE_MARKED=1 makes each request between two marks fail, which are requests of sizes that no
+// REFUSE_MARKED=1 makes each request between two marks fail. Marks are requests for sizes that no
 // other request has. The first mark fails, and so does each request after it. The second mark ends
 // that, and fails exactly if a request came between the two. A third mark between them fails
-// exactly if nothing, not even a granted mark, was freed since the first. So a test learns from
-// their results what happened in between. If the program requested the first two and succeeded, the
-// exit status is 98.
+// exactly if nothing, not even a granted mark, was freed since the first one. So a test learns from
+// the results of the marks what happened in between. If the program requested the first two and
+// succeeded, the exit status is 98.
 //
-// In both ways a fourth mark fails exactly if a request that isn't a mark failed before it. Without
-// REFUSE_MARKED the other three succeed, so a test that requests them is also run with ample
-// memory. No mark counts as a request.
+// In both ways, a fourth mark fails exactly if a request that isn't a mark failed before it.
+// Without REFUSE_MARKED the other three marks succeed, so a test that requests them can also run
+// with ample memory. No mark counts as a request.
 #define _GNU_SOURCE
 #include <stdlib.h>
 #include <sys/syscall.h>
@@ -48,7 +48,7 @@ static int status_of_success(void) {
     return met_both ? 98 : 0;
 }
 
-// A program with threads ends by this call, any other one returns from main.
+// A program with threads ends by this call; any other program returns from main.
 void _exit(int status) {
     for (;;)
         syscall(SYS_exit_group, status != 0 ? status : status_of_success());
@@ -86,7 +86,7 @@ static int refuses_nth(size_t size) {
     return 1;
 }
 
-// Returns whether this request fails because of marks, and keeps track of them.
+// Returns whether this request fails because of the marks, and keeps track of the marks.
 static int refuses_between(size_t size) {
     switch (size) {
     case FIRST_MARK:

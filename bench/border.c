@@ -25,7 +25,7 @@ static void c_pool_drop(bb_pool *p) {
 
 POOL_LOOPS(c_pool, bb_pool)
 
-// The same with whole buckets, which are taken without a layout.
+// The same with whole buckets, which are allocated without a layout.
 static size_t c_whole_take(bb_pool *p, size_t size, size_t align) {
     (void)size, (void)align;
     return bb_pool_take(p).place;

@@ -1,6 +1,6 @@
-// Allocators in plain C after the tests of `bb_memory.h`: of the handle, the layout and the place,
-// and of a second return. They are in a file of their own, so that each call is a real call, as
-// into a library.
+// Allocators in plain C that make the same tests as the library: of the handle, the layout and the
+// place, and for a second free. They are in a file of their own, so that each call is a real call,
+// as into a library.
 #include <stddef.h>
 #include <stdint.h>
 
@@ -25,8 +25,8 @@ enum {
     CHECKED_NOT_HELD,
 };
 
-// A list of the free buckets of a region. The bucket that was given back last is taken first. A
-// byte for each bucket records whether it is held.
+// A list of the free buckets of a region. The bucket that was freed last is allocated first. A byte
+// for each bucket records whether it is held.
 int checked_list_init(checked_handle *, uint32_t buckets, size_t bucket_size, size_t align,
                       size_t start);
 checked_chunk checked_list_allocate(checked_handle *, size_t size, size_t align);

@@ -1,5 +1,5 @@
-// The pools of the C++ library, and of Boost if that is installed. Each of them takes more memory
-// if it has no free bucket, so the loops count the buckets.
+// The pools of the C++ library, and of Boost if that is installed. Each of them allocates more
+// memory if it has no free bucket, so the loops count the buckets.
 #include "heaps.h"
 #include <memory_resource>
 #include <optional>
@@ -23,7 +23,7 @@ constexpr std::size_t request_align = 8;
 std::optional<std::pmr::unsynchronized_pool_resource> pmr;
 std::optional<std::pmr::synchronized_pool_resource> pmr_shared;
 
-// Returns options with which one chunk of the resource has room for all buckets.
+// Returns options by which one chunk of the resource has room for all buckets.
 std::pmr::pool_options options(std::uint32_t buckets, std::size_t bucket_size) {
     std::pmr::pool_options wanted;
     wanted.max_blocks_per_chunk = buckets;
@@ -78,7 +78,7 @@ struct node {
     alignas(8) unsigned char bytes[node_size];
 };
 
-// The type of managed shared memory, over a buffer in place of a file.
+// The type of managed shared memory, but over a buffer instead of a file.
 using segment = interprocess::basic_managed_external_buffer<
     char, interprocess::rbtree_best_fit<interprocess::mutex_family>, interprocess::iset_index>;
 using allocator = interprocess::cached_node_allocator<node, segment::segment_manager>;

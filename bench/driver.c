@@ -1,10 +1,12 @@
-// Times the allocators with one owner and their peers on one processor, and prints a line for each
-// figure, which `report` reads. The argument is the number of rounds.
+// Times the allocators with one owner, and their peers, on one processor. Prints a line for each
+// figure, which `report` reads. The arguments are the number of rounds, a number that only the
+// other programs need, and the first letters of the kinds to be timed, if not all.
 #include "heaps.h"
 #include "pin.h"
 #include "pool_bench.h"
 #include <stdio.h>
 #include <stdlib.h>
+#include <string.h>
 #include <time.h>
 
 enum {
@@ -60,12 +62,12 @@ static uint64_t next_random(void) {
     return state;
 }
 
-// Returns a number below the bound.
+// Returns a random number below the bound.
 static uint32_t below(uint32_t bound) {
     return (uint32_t)((next_random() >> 32) * bound >> 32);
 }
 
-// A script; how many buckets are held after it, and how many it takes in all.
+// A script, the number of buckets that are held after it, and the number that it takes in all.
 static uint32_t script[MOST_CALLS], held, born;
 static size_t calls;
 
@@ -79,7 +81,7 @@ static void give(void) {
     script[calls++] = below(held--);
 }
 
-// Fills a pool, and gives back buckets at random until `left` are held.
+// Fills a pool, and then frees random buckets until `left` are held.
 static void fill(uint32_t buckets, uint32_t left) {
     calls = 0, held = 0, born = 0;
     while (held < buckets)
@@ -107,8 +109,8 @@ static double seconds(void) {
     return (double)now.tv_sec + (double)now.tv_nsec * 1e-9;
 }
 
-// Returns how many seconds the first calls of the script take. Ends the program if they don't take
-// the expected number of buckets.
+// Returns the seconds that the first calls of the script take. Ends the program if these calls
+// don't allocate the expected number of buckets.
 static double timed(follow *run, const task *t, size_t of, uint32_t expected) {
     double start = seconds();
     uint64_t taken = run(t, script, of);
@@ -124,28 +126,35 @@ static task task_of(uint32_t buckets, uint32_t bucket_size) {
     return (task){buckets, bucket_size, 8, 48};
 }
 
-// Returns that many per cent of the buckets, rounded down.
+// Returns this percentage of the buckets, rounded down.
 static uint32_t part(uint32_t buckets, uint32_t percent) {
     return (uint32_t)((uint64_t)buckets * percent / 100);
 }
 
-// Returns the nanoseconds for a call of the script after the first calls, which make and fill the
-// pool, and take `first` buckets.
+// Returns the nanoseconds for each call of the script after the first `before` calls, which make
+// and fill the pool, and allocate `first` buckets.
 static double call_time(follow *run, const task *t, size_t before, uint32_t first) {
-    // The first run finds what the loop before it left in the caches and in the heap, and isn't
-    // counted.
+    // The first run isn't counted: it finds what the loop before it left in the caches and in the
+    // heap.
     timed(run, t, before, first);
     double made = timed(run, t, before, first);
     return (timed(run, t, calls, born) - made) * 1e9 / (double)(calls - before);
 }
 
-// Returns for how many calls a figure is: a taking with its return, or a refusal.
+// The first letters of the kinds to be timed.
+static const char *first_letters = "";
+
+static int is_timed(const char *name) {
+    return strncmp(name, first_letters, strlen(first_letters)) == 0;
+}
+
+// Returns how many calls a figure covers: two for an allocation and a free, one for a refusal.
 static int calls_of(pattern p) {
     return p == REFUSED ? 1 : 2;
 }
 
-// Times one round of some loops over pools like this one, of which `percent` are held, one after
-// another. The time that making and filling the pool takes is subtracted.
+// Times some loops, one after another, for one round. Their pools are like this one, and `percent`
+// of the buckets are held. The time to make and fill the pool is subtracted.
 static void time_each(const char *name, const loop *loops, int many, pattern p, task t,
                       uint32_t percent, size_t of) {
     fill(t.buckets, part(t.buckets, percent));
@@ -170,16 +179,16 @@ static void time_pools(void) {
                               fills[fill], CALLS);
 }
 
-// Each bucket that is taken is written, and read before it goes back, in buckets of a cache line:
-// in 256 KiB, and in 4 MiB.
+// Times loops that write each bucket that they allocate, and read it before they free it. A bucket
+// is a cache line, and all buckets together are 256 KiB or 4 MiB.
 static void time_written(void) {
     time_each("random written", written, WRITTEN, RANDOM, task_of(4096, 64), 50, WRITTEN_CALLS);
     time_each("random written", written, WRITTEN, RANDOM, task_of(MOST_BUCKETS, 64), 50,
               WRITTEN_CALLS);
 }
 
-// Times the other allocators: for each request of 48 bytes its nanoseconds, together with those of
-// giving the chunk back.
+// Times the other allocators: the nanoseconds of a request for 48 bytes, together with those to
+// free the chunk.
 static void time_others(void) {
 #define OTHER_ENTRY(name, by, run) {name, by, run},
 
@@ -193,6 +202,8 @@ static void time_others(void) {
     for (size_t i = 0; i < GROUP; i++)
         requests[i] = 48;
     for (size_t i = 0; i < sizeof others / sizeof *others; i++) {
+        if (!is_timed(others[i].by))
+            continue;
         double start = seconds();
         others[i].run(requests, GROUP, 8, rounds);
         printf("%s,1,,,%s,%.2f\n", others[i].name, others[i].by,
@@ -205,11 +216,13 @@ unsigned char *memory;
 static void look_for(loop *loops, int many) {
     task one = task_of(1, 128);
     for (int i = 0; i < many; i++)
-        loops[i].is_there = loops[i].run(&one, script, 0) != NOT_THERE;
+        loops[i].is_there = is_timed(loops[i].name) && loops[i].run(&one, script, 0) != NOT_THERE;
 }
 
 int main(int argc, char **argv) {
     int rounds = argc > 1 ? atoi(argv[1]) : 3;
+    if (argc > 3)
+        first_letters = argv[3];
     memory = aligned_alloc(4096, (size_t)MOST_BUCKETS * 128);
     if (!memory)
         return 1;
@@ -217,9 +230,9 @@ int main(int argc, char **argv) {
     open_heaps();
     look_for(pools, POOLS);
     look_for(written, WRITTEN);
-    // DPDK lets the first thread move again when it is opened first.
+    // Opening DPDK for the first time lets the first thread move to other processors again.
     keep_on_a_processor(0);
-    // The lines take turns, so that each has its rounds spread over the whole run.
+    // The figures take turns, so that the rounds of each are spread over the whole run.
     for (int round = 0; round < rounds; round++) {
         time_others();
         time_written();

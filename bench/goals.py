@@ -95,8 +95,8 @@ def too_long(medians: Mapping[Key, float]) -> list[str]:
 
 def by_peers(medians: Mapping[Key, float], key: Key, peers: list[str]) -> float:
     """Returns a time by the geometric mean of its peers'."""
-    theirs = [max(medians[key._replace(by=by)], 0.01) for by in peers]
-    return medians[key] / statistics.geometric_mean(theirs)
+    theirs = statistics.geometric_mean(medians[key._replace(by=by)] for by in peers)
+    return medians[key] / theirs
 
 
 def slower(now: Mapping[Key, float], landed: Mapping[Key, float]) -> list[str]:

@@ -1,6 +1,6 @@
-// Makes `CALLS` takings and as many returns with each allocator, so that `make instructions` can
-// count with callgrind how many instructions a call executes. The argument is how many buckets a
-// party caches.
+// Makes `CALLS` allocations and the same number of frees with each allocator, so that `count` can
+// count with callgrind how many instructions a call executes. The argument is the number of buckets
+// that a party caches.
 #define BB_PLACES_ARE_NUMBERS
 #include <bb_memory.h>
 #include <stdlib.h>

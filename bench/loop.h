@@ -1,24 +1,24 @@
-// The loop of the pools in C.
+// The loop over pools in C.
 #include "pool_bench.h"
 #include <stdlib.h>
 #include <string.h>
 
 #define START 4096
 
-// The memory at the places of a pool, which begins at place START.
+// The memory at the places of a pool. It begins at the place START.
 extern unsigned char *memory;
 
-// The work at a place that was taken, and at one that goes back: nothing; or 48 bytes are written,
-// and a word of these is read.
+// The work at a place that was allocated, and at one that is freed: nothing; or writing 48 bytes,
+// and reading a word of them.
 #define UNTOUCHED(place) ((void)0)
 #define POOL_WRITTEN(place) memset(memory + ((place)-START), 1, 48)
 #define POOL_READ(place) ((void)*(volatile uint64_t *)(memory + ((place)-START)))
 #define HEAP_WRITTEN(place) memset((void *)(place), 1, 48)
 #define HEAP_READ(place) ((void)*(volatile uint64_t *)(place))
 
-// Makes the loop for a kind of pool, of which it calls NAME_make, NAME_take, NAME_give and
-// NAME_drop. A place is never 0. The places that are kept in the end are given back, because of
-// malloc. If the machine doesn't have the pool, it can't be made, and the loop returns NOT_THERE.
+// Defines the loop for a kind of pool, which calls NAME_make, NAME_take, NAME_give and NAME_drop. A
+// place is never 0. The places that are still kept in the end are freed, because of malloc. If the
+// machine doesn't have the pool, it can't be made, and the loop returns NOT_THERE.
 #define LOOP_THAT(LOOP_NAME, NAME, POOL, WRITTEN, READ)                       \
     uint64_t LOOP_NAME(const task *t, const uint32_t *script, size_t calls) { \
         POOL pool;                                                            \

@@ -1,5 +1,5 @@
-// The same loops over other allocators, and over none. The plain list tests a request like the
-// pools in Rattle, and finds the bucket of a place by a division of 32 bits.
+// The same loops over other allocators, and over none. The plain list tests a request as the pools
+// in Rattle do, and finds the bucket of a place by a division of 32 bits.
 #include "checked.h"
 #include "heaps.h"
 #include "loop.h"
@@ -7,7 +7,7 @@
 #define NONE UINT32_MAX
 #define SIZE ((size_t)1 << 40)
 
-// A list of the free buckets, of which the last one given back is taken first.
+// A list of the free buckets. The one that was freed last is allocated first.
 typedef struct {
     uint32_t *next;
     uint32_t head;
@@ -74,7 +74,7 @@ static size_t checked_whole_take(checked_handle *p, size_t size, size_t align) {
 #define checked_whole_drop checked_list_destroy
 LOOP(checked_whole, checked_handle)
 
-// An allocator of the whole process, which has no last bucket, so that the loop counts them.
+// An allocator of the whole process never runs out of buckets, so the loop counts them.
 typedef struct {
     uint32_t left;
 } heap;
@@ -100,7 +100,7 @@ typedef struct {
     }                                                               \
     HEAP_LOOPS(NAME, heap)
 
-// The C library's own calls, through a pointer like the others.
+// The calls of the C library, through a pointer like the others.
 static heap_calls c_calls = {malloc, free};
 
 HEAP(malloc_free, c_calls)
@@ -128,7 +128,7 @@ static void dpdk_drop(heap *p) {
 
 HEAP_LOOPS(dpdk, heap)
 
-// The pools of C++, which have no last bucket either.
+// The pools of C++, which never run out of buckets, either.
 #define COUNTED(NAME, POOL)                                         \
     static int NAME##_make(heap *p, const task *t) {                \
         p->left = t->buckets;                                       \
@@ -154,7 +154,7 @@ HEAP_LOOPS(dpdk, heap)
 COUNTED(pmr_pool, pmr)
 COUNTED(interprocess_pool, interprocess)
 
-// No pool: the cost of the loop itself. A taking returns the place that was given back last.
+// No pool: the cost of the loop itself. An allocation returns the place that was freed last.
 typedef struct {
     uint32_t left;
     size_t given;

@@ -10,18 +10,18 @@ typedef struct {
     size_t request_size;
 } task;
 
-// The call of a script that requests a bucket. Any other number gives back the bucket whose place
-// is at that index of those that are kept: the last place moves there.
+// The call of a script that requests a bucket. Any other number frees the bucket whose place is at
+// that index of the kept places. The last place moves to the index.
 #define TAKE UINT32_MAX
 
-// The result if the machine doesn't have the pool.
+// The result of a loop if the machine doesn't have its pool.
 #define NOT_THERE UINT64_MAX
 
-// Makes a pool, and the calls of a script. Returns how many buckets were taken.
+// Makes a pool, and then the calls of a script. Returns how many buckets were allocated.
 typedef uint64_t follow(const task *, const uint32_t *script, size_t calls);
 
-// The pools that are timed: the name of the allocator, and the loop. A new one is a row here, and
-// its loop in pool_bench/src, border.c or peers.c.
+// The pools that are timed: the name of the allocator, and its loop. A new one needs a row here,
+// and a loop in pool_bench/src, border.c or peers.c.
 #define POOL_ROWS(ROW)                            \
     ROW("Rattle", bench_words)                    \
     ROW("Rattle fixed", bench_fixed)              \
@@ -37,7 +37,7 @@ typedef uint64_t follow(const task *, const uint32_t *script, size_t calls);
     ROW("boost::interprocess", interprocess_pool) \
     ROW("loop", no_pool)
 
-// The pools of loops that write what they take.
+// The pools whose loops write into the buckets that they allocate.
 #define WRITTEN_ROWS(ROW)                       \
     ROW("C", c_pool_written)                    \
     ROW("checked C", checked_written)           \
@@ -50,7 +50,7 @@ typedef uint64_t follow(const task *, const uint32_t *script, size_t calls);
 POOL_ROWS(DECLARE_POOL)
 WRITTEN_ROWS(DECLARE_POOL)
 
-// In each round makes a request for each size, and gives back what it took.
+// In each round, makes a request for each size, and frees what it got.
 typedef uint64_t rounds_of(const uint32_t *sizes, size_t count, size_t align, uint32_t rounds);
 
 extern rounds_of bench_bump, c_bump, checked_bump, plain_bump;

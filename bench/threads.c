@@ -1,7 +1,7 @@
 // Times a bump and a list of free buckets in C, allocators of other packages, and parties of a
-// shared pool of the C library, by several threads at the same time, each kept on a processor of
-// its own: pairs, bursts, the slowest takings, and a queue between two threads whose receiver gives
-// each message's memory back.
+// shared pool of the C library. Several threads call at the same time, each on a processor of its
+// own. The measurements are pairs (an allocation and a free), bursts, the slowest allocations, and
+// a queue between two threads, whose receiver frees the memory of each message.
 //
 // Arguments: the number of rounds, the number of calls of each thread in a round, and the first
 // letters of the kinds to be timed, if not all. Prints a line for each figure, as shared_bench does
@@ -18,6 +18,9 @@
 #include <time.h>
 #include <x86intrin.h>
 
+// 0 for a library that has no calls with a bucket's number. `make compare` may time such a one.
+#define HAS_NUMBERS (BB_VERSION_NUMBER >= 20000)
+
 enum {
     MOST_THREADS = 4,
     BUCKETS = 64,
@@ -31,7 +34,7 @@ enum {
 #define NONE UINT32_MAX
 #define SIZE ((size_t)1 << 50)
 
-// The variables that threads write while they are timed share no cache line with anything else.
+// Variables that threads write while they are timed share no cache line with anything else.
 static _Alignas(128) _Atomic size_t used;
 static _Alignas(128) _Atomic uint64_t head;
 static _Alignas(128) _Atomic uint32_t next[BUCKETS];
@@ -39,7 +42,7 @@ static _Alignas(128) atomic_uint came;
 static _Alignas(128) unsigned threads;
 static _Alignas(128) unsigned calls;
 
-// A request for 48 bytes at multiples of 8: the place is rounded up, and the position exchanged.
+// Allocates 48 bytes at a multiple of 8: rounds the place up, and exchanges the position.
 static size_t bump_pair(void) {
     size_t seen = atomic_load(&used);
     size_t place;
@@ -56,7 +59,7 @@ static uint64_t headed(uint64_t old, uint32_t i) {
 }
 
 // Takes a bucket from a lock-free list, whose head is exchanged together with a count. Returns the
-// bucket's number plus 1, or 0 if none is free.
+// number of the bucket plus 1, or 0 if none is free.
 static inline size_t list_take(void) {
     uint64_t old = atomic_load(&head);
     while ((uint32_t)old != NONE) {
@@ -68,7 +71,7 @@ static inline size_t list_take(void) {
     return 0;
 }
 
-// Gives the bucket back, by any thread.
+// Frees the bucket. Any thread may do that.
 static inline void list_give(size_t taken) {
     uint32_t i = (uint32_t)taken - 1;
     uint64_t old = atomic_load(&head);
@@ -95,7 +98,7 @@ HEAP(mimalloc, mimalloc_calls)
 #define pmr_take pmr_shared_take
 #define pmr_give pmr_shared_give
 
-// A shared pool and its parties, which join one after the other, their handles side by side.
+// A shared pool and its parties, which join one after another. Their handles are side by side.
 static bb_shared_pool pool;
 static bb_pool_party parties[MOST_THREADS];
 static _Thread_local bb_pool_party *party;
@@ -111,7 +114,7 @@ static inline void party_give(size_t taken) {
     (void)bb_pool_party_deallocate(party, taken);
 }
 
-// The same with whole buckets, which are taken without a layout.
+// The same with whole buckets, which are allocated without a layout.
 static inline size_t whole_take(void) {
     return bb_pool_party_take(party).place;
 }
@@ -130,7 +133,7 @@ static void join_all(unsigned cached) {
     sender = (uint32_t)bb_pool_party_number(&parties[0]).number;
 }
 
-// The message of a party is a bucket that it detached into the next of these. There are twice as
+// A party sends a message in a bucket, which it detaches into the next of these. There are twice as
 // many as the ring has room for, so each is empty again when its turn comes.
 static bb_detached detached[2 * ROOM];
 
@@ -157,7 +160,7 @@ static inline void message_give(size_t taken) {
     (void)bb_pool_party_return_detached(party, (bb_detached *)taken);
 }
 
-// The same with a sender that takes and detaches a group at a time, and sends them one by one.
+// The same with a sender that allocates and detaches a group of buckets, and sends them one by one.
 static inline size_t group_take(void) {
     if (sent == prepared) {
         size_t taken[GROUP];
@@ -172,7 +175,8 @@ static inline size_t group_take(void) {
 
 #define group_give message_give
 
-// The same, with each bucket's number plus 1 as the message. The numbers of a group wait here.
+#if HAS_NUMBERS
+// The same, but a message is the number of its bucket plus 1. The numbers of a group wait here.
 static _Thread_local size_t numbers[GROUP];
 
 static inline size_t number_take(void) {
@@ -190,14 +194,18 @@ static inline size_t number_take(void) {
 static inline void number_give(size_t taken) {
     party_give(bb_pool_party_attach_number(party, (uint32_t)taken - 1, sender).place);
 }
+#endif
 
-// Gives back the buckets that were detached and not sent, and destroys the pool and its parties.
+// Frees the buckets that were detached but not sent. Then the parties leave, and the pool is
+// destroyed.
 static void leave_all(void) {
     party = &parties[0];
     for (int i = 0; i < 2 * ROOM; i++)
         message_give((size_t)&detached[i]);
+#if HAS_NUMBERS
     for (size_t number = 0; number < BUCKETS; number++)
         number_give(number + 1);
+#endif
     for (unsigned i = 0; i < threads; i++)
         if (bb_shared_pool_leave(&pool, &parties[i]) != BB_OK)
             abort();
@@ -213,8 +221,8 @@ static inline void none_give(size_t taken) {
     (void)taken;
 }
 
-// How many takings of a thread took each number of cycles of the processor's clock; the last one
-// counts all longer ones.
+// How many allocations of a thread took each number of cycles of the processor's clock. The last
+// entry counts all that took longer.
 static _Thread_local uint32_t *counts;
 
 static inline uint64_t cycles(void) {
@@ -227,7 +235,7 @@ static inline void count_since(uint64_t start) {
     counts[spent < MOST_CYCLES ? spent : MOST_CYCLES - 1]++;
 }
 
-// Eight takings, and then their returns. Returns 0 if a taking fails.
+// Makes eight allocations, and then frees them. Returns 0 if an allocation fails.
 #define BURST_OF(BURST_NAME, TAKE, GIVE) \
     static size_t BURST_NAME(void) {     \
         size_t taken[BURST];             \
@@ -242,7 +250,7 @@ static inline void count_since(uint64_t start) {
         return all;                      \
     }
 
-// A taking and its return; a burst; and one with each taking timed by itself.
+// Defines the pair, the burst, and a burst in which each allocation is timed by itself.
 #define CALLS_OF(NAME)                               \
     static size_t NAME##_pair(void) {                \
         size_t taken = NAME##_take();                \
@@ -275,15 +283,15 @@ static size_t many_burst(void) {
            bb_pool_party_deallocate_many(party, taken, BURST).number == BURST;
 }
 
-// The ring of rtrb, which shared_bench has: each end owns a position, which it stores in one
-// sequentially consistent step. It keeps a copy of the other's position, which it loads again if
-// the copy shows that the ring is full or empty. The positions are 128 bytes apart.
+// The ring of rtrb, as in shared_bench. Each end owns a position, which it stores in one
+// sequentially consistent step. It also keeps a copy of the other end's position, which it loads
+// again if the ring is full or empty according to the copy. The positions are 128 bytes apart.
 static _Alignas(128) _Atomic uint64_t ring_head;
 static _Alignas(128) _Atomic uint64_t ring_tail;
 static _Alignas(128) size_t ring[ROOM];
 
-// The two ends of a queue: the sender takes memory for each message, and the receiver gives it
-// back.
+// Defines the two ends of a queue. The sender allocates memory for each message, and the receiver
+// frees it.
 #define QUEUE(NAME)                                                         \
     static size_t NAME##_send(void) {                                       \
         uint64_t tail = 0;                                                  \
@@ -324,10 +332,12 @@ QUEUE(pmr)
 QUEUE(interprocess)
 QUEUE(message)
 QUEUE(group)
+#if HAS_NUMBERS
 QUEUE(number)
+#endif
 QUEUE(none)
 
-// The calls that open, close, enter and leave a pool of another package.
+// The calls by which a pool of another package is opened, closed, entered and left.
 typedef struct {
     open_pool *open;
     pool_call *close;
@@ -342,8 +352,8 @@ static const package pmr = {pmr_shared_open, pmr_shared_close, stay, stay};
 static const package interprocess = {interprocess_open, interprocess_close, interprocess_enter,
                                      interprocess_leave};
 
-// The measurements of a kind, by its calls: a taking and its return, eight takings and then their
-// returns, the slowest takings of these, and the two ends of a queue.
+// The measurements of a kind, by its calls: an allocation and a free; eight allocations and then
+// eight frees; the slowest of these allocations; and the two ends of a queue.
 typedef enum {
     PAIR,
     EIGHT,
@@ -353,7 +363,7 @@ typedef enum {
     CALL_KINDS
 } what;
 
-// A kind, its calls, the heap or the package that it calls, if any, and how many buckets a party
+// A kind: its calls, the heap or the package that it calls, if any, and how many buckets a party
 // caches.
 typedef struct {
     const char *name;
@@ -376,7 +386,9 @@ static const kind kinds[] = {
     {"C", {CALLS(party), ENDS(message)}, NULL, NULL, 0},
     {"C take", {CALLS(whole), NULL, NULL}, NULL, NULL, 0},
     {"C group", {NULL, NULL, NULL, ENDS(group)}, NULL, NULL, 0},
+#if HAS_NUMBERS
     {"C group numbers", {NULL, NULL, NULL, ENDS(number)}, NULL, NULL, 0},
+#endif
     {"C caching", {CALLS(party), NULL, NULL}, NULL, NULL, BURST},
     {"C caching take", {CALLS(whole), NULL, NULL}, NULL, NULL, BURST},
     {"C caching many", {NULL, many_burst, NULL, NULL, NULL}, NULL, NULL, BURST},
@@ -410,8 +422,8 @@ enum {
     BUMP = 0
 };
 
-// A thread's calls, its party and its package, and its results: its nanoseconds, its failed calls,
-// and how long its takings were.
+// A thread: its calls, its party and its package. Its results: its nanoseconds, its failed calls,
+// and how long its allocations took.
 typedef struct {
     unsigned number;
     size_t (*call)(void);
@@ -470,7 +482,7 @@ static void open_all(const kind *of) {
     join_all(of->cached);
 }
 
-// Returns the cycles that 99.9% of the counted takings take at most.
+// Returns the number of cycles that 99.9% of the counted allocations take at most.
 static unsigned most_cycles(const uint32_t *found) {
     uint64_t all = 0;
     uint64_t below = 0;
@@ -495,9 +507,9 @@ static void time_the_clock(void) {
     cycles_in_a_nanosecond = (double)(cycles() - first) / nanos(start, end);
 }
 
-// Runs the threads. Returns the nanoseconds of a thread's taking and its return, those that 99.9%
-// of the takings take at most, or those of a message: from the gate to the last message whose
-// memory the receiver has given back.
+// Runs the threads. Returns the nanoseconds of an allocation and a free in one thread, those that
+// 99.9% of the allocations take at most, or those of a message. The time for messages ends when the
+// receiver has freed the memory of the last one.
 static double timed(const kind *of, what it) {
     static uint32_t found[MOST_THREADS][MOST_CYCLES];
     pthread_t all[MOST_THREADS];

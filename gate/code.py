@@ -1,14 +1,14 @@
-"""The code of a source in Rattle: what runs, without comments, clauses, ghost items and layout."""
+"""The code of a Rattle source: what runs, without comments, clauses, ghost items and layout."""
 
 import functools
 import hashlib
 import re
 from collections.abc import Iterator
 
-# A text or a character, either of which may hold `//` or a brace.
+# A string or a character literal, either of which may contain `//` or a brace.
 TEXT = r'"(?:\\.|[^"\\])*"|\'(?:\\.[^\'\n]*|[^\'\\\n])\''
 TEXT_OR_COMMENT = re.compile(rf"({TEXT})|//[^\n]*", re.S)
-# Text that isn't read here, so that code after it, or in it, could be left out.
+# Text that isn't parsed here, so code in it or after it could be missed.
 UNREADABLE = re.compile(r'/\*|\*/|\b[bc]?r#*"|\bmacro_rules\b')
 # A clause or a ghost item, up to its braces or its semicolon.
 CLAUSE_OR_GHOST = re.compile(
@@ -19,9 +19,9 @@ FUNCTION = re.compile(r"\bfn (\w+)")
 
 @functools.cache
 def code_of(source: str) -> str:
-    """Returns the code of a source, on the lines that it has there.
+    """Returns the code of a source, without its comments, clauses and ghost items.
 
-    A clause with a text in it stays, since its braces may be in the text.
+    A clause that contains a string is kept, since the clause's braces may be in the string.
     """
     code = TEXT_OR_COMMENT.sub(lambda found: found[1] or "", source)
     parts = []
@@ -38,7 +38,7 @@ def code_of(source: str) -> str:
 
 
 def end_of_block(code: str, start: int) -> int:
-    """Returns where the block ends whose brace is at `start`, or the item whose semicolon is."""
+    """Returns the end of the block whose brace, or of the item whose semicolon, is at `start`."""
     depth = 0
     for place in range(start, len(code)):
         depth += {"{": 1, "}": -1}.get(code[place], 0)
@@ -48,7 +48,7 @@ def end_of_block(code: str, start: int) -> int:
 
 
 def functions(code: str) -> Iterator[tuple[str, str]]:
-    """Yields the name and the body of each function; the body of one that is declared is `;`."""
+    """Yields the name and the body of each function; `;` is the body of a mere declaration."""
     for found in FUNCTION.finditer(code):
         depth = 0
         for place in range(found.end(), len(code)):
@@ -61,7 +61,7 @@ def functions(code: str) -> Iterator[tuple[str, str]]:
 def sum_of(source: str) -> str:
     """Returns a checksum of a source's code.
 
-    Blanks and line breaks don't change it, nor does a comma after the last of several lines.
+    Blanks, line breaks and trailing commas don't change it.
     """
     words = " ".join(re.findall(rf"{TEXT}|\w+|[^\w\s]", code_of(source), re.S))
     return hashlib.sha256(re.sub(r" ,(?= [)}\]])", "", words).encode()).hexdigest()[:16]

@@ -1,20 +1,22 @@
-"""The reference of public calls, and the check of what PROMISES.md says of them.
+"""The reference of public calls, and the check of what PROMISES.md says about them.
 
     tools/contracts                 each public call, in one line
-    tools/contracts NAME            what has this name: a call, a definition, or a type
+    tools/contracts NAME            everything with this name: calls, definitions and types
     tools/contracts NAME LABEL..    the same, if it has clauses or fields with these labels
-    tools/contracts LABEL           the calls and definitions that have a clause or a field so named
+    tools/contracts LABEL           the calls with a clause, and definitions with a field, so named
     tools/contracts --labels        each call and definition, with its labels or fields, sorted
-    tools/contracts --promises      checks what PROMISES.md says; the status is 1 if it is wrong
-    tools/contracts --public        the public names that stay, as docs/public.txt has them
+    tools/contracts --promises      checks what PROMISES.md says; the status is 1 if that is wrong
+    tools/contracts --public        the public names that have to stay, as in docs/public.txt
     tools/contracts --fix           writes docs/public.txt, the line counts of PROMISES.md, and the
                                     version in files
 
 A NAME is written as users write it: `PoolAllocator::allocate`, `BaseAllocator::allocate`,
-`allocate`, `run_base`, `script_kinds::run`, `bb_pool_take`, `TakesBucket`, `PoolAllocator`. Whole
-words count. Of a call you see its first sentence, the labels of its clauses, the wrong bodies that
-break one, and the tests and examples that use it, found by its name and that of its type.
-`--labels` for two checkouts and `diff` show each clause that is lost between them.
+`allocate`, `run_base`, `script_kinds::run`, `bb_pool_take`, `TakesBucket`, `PoolAllocator`. Only
+whole words match.
+
+For a call you see the first sentence of its comment, the labels of its clauses, the mutants that
+break one of them, and the tests and examples that use the call. These are found by its name and its
+type's. To see each clause that was lost between two checkouts, compare their `--labels` by `diff`.
 """
 
 import argparse
@@ -30,15 +32,15 @@ from gate.files import texts_below
 from gate.index import Call, Definition, Index, Type, labels_of
 from gate.process import Failed, say
 
-# The wrong bodies of a crate that the check has to refuse.
+# The mutants of a crate, which the check has to refuse.
 EDIT_PATH = re.compile(r"crates/\w+/must-fail/[^/]+\.edit")
-# The beginning of the head of a table's column that names what carries a promise.
+# How the heading begins of a table column that names what carries a promise.
 CALLS = re.compile(r"Carried by|Calls\b")
 NAMES_OF_A_CELL = re.compile(r"((?:(?:, )?`[\w:]+`)+)((?::(?:(?:,| and|)+ `[a-z_]+`)+)?)")
 
 
 def edits_of(texts: Mapping[str, str]) -> list[Edit]:
-    """Returns the wrong bodies of all crates that can be read, in the order of their paths."""
+    """Returns the mutants of all crates in the order of their paths, without unreadable ones."""
     found = []
     for path, text in sorted(texts.items()):
         if EDIT_PATH.fullmatch(path) is None:
@@ -51,7 +53,7 @@ def edits_of(texts: Mapping[str, str]) -> list[Edit]:
 
 
 def is_same(call: Call, other: Call) -> bool:
-    """Returns whether a contract or a body of one call is the same as that of the other."""
+    """Returns whether two calls have the same body or the same contract."""
     if call.place == other.place:
         return True
     if call.trait and other.trait:
@@ -60,7 +62,7 @@ def is_same(call: Call, other: Call) -> bool:
 
 
 def mutants_of(index: Index, call: Call, edits: Iterable[Edit]) -> Iterator[str]:
-    """Yields the wrong bodies that break a clause of a call, each with the clause's label."""
+    """Yields the mutants that break a clause of a call, each with the clause's label."""
     for edit in edits:
         promise = edit.promise
         if promise is None or promise.call.rpartition("::")[2] != call.name:
@@ -95,7 +97,7 @@ def lines_of_definition(definition: Definition) -> list[str]:
 
 
 def lines_of_type(index: Index, type: Type) -> list[str]:
-    """Returns the printed lines of a type: its kind, and its calls, each in a line."""
+    """Returns the printed lines of a type: its kind, and a line for each of its calls."""
     lines = [f"{type.item.kind} {type.item.name}  {type.place}"]
     if type.item.comment:
         lines.append(f"    {rattle.first_sentence(type.item.comment)}")
@@ -108,7 +110,7 @@ def lines_of_type(index: Index, type: Type) -> list[str]:
 
 
 def look_up(index: Index, name: str, labels: list[str]) -> list[list[str]]:
-    """Returns the printed lines of each thing that has a name and these labels."""
+    """Returns the printed lines of everything that has this name and these labels."""
     edits = edits_of(index.texts)
     found = []
     for definition in index.definitions_named(name):
@@ -123,7 +125,7 @@ def look_up(index: Index, name: str, labels: list[str]) -> list[list[str]]:
 
 
 def with_label(index: Index, label: str) -> list[list[str]]:
-    """Returns a line for each definition that has a field of this name, and each call a clause."""
+    """Returns a line for each definition with a field, and each call with a clause, so named."""
     found = [
         [f"{definition.item.name}  {definition.place}"]
         for definition in index.definitions
@@ -134,10 +136,9 @@ def with_label(index: Index, label: str) -> list[list[str]]:
 
 
 def labels(index: Index) -> list[str]:
-    """Returns a line for each call under each of its names, with its labels, sorted.
+    """Returns a sorted line for each name of each call, with the labels of the call.
 
-    Definitions that have fields get lines, too: their fields are clauses of the calls that cite
-    them.
+    Definitions with fields get lines, too: their fields are clauses of the calls that cite them.
     """
     lines = []
     for call in [*index.declared, *index.inherited]:
@@ -151,7 +152,7 @@ def labels(index: Index) -> list[str]:
 
 
 def cells_of_calls(page: str) -> Iterator[str]:
-    """Yields each cell of a table of PROMISES.md that names what carries a promise."""
+    """Yields each table cell of PROMISES.md that names what carries a promise."""
     columns: list[int] = []
     for line in page.split("\n"):
         if not line.startswith("|"):
@@ -182,9 +183,9 @@ def untrue(index: Index) -> Iterator[str]:
 
 
 def fix(top: Path) -> list[str]:
-    """Writes the texts that files repeat, and returns a line for each file that has changed.
+    """Corrects what files repeat of others, and returns a line for each file that has changed.
 
-    A further line names each thing that `docs/public.txt` no longer has.
+    There is also a line for everything that `docs/public.txt` no longer has.
     """
     texts = texts_below(top)
     right = {**versions.fixed(texts), **counts.fixed(texts), **public.fixed(Index(texts))}
@@ -200,7 +201,7 @@ def fix(top: Path) -> list[str]:
 
 
 def arguments(words: list[str]) -> argparse.Namespace:
-    """Reads the words of the command."""
+    """Parses the arguments of the command."""
     parser = argparse.ArgumentParser(
         prog="tools/contracts",
         description=__doc__,
@@ -223,7 +224,7 @@ def index_lines(index: Index) -> list[str]:
 
 
 def found_lines(index: Index, name: str, labels: list[str]) -> list[str]:
-    """Returns the printed lines of a name. Raises Failed if nothing has it."""
+    """Returns the printed lines for a name. Raises Failed if nothing has that name."""
     found = look_up(index, name, labels)
     if not found and not labels:
         found = with_label(index, name)

@@ -1,7 +1,7 @@
 """The crates of crates.txt, the files that their proofs read, and lanes to prove them in.
 
-A lane is a copy of one crate over the libraries that were built below it. `rt` locks the folders in
-which it works, so crates are proved side by side, each in a lane of its own.
+A lane is a copy of one crate, with the built libraries of the crates below it. `rt` locks the
+folders in which it works, so crates that are proved side by side each get a lane of their own.
 """
 
 import fcntl
@@ -20,13 +20,13 @@ from gate.files import files_below
 
 TOP = Path(__file__).resolve().parent.parent
 CORES = len(os.sched_getaffinity(0))
-# The folders of a crate whose files its proof reads.
+# The folders of a crate that its proof reads.
 PROOF_FOLDERS = ("src", "specs", "proofs")
 
 
 @functools.cache
 def kit() -> str:
-    """Returns the line by which the toolchain names itself."""
+    """Returns the line with which the toolchain identifies itself."""
     version = process.run(["rt", "version"], TOP)
     if not version.is_ok:
         raise RuntimeError(f"rt version: {version.text}")
@@ -35,7 +35,7 @@ def kit() -> str:
 
 @dataclass(frozen=True)
 class Crate:
-    """A crate as its line of crates.txt says: its name, and what it depends on."""
+    """A crate, as its line of crates.txt describes it: its name, and what it depends on."""
 
     name: str
     line: str
@@ -94,7 +94,7 @@ class Workspace:
     def sum_of(self, name: str) -> str:
         """Returns a checksum of everything that the proof of a crate reads.
 
-        That is the kit, and the lines and files of this crate and of those below.
+        That is the kit, the lines of crates.txt, and the files, of this crate and of those below.
         """
         found = hashlib.sha256(kit().encode())
         for each in [*self.below(name), name]:
@@ -105,18 +105,18 @@ class Workspace:
         return found.hexdigest()
 
     def lock(self) -> TextIO:
-        """Waits until no other run works in the lanes of this checkout.
+        """Waits until no other run works in the lanes of this checkout, and locks them.
 
-        The lock lasts as long as the file that is returned.
+        They stay locked as long as the returned file is open.
         """
         lock = open(self.top / "crates.txt", encoding="utf-8")
         fcntl.flock(lock, fcntl.LOCK_EX)
         return lock
 
     def lane(self, name: str, label: str = "0") -> "Workspace":
-        """Makes a lane of a crate in its out/, with the results of earlier checks of the crate.
+        """Makes a lane of a crate in its out/, with what earlier checks of the crate have kept.
 
-        Returns it as a checkout of its own, which has this crate and those below it.
+        Returns the lane as a checkout of its own, with this crate and those below it.
         """
         room = self.out(name) / f"lane{label}"
         shutil.rmtree(room, ignore_errors=True)
@@ -135,13 +135,13 @@ class Workspace:
 
 
 def keep(made: Path, target: Path, copy: Callable[[str, str], object]) -> None:
-    """Brings the results that an earlier check kept, if there are any, into a lane."""
+    """Copies into a lane what an earlier check has kept, if there is anything."""
     if made.is_dir():
         shutil.copytree(made, target, copy_function=copy)
 
 
 def link(one: str, other: str) -> None:
-    """Gives a second name to a file that `rt` replaces, and never writes into; copies any other."""
+    """Links a file that `rt` only replaces and never writes into, and copies any other."""
     if one.endswith(".oantt"):
         os.link(one, other)
     else:

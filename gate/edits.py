@@ -1,6 +1,6 @@
-"""Edits: files that hold a wrong body, which the check has to refuse.
+"""Edits: files with a wrong body that the check has to refuse.
 
-An edit is in the form of `rt must-fail`, below lines of its own:
+An edit begins with lines of its own; the others have the form of `rt must-fail`:
 
     # function: pool_allocator::bucket_pool::BucketPoolBaseAllocator::allocate
     # promise: PoolAllocator::allocate: answer
@@ -8,9 +8,9 @@ An edit is in the form of `rt must-fail`, below lines of its own:
     old: Ok(geometry.chunk(i, layout.size()))
     new: Ok(geometry.chunk(i - i, layout.size()))
 
-The second line has a call, as users write it, and the clause that the body breaks; an edit of
-`refused-by-text` has none. Each text is one line, and the old one occurs exactly once in the file.
-Further pairs apply to what the earlier ones made.
+The second line has a call, as users write it, and the label of the clause that the body breaks. An
+edit in `refused-by-text` has no such line. Each text is one line, and the file has the old text
+exactly once. Further pairs apply to the result of the earlier ones.
 """
 
 import re
@@ -24,7 +24,7 @@ NO_LABEL = "(no label)"
 
 
 class BadEdit(Exception):
-    """An edit that can't be read or applied, so it says nothing about a contract."""
+    """An edit can't be read or applied, so it shows nothing about a contract."""
 
 
 @dataclass(frozen=True)
@@ -37,7 +37,7 @@ class Promise:
 
 @dataclass(frozen=True)
 class Change:
-    """A text that a file of the crate has exactly once, and what replaces it."""
+    """A text that a file of the crate has exactly once, and the text that replaces it."""
 
     file: str
     old: str
@@ -55,12 +55,12 @@ class Edit:
 
 
 def read_edit(path: Path) -> Edit:
-    """Reads a file with an edit. Raises BadEdit if it isn't in the form of one."""
+    """Reads the file of an edit. Raises BadEdit if the file doesn't have the form of one."""
     return parse_edit(path, path.read_text(encoding="utf-8"))
 
 
 def parse_edit(path: Path, text: str) -> Edit:
-    """Reads the text of an edit, of the file at `path`. Raises BadEdit if it isn't in the form."""
+    """Reads the edit in the text of the file at `path`. Raises BadEdit if the form is wrong."""
     function = None
     promise = None
     file = None
@@ -70,7 +70,7 @@ def parse_edit(path: Path, text: str) -> Edit:
         word, _, rest = line.partition(":")
         value = rest.removeprefix(" ")
         if old is not None and word != "new":
-            raise BadEdit(f"line {number}: a line `new:` has to follow `old:`")
+            raise BadEdit(f"line {number}: `old:` has to be followed by a line `new:`")
         if word == "# function":
             function = value
         elif word == "# promise":
@@ -85,7 +85,7 @@ def parse_edit(path: Path, text: str) -> Edit:
             changes.append(Change(file, old, value))
             old = None
         elif line.strip() and not line.startswith("#"):
-            raise BadEdit(f"line {number}: isn't a line of an edit: {line}")
+            raise BadEdit(f"line {number}: not a line of an edit: {line}")
     if not function:
         raise BadEdit("a line `# function: PATH` is missing")
     if old is not None or not changes:
@@ -94,18 +94,18 @@ def parse_edit(path: Path, text: str) -> Edit:
 
 
 def parse_promise(value: str, number: int) -> Promise:
-    """Reads what follows `# promise: ` in a line."""
+    """Reads what comes after `# promise: ` in a line."""
     match = re.fullmatch(rf"([\w:]+): (\w+|{re.escape(NO_LABEL)})", value)
     if match is None:
-        raise BadEdit(f"line {number}: isn't `# promise: CALL: LABEL`: {value}")
+        raise BadEdit(f"line {number}: not of the form `# promise: CALL: LABEL`: {value}")
     return Promise(match[1], match[2])
 
 
 def apply(edit: Edit, read: Callable[[str], str]) -> dict[str, str]:
-    """Returns the texts of the files that an edit changes, by their paths in the crate.
+    """Returns the edited texts of the files that an edit changes, by their paths in the crate.
 
-    `read` returns the text of a file. Raises BadEdit if a file isn't there, or has the old text of
-    a change not exactly once.
+    `read` returns the text of a file. Raises BadEdit if a file is missing, or doesn't have the old
+    text of a change exactly once.
     """
     made: dict[str, str] = {}
     for change in edit.changes:
@@ -113,9 +113,9 @@ def apply(edit: Edit, read: Callable[[str], str]) -> dict[str, str]:
             try:
                 made[change.file] = read(change.file)
             except (KeyError, FileNotFoundError) as error:
-                raise BadEdit(f"{change.file}: isn't a file of the crate") from error
+                raise BadEdit(f"{change.file}: the crate has no such file") from error
         count = made[change.file].count(change.old)
         if count != 1:
-            raise BadEdit(f"{change.file}: has {count} times, and not once: {change.old.strip()}")
+            raise BadEdit(f"{change.file}: found {count} times, not once: {change.old.strip()}")
         made[change.file] = made[change.file].replace(change.old, change.new)
     return made

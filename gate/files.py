@@ -1,4 +1,4 @@
-"""The files of a checkout, read in one walk."""
+"""Reads the files of a checkout in one walk."""
 
 import os
 from collections.abc import Collection, Iterator
@@ -11,13 +11,13 @@ MADE = frozenset({".git", "__pycache__", ".mypy_cache", "out", "target"})
 
 
 class TreeChanged(Failed):
-    """A file or a folder that a walk has met isn't there any more, so not everything was read."""
+    """A file or a folder vanished during a walk, so not everything was read."""
 
 
 def files_below(top: Path, skipped: Collection[str] = MADE) -> Iterator[Path]:
-    """Yields the files below a folder, in order, except in folders whose own names are skipped.
+    """Yields the files below a folder, in order, except those in folders with skipped names.
 
-    Names of folders above `top` don't count, so a checkout may be below a folder named `out`.
+    The names of folders above `top` don't count, so a checkout may be below a folder named `out`.
     Raises TreeChanged if a folder vanishes during the walk.
     """
 
@@ -31,7 +31,7 @@ def files_below(top: Path, skipped: Collection[str] = MADE) -> Iterator[Path]:
 
 
 def texts_below(top: Path, skipped: Collection[str] = MADE) -> dict[str, str]:
-    """Returns the text of each file below a folder, by its path from there with `/`.
+    """Returns the text of each file below a folder, by its path from that folder, with `/`.
 
     Bytes that aren't UTF-8 are replaced. Raises TreeChanged if a file or a folder vanishes during
     the walk.

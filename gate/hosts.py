@@ -1,9 +1,11 @@
-"""Runs everything that hosts use of the library for C, FILE or one that `rt lib` proves: `.ci/run-c
-[FILE]`.
+"""Tests everything that hosts get from the library for C: `.ci/run-c [FILE]`.
 
-That is its installation, the release in dist, the examples, the Rust crate, and the programs that
-GUIDE.md and README.md show, from a copy. Once a release of the library is made, nothing may call
-`rt`. The release in dist has to have the same bytes, if the same kit and tools made it.
+FILE is the built library. Without FILE, the library is proved and built first.
+
+These are tests of its installation, of the release in dist, of the examples, of pools in files, of
+the Rust crate, and of the programs that GUIDE.md and README.md show, in a copy of the tree. Once a
+release of the library is made, nothing may call `rt`. If the same kit and tools made the release in
+dist, it has to have the same bytes.
 """
 
 import filecmp
@@ -19,12 +21,12 @@ from gate.files import MADE
 from gate.process import Failed, has, must_run, must_show, say
 from gate.temporary import temporary_folder
 
-# The program that replaces `rt` once the library is built.
-NO_RT = '#!/bin/sh\necho "rt was asked: $*" >&2\nexit 1\n'
+# The program that replaces `rt` once the release is made.
+NO_RT = '#!/bin/sh\necho "rt was called: $*" >&2\nexit 1\n'
 
 
 class Hosts:
-    """One run over a library, with a folder for its output."""
+    """One run of the tests over a library, with a folder for its output."""
 
     def __init__(self, top: Path, work: Path) -> None:
         self.top = top
@@ -34,10 +36,10 @@ class Hosts:
         self.prefix = work / "prefix"
 
     def make_release(self, library: Path | None) -> None:
-        """Makes a release of a library, or of one that is proved and built first, and of memrun."""
+        """Makes a release of memrun and a library, which is proved and built first if None."""
         given = []
         if library is not None:
-            # `make` splits a path at a blank, and the path of a checkout may have some.
+            # The path of a checkout may have blanks, at which `make` would split it.
             shutil.copy2(library, self.work / library.name)
             given = [f"LIBRARY={self.work / library.name}"]
         folders = [f"DIST={self.work / 'dist'}", f"BUILD={self.library.parent}"]
@@ -57,7 +59,7 @@ class Hosts:
             raise Failed(f"{ran.stderr}status {ran.returncode}: rt run in {folder}")
 
     def environment(self) -> dict[str, str]:
-        """Returns the environment in which `rt` fails, and tools of the user's Rust are found."""
+        """Returns an environment in which `rt` fails, and the user's Rust tools are found."""
         folder = self.work / "no_rt"
         folder.mkdir(exist_ok=True)
         (folder / "rt").write_text(NO_RT, encoding="utf-8")
@@ -66,7 +68,7 @@ class Hosts:
         return {**os.environ, "PATH": ":".join(path)}
 
     def check_installation(self, environment: Mapping[str, str]) -> None:
-        """Installs the library below the prefix, and checks what is installed and released."""
+        """Installs the library below the prefix, and checks the installation and the release."""
         must_show(
             [self.top / "crates/bb_memory_c/check", self.library, self.memrun, self.prefix],
             self.top,
@@ -74,7 +76,7 @@ class Hosts:
         )
 
     def run_examples(self, environment: Mapping[str, str]) -> None:
-        """Builds and runs the examples with the installed compilers, and under each checker."""
+        """Builds and runs the examples with each installed compiler, and under each checker."""
         make = ["make", "-s", "-C", "examples/c"]
         prefix = f"PREFIX={self.prefix}"
         words = [*make, "check", prefix, f"WORK={self.work / 'examples'}"]
@@ -94,23 +96,23 @@ class Hosts:
             must_show([self.top / "bindings/rust/check", self.prefix], self.top, environment)
 
     def compare_release(self) -> None:
-        """Compares the release in dist with the one of this library, if the same tools made both."""
+        """Compares the release in dist with this library's, if the same tools made both."""
         stored = self.top / "dist"
         made = self.work / "dist"
         if not filecmp.cmp(stored / "MADE_BY", made / "MADE_BY", shallow=False):
             kit = (stored / "MADE_BY").read_text(encoding="utf-8").partition("\n")[0]
-            say(f"dist was made by {kit} or by other tools, so its bytes can't be compared")
+            say(f"dist was made by {kit}, or with other tools, so its bytes can't be compared")
             return
         names = sorted({file.name for folder in (stored, made) for file in folder.iterdir()})
         _, differing, missing = filecmp.cmpfiles(stored, made, names, shallow=False)
         if differing or missing:
             raise Failed(
-                f"dist is of another library: {' '.join([*differing, *missing])}\n"
-                "make -C crates/bb_memory_c release"
+                f"dist has the release of another library: {' '.join([*differing, *missing])}\n"
+                "to make it again: make -C crates/bb_memory_c release"
             )
 
     def run_pages(self, environment: Mapping[str, str]) -> None:
-        """Runs the programs of GUIDE.md and README.md for C, from a fresh copy of the tree."""
+        """Runs the programs for C that GUIDE.md and README.md show, in a fresh copy of the tree."""
         if not has("pkg-config", environment):
             return
         if not has("c++", environment):
@@ -127,11 +129,11 @@ class Hosts:
             copy,
             {**environment, "HOME": str(home)},
         )
-        say("GUIDE.md, README.md: what they show for C runs from a fresh copy")
+        say("GUIDE.md, README.md: the programs for C that they show run in a fresh copy")
 
 
 def run(library: Path | None) -> None:
-    """Runs everything that hosts use of a library. Raises Failed if something fails."""
+    """Tests everything that hosts get from a library. Raises Failed if a test fails."""
     with temporary_folder() as work:
         hosts = Hosts(TOP, work)
         hosts.make_release(library)

@@ -1,13 +1,13 @@
-"""Imports: one line for each module, with sorted names, and the lines sorted by their modules.
+"""Lays out imports: a line for each module, with sorted names, and the lines sorted by module.
 
     tools/imports                  rewrites the sources of all crates
     tools/imports FILE..           rewrites these files
-    tools/imports --check [FILE..] names the files that it would rewrite; the status is 1 if any
+    tools/imports --check [FILE..] names the files that it would rewrite; if any, the status is 1
 
-This is about `ghost use` in `.rt` files, and about `use` and `pub use` in `.antt` files; `rt fmt`
-lays out the other imports. An import below a comment or an attribute stays there as it is, unless
-that is the comment at the head of the file. Imports are merged only if nothing else, not even a
-blank line, is between them.
+That applies to `ghost use` in `.rt` files, and to `use` and `pub use` in `.antt` files; `rt fmt`
+lays out the other imports. An import below a comment or an attribute stays as it is, unless that is
+the comment at the head of the file. Imports are merged only if nothing is between them, not even a
+blank line.
 """
 
 import argparse
@@ -27,7 +27,7 @@ COMMENT = re.compile(r"\s*(--|//|#\[|#!\[)")
 
 @dataclass(frozen=True)
 class Import:
-    """An import: its words before the module, the module, and its names, or None without braces."""
+    """An import: the words before the module, the module, and its names; None without braces."""
 
     source: str
     indentation: str
@@ -38,7 +38,7 @@ class Import:
 
 
 def read_import(source: str, is_rattle: bool) -> Import | None:
-    """Reads an import, which may have several lines. Returns None if it is laid out by `rt fmt`."""
+    """Reads an import of one or more lines. Returns None if `rt fmt` lays it out."""
     text = " ".join(
         line if number == 0 else line.strip() for number, line in enumerate(source.split("\n"))
     )
@@ -54,7 +54,7 @@ def read_import(source: str, is_rattle: bool) -> Import | None:
 
 
 def parts_of(text: str, is_rattle: bool) -> Iterator[str | Import]:
-    """Yields the imports of a file, and each other line, in order."""
+    """Yields the imports of a file and its other lines, in order."""
     lines = text.split("\n")
     index = 0
     while index < len(lines):
@@ -70,7 +70,7 @@ def parts_of(text: str, is_rattle: bool) -> Iterator[str | Import]:
 
 
 def merged(imports: Iterable[Import]) -> list[str]:
-    """Returns the lines of imports: one for each module and visibility, sorted, with all names."""
+    """Returns sorted lines for imports: one for each module and visibility, with all names."""
     names: dict[tuple[str, str, str, str], set[str]] = {}
     found = []
     for each in imports:
@@ -81,7 +81,7 @@ def merged(imports: Iterable[Import]) -> list[str]:
             names.setdefault(key, set()).update(each.names)
     for (module, words, indentation, end), listed in names.items():
         listing = ", ".join(sorted(listed))
-        # A brace next to an exclamation mark would be one word, which `rt fmt` separates.
+        # `rt fmt` puts a blank between a brace and an exclamation mark, which would be one word.
         braces = f"{{ {listing}}}" if listing.startswith("!") else f"{{{listing}}}"
         found.append((module, words, f"{indentation}{words} {module}.{braces}{end}"))
     return [line for _, _, line in sorted(dict.fromkeys(found))]
@@ -114,13 +114,13 @@ def laid_out(text: str, is_rattle: bool) -> str:
 
 
 def sources(top: Path) -> list[Path]:
-    """Returns the files with imports of all crates."""
+    """Returns the files of all crates that have imports."""
     files = files_below(top / "crates")
     return [file for file in files if file.suffix in (".rt", ".antt")]
 
 
 def changes(files: Iterable[Path]) -> Iterator[tuple[Path, str]]:
-    """Yields each file whose imports aren't laid out, with its text as it has to be."""
+    """Yields each file whose imports aren't laid out, with the text that it should have."""
     for file in files:
         text = file.read_text(encoding="utf-8")
         made = laid_out(text, file.suffix == ".rt")
@@ -129,7 +129,7 @@ def changes(files: Iterable[Path]) -> Iterator[tuple[Path, str]]:
 
 
 def check(files: Iterable[Path]) -> None:
-    """Raises Failed if imports of some files aren't laid out."""
+    """Raises Failed if the imports of some file aren't laid out."""
     found = [f"{file}: imports that tools/imports would lay out" for file, _ in changes(files)]
     if found:
         raise Failed("\n".join([*found, f"imports: {len(found)} files"]))

@@ -1,8 +1,8 @@
-"""The index of a checkout: its public calls by the names that users write, types and definitions.
+"""The index of a checkout: its public calls, by the names that users write, types and definitions.
 
-A call is found under each name that a user can write it by. `PoolAllocator` is another name of
+A call is found under each name that a user can write for it. `PoolAllocator` is another name for
 `BucketPool<Words<A>>`, so it has the calls of `BucketPool`. A type that implements a trait has the
-trait's calls, whose contract is the trait's.
+trait's calls, with the contracts of the trait.
 """
 
 import re
@@ -29,8 +29,8 @@ class Place:
 class Call:
     """A public call, under one of its names.
 
-    `within` has the crate and the modules of the call. `place` is the place of its body, or of the
-    impl if a trait has the body. `contract` is the place of its clauses.
+    `within` has the crate and the modules of the call. `place` is where its body is, or the impl if
+    the trait has the body. `contract` is where its clauses are.
     """
 
     owner: str
@@ -45,17 +45,17 @@ class Call:
 
     @property
     def title(self) -> str:
-        """Returns the name as a user writes it."""
+        """Returns the name of the call, as a user writes it."""
         return f"{self.owner}::{self.name}" if self.owner else self.name
 
     @property
     def labels(self) -> set[str]:
-        """Returns the labels of its clauses."""
+        """Returns the labels of the call's clauses."""
         return {clause.label for clause in self.clauses if clause.label}
 
 
 def labels_of(call: Call) -> list[str]:
-    """Returns a line for the labels of each kind of clause that a call has."""
+    """Returns a line for each kind of clause that a call has, with the labels."""
     lines = []
     for kind in ("requires", "ensures"):
         labels = [clause.label or NO_LABEL for clause in call.clauses if clause.kind == kind]
@@ -66,7 +66,7 @@ def labels_of(call: Call) -> list[str]:
 
 @dataclass(frozen=True)
 class Type:
-    """A public type, and its steps: the types that it is another name of, with parameters."""
+    """A public type, and its steps: the types for which it is another name, with parameters."""
 
     item: rattle.TypeItem
     within: tuple[str, ...]
@@ -76,7 +76,7 @@ class Type:
 
 @dataclass(frozen=True)
 class Definition:
-    """A definition; `within` has the crate and the file's modules, and the trait of a member."""
+    """A definition. `within` has its crate and modules, and for a ghost member also the trait."""
 
     item: rattle.Definition
     within: tuple[str, ...]
@@ -87,8 +87,8 @@ class Definition:
 class File:
     """A file of `src`: its path, its crate and modules, and its declarations.
 
-    `imported` has the module of `specs`, as `CRATE::FILE`, from which the file has each word of a
-    clause.
+    `imported` has, for each word that the file imports for its clauses, the module of `specs` that
+    defines the word, as `CRATE::FILE`.
     """
 
     path: str
@@ -111,7 +111,7 @@ def modules_of(path: str) -> tuple[str, ...]:
 
 
 def imported_by(text: str) -> dict[str, str]:
-    """Returns the module of `specs` of each word that a file has by `ghost use`."""
+    """Returns for each word that a file imports by `ghost use` the module of `specs`."""
     found = {}
     for crate, file, names in re.findall(r"ghost use Rattle\.(\w+)\.specs\.(\w+)\.\{(.*)\};", text):
         for name in names.split(", "):
@@ -135,20 +135,20 @@ def fits(
 
 
 def is_within(words: list[str], names: tuple[str, ...]) -> bool:
-    """Returns whether words are among some names, each after the one before."""
+    """Returns whether the words are among the names, in the same order."""
     rest = iter(names)
     return all(word in rest for word in words)
 
 
 def is_called(call: Call, before: list[str]) -> bool:
-    """Returns whether a call is within these names, the last of which is its type if it has one."""
+    """Returns whether a call is in these modules. For a method, the last name is its type's."""
     if call.owner and before:
         return before[-1] == call.owner and is_within(before[:-1], call.within)
     return is_within(before, call.within)
 
 
 def read_below(text: str) -> dict[str, set[str]]:
-    """Returns the crates that each crate of crates.txt depends on, directly or not."""
+    """Returns for each crate of crates.txt all crates on which it depends, directly or not."""
     found: dict[str, set[str]] = {}
     crates = [crate for crate in map(read_line, text.splitlines()) if crate is not None]
     direct = {crate.name: crate.dependencies for crate in crates}
@@ -164,12 +164,12 @@ def read_below(text: str) -> dict[str, set[str]]:
 
 
 def with_clause(function: rattle.Function) -> rattle.Function:
-    """Returns a method of a library's trait, whose clause the sources don't show, with one."""
+    """Returns a method of a library's trait with a clause, which the sources here don't show."""
     return replace(function, clauses=function.clauses or (rattle.Clause("ensures", "", ""),))
 
 
 class Index:
-    """The public calls, types and definitions of a checkout, whose texts are by their paths."""
+    """The public calls, types and definitions of a checkout. `texts` has its files by path."""
 
     def __init__(self, texts: Mapping[str, str]) -> None:
         self.texts = texts
@@ -205,7 +205,7 @@ class Index:
                 yield file, item
 
     def aliases(self) -> dict[str, rattle.TypeItem]:
-        """Returns the types that are other names of types."""
+        """Returns the types that are other names for types."""
         return {item.name: item for _, item in self.type_items() if item.target is not None}
 
     def type_of(
@@ -236,7 +236,7 @@ class Index:
                 yield Definition(item, (*file.within, name), Place(file.path, item.line))
 
     def call_of(self, file: File, owner: str, function: rattle.Function) -> Call:
-        """Returns a call that has its own contract."""
+        """Returns a call with a contract of its own."""
         place = Place(file.path, function.line)
         return Call(
             owner,
@@ -266,13 +266,13 @@ class Index:
                         yield self.call_of(file, block.type.name, with_clause(function))
 
     def is_of_library(self, block: rattle.Block, type: rattle.TypeName) -> bool:
-        """Returns whether a public type implements a trait of a library, by its ghost members."""
+        """Returns whether an impl with ghost members is for a library's trait and a public type."""
         if not block.trait or block.trait in self.traits or not block.ghosts:
             return False
         return any(each.item.name == type.name for each in self.types)
 
     def blocks_for(self, type: Type) -> Iterator[tuple[File, rattle.Block, bool]]:
-        """Yields the impls for a type, and whether each is for another name of it."""
+        """Yields the impls for a type, and for each whether it is for another name of the type."""
         for file in self.files:
             for block in file.source.blocks:
                 if block.type is None:
@@ -283,7 +283,7 @@ class Index:
                         yield file, block, number > 0
 
     def read_inherited(self, type: Type) -> Iterator[Call]:
-        """Yields the calls that a type has by another name of it or by a trait."""
+        """Yields the calls that a type has because of a trait or of another name."""
         owner = type.item.name
         for file, block, is_by_alias in self.blocks_for(type):
             if block.trait in self.traits:
@@ -294,7 +294,7 @@ class Index:
                         yield self.call_of(file, owner, function)
 
     def read_implemented(self, owner: str, file: File, block: rattle.Block) -> Iterator[Call]:
-        """Yields the calls of the trait that an impl is for, whose contract is the trait's."""
+        """Yields the calls that an impl of a trait has, with the contracts of the trait."""
         source, trait = self.traits[block.trait]
         written = {function.name: function for function in block.functions}
         for function in trait.functions:
@@ -311,8 +311,8 @@ class Index:
     def calls(self, words: str) -> list[Call]:
         """Returns the calls of a name: `CALL`, `TYPE::CALL`, `MODULE::CALL` or `CRATE::TYPE::CALL`.
 
-        Those that inherit their contract are left out if others of this name have their own. A
-        crate may also be named that passes on the modules of those that it depends on.
+        If some calls of this name have a contract of their own, those that inherit one are left
+        out. The crate may also be one that passes on the modules of crates on which it depends.
         """
         *before, name = words.split("::")
         for calls in (self.declared, self.inherited):
@@ -330,14 +330,14 @@ class Index:
         return [call for call in calls if call.owner == type.item.name]
 
     def types_named(self, words: str) -> list[Type]:
-        """Returns the public types of a name."""
+        """Returns the public types of this name."""
         *before, name = words.split("::")
         return [
             type for type in self.types if type.item.name == name and is_within(before, type.within)
         ]
 
     def definitions_named(self, words: str) -> list[Definition]:
-        """Returns the definitions of a name: `NAME`, or `FILE::NAME`."""
+        """Returns the definitions of this name: `NAME`, or `FILE::NAME`."""
         *before, name = words.split("::")
         return [
             definition
@@ -346,7 +346,7 @@ class Index:
         ]
 
     def is_labelled(self, words: str, labels: list[str]) -> bool:
-        """Returns whether a call or a definition of this name has all of these labels or fields."""
+        """Returns whether a call has all of these labels, or a definition all of these fields."""
         if any(call.labels.issuperset(labels) for call in self.calls(words)):
             return True
         definitions = self.definitions_named(words)
@@ -355,10 +355,10 @@ class Index:
         return not labels and bool(self.types_named(words))
 
     def has_promise(self, words: str, label: str) -> bool:
-        """Returns whether a call of this name has a clause that a label names.
+        """Returns whether a call of this name has a clause for which a label stands.
 
-        The label is the clause's own. A clause without one has the name of a proposition that it
-        cites, or of a field of that proposition.
+        That is the clause's own label. For a clause without one it is the name of a proposition
+        that the clause cites, or of a field of that proposition.
         """
         return any(label in self.names_of_clauses(call) for call in self.calls(words))
 

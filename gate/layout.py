@@ -1,8 +1,8 @@
-"""Layout and faults that tools find, in C, C++, Rust, Python and shell.
+"""Checks layout, and finds faults, by tools for C, C++, Rust, Python and shell.
 
-`rt ci` checks the layout of the files of Rattle. A tool that isn't installed is skipped, and a line
-says so. So is a formatter whose version isn't the one by which the files are laid out, since
-versions differ in their output.
+`rt ci` checks the layout of Rattle files. A tool that isn't installed is skipped, and a line says
+so. A formatter of another version than the one that laid out the files is skipped, too, since the
+output depends on the version.
 """
 
 import os
@@ -18,9 +18,9 @@ from gate.files import MADE, files_below
 from gate.process import Failed, has, say
 from gate.temporary import temporary_folder
 
-# The Debian package of each tool has the tool's name.
+# The Debian packages of the tools, which have the tools' names.
 PACKAGES = ("clang-format", "black", "mypy", "shellcheck")
-# The versions whose layout the files have, as the tools print them.
+# The versions that laid out the files, as the tools print them.
 LAYOUT_OF = {"clang-format": r"\b14\.", "black": r"\b23\."}
 C_ENDINGS = {".c", ".h", ".cpp", ".hpp"}
 # How the first line of a script names its language.
@@ -30,7 +30,7 @@ SHELL = re.compile(r"#!.*\b(?:ba)?sh$")
 
 @dataclass(frozen=True)
 class Sources:
-    """The files of a checkout by their language."""
+    """The files of a checkout, by language."""
 
     c: Sequence[Path]
     python: Sequence[Path]
@@ -39,7 +39,7 @@ class Sources:
 
 @dataclass(frozen=True)
 class Check:
-    """A tool's command, and the folder in which it is run."""
+    """The command of a tool, and the folder in which it runs."""
 
     tool: str
     words: Sequence[str | Path]
@@ -47,14 +47,14 @@ class Check:
 
 
 def first_line(file: Path) -> str:
-    """Returns the first line of a file that is a script, and an empty text for any other."""
+    """Returns the first line of a script, and an empty text for any other file."""
     with file.open("rb") as opened:
         line = opened.readline(200)
     return line.decode(errors="replace").rstrip("\n") if line.startswith(b"#!") else ""
 
 
 def find_sources(top: Path) -> Sources:
-    """Returns the files of a checkout by their language."""
+    """Returns the files of a checkout, by language."""
     c = []
     python = []
     shell = []
@@ -69,7 +69,7 @@ def find_sources(top: Path) -> Sources:
 
 
 def checks(top: Path) -> list[Check]:
-    """Returns the checks of a checkout: those of each language of which it has files."""
+    """Returns the checks of a checkout, for each language of which it has files."""
     sources = find_sources(top)
     found = []
     if sources.c:
@@ -90,18 +90,18 @@ def checks(top: Path) -> list[Check]:
 
 
 def is_layout_of(tool: str, environment: Mapping[str, str]) -> bool:
-    """Returns whether a tool has the version by which files are laid out. A line says if not."""
+    """Returns whether a tool has the version that laid out the files. If not, prints a line."""
     if tool not in LAYOUT_OF:
         return True
     version = process.run([tool, "--version"], TOP, environment).text.partition("\n")[0]
     if re.search(LAYOUT_OF[tool], version) is None:
-        say(f"{tool}: {version} lays files out in another way, skipped")
+        say(f"{tool}: {version} lays out files in another way, skipped")
         return False
     return True
 
 
 def findings(check: Check, environment: Mapping[str, str]) -> str | None:
-    """Returns the findings of a tool, or None if it finds nothing or can't be run."""
+    """Returns the findings of a tool, or None if it finds nothing or can't run."""
     if not has(check.tool, environment) or not is_layout_of(check.tool, environment):
         return None
     ran = process.run(check.words, check.folder, environment)
@@ -111,14 +111,14 @@ def findings(check: Check, environment: Mapping[str, str]) -> str | None:
 
 
 def install() -> None:
-    """Installs the tools that are missing, if this is root on a machine with apt-get.
+    """Installs the missing tools, if run by root on a machine with apt-get.
 
     A tool that can't be installed is skipped later.
     """
     missing = [tool for tool in PACKAGES if shutil.which(tool) is None]
     if not missing or os.geteuid() != 0 or shutil.which("apt-get") is None:
         return
-    say(f"layout: installs {' '.join(missing)}")
+    say(f"layout: installing {' '.join(missing)}")
     quick = ["-o", "Acquire::Retries=0", "-o", "Acquire::http::Timeout=10"]
     words = ["apt-get", "install", "-y", "-q", *quick, *missing]
     environment = {**os.environ, "DEBIAN_FRONTEND": "noninteractive"}
@@ -128,7 +128,7 @@ def install() -> None:
 
 
 def run(top: Path) -> None:
-    """Runs each check of a checkout. Raises Failed, with all findings, if there are any."""
+    """Runs each check of a checkout. If there are findings, raises Failed with all of them."""
     with temporary_folder() as work:
         path = f"{os.environ['PATH']}:{Path.home() / '.cargo/bin'}"
         environment = {**os.environ, "PATH": path, "CARGO_TARGET_DIR": str(work)}

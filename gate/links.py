@@ -1,4 +1,4 @@
-"""Links: of pages to files and headings, and of comments to modules, types and calls."""
+"""Checks links: from pages to files and headings, and from comments to modules, types and calls."""
 
 import posixpath
 import re
@@ -11,7 +11,7 @@ DOC_LINK = re.compile(r"\[`([^`\]]+)`\](?:\(([^()]*)\))?")
 
 
 def without_code(page: str) -> str:
-    """Returns a page without its blocks of code."""
+    """Returns a page without its code blocks."""
     return re.sub(r"^```.*?^```$|^ {4}[^\n]*$", "", page, flags=re.M | re.S)
 
 
@@ -25,7 +25,7 @@ def anchors_of(page: str) -> set[str]:
 
 
 def dead_links(texts: Mapping[str, str]) -> Iterator[str]:
-    """Yields each link of a page to a file or a heading that isn't there."""
+    """Yields each link of a page to a missing file or heading."""
     folders = {posixpath.dirname(path) for path in texts}
     for page, text in sorted(texts.items()):
         if not page.endswith(".md"):
@@ -38,9 +38,9 @@ def dead_links(texts: Mapping[str, str]) -> Iterator[str]:
             if not path:
                 file = page
             if file not in texts and file not in folders:
-                yield f"{page}: a link to a file that isn't there: {target}"
+                yield f"{page}: a link to a missing file: {target}"
             elif anchor and anchor not in anchors_of(texts.get(file, "")):
-                yield f"{page}: a link to a heading that isn't there: {target}"
+                yield f"{page}: a link to a missing heading: {target}"
 
 
 def without_comments(source: str) -> str:
@@ -61,7 +61,7 @@ class DocLinks:
         self.files = {modules_of(name): text for name, text in self.sources.items()}
 
     def dead(self) -> Iterator[str]:
-        """Yields each link of a doc comment to an item that isn't there."""
+        """Yields each link of a doc comment to a missing item."""
         for path, text in sorted(self.sources.items()):
             for number, line in enumerate(text.split("\n"), 1):
                 if re.match(r"\s*//[/!]", line) is None:
@@ -69,7 +69,7 @@ class DocLinks:
                 for name, target in DOC_LINK.findall(line):
                     to = target or name
                     if not self.leads(modules_of(path), to):
-                        yield f"crates/{path}:{number}: a link to what isn't there: {to}"
+                        yield f"crates/{path}:{number}: a link to a missing item: {to}"
 
     def leads(self, here: tuple[str, ...], target: str) -> bool:
         """Returns whether a link in a file leads to an item."""
@@ -85,7 +85,7 @@ class DocLinks:
         return self.is_in(here, words)
 
     def is_in(self, module: tuple[str, ...], words: list[str]) -> bool:
-        """Returns whether a module has an item: a module, a type, or a call or a variant of one."""
+        """Returns whether a module has an item: a module, a type, a call or a variant."""
         if not words:
             return module in self.files
         if (*module, words[0]) in self.files:

@@ -1,9 +1,9 @@
-"""Runs the proved build of memrun, and reads both of its streams.
+"""Tests the proved build of memrun by its output, its standard error and its exit status.
 
 `.ci/run-memrun` runs it on its stored script, on the worked scripts of docs/script-format.md, on
-scripts of each exit status, and on scripts of thousands of lines. The pictures of the pages are
-those of their script. `.ci/run-memrun REFUSE.SO` runs it with each request for memory failing in
-turn (.ci/refuse.c); nothing is written then.
+scripts for each exit status, and on scripts of thousands of lines. It also compares the pictures in
+the pages with their script. `.ci/run-memrun REFUSE.SO` lets each request for memory fail in turn
+(.ci/refuse.c); memrun then writes no output.
 """
 
 import os
@@ -24,9 +24,9 @@ OK = 0
 REFUSED = 2
 IO_FAILED = 3
 OUT_OF_MEMORY = 4
-# The exit status that .ci/refuse.c gives a program of which no request failed.
+# The exit status that .ci/refuse.c gives a program if none of its requests failed.
 NONE_REFUSED = 99
-# No script of these makes this many requests for memory.
+# None of the scripts makes this many requests for memory.
 MOST_REQUESTS = 1000
 
 
@@ -34,8 +34,8 @@ MOST_REQUESTS = 1000
 class Script:
     """A script, and the lines that memrun has to write for it.
 
-    In the lines P, Q, P0, P1, .. are names of different places, those of buckets that the script's
-    first line makes: any free bucket may be given.
+    In these lines, P, Q, P0, P1, .. are names of different places: those of buckets of the pool
+    that the script's first line makes. A request may get any free bucket.
     """
 
     text: str
@@ -45,7 +45,7 @@ class Script:
 
 @dataclass(frozen=True)
 class Ended:
-    """How memrun has ended: its exit status and its two streams."""
+    """The end of a run of memrun: its exit status, its output and its standard error."""
 
     status: int
     output: str
@@ -54,7 +54,7 @@ class Ended:
 
 @dataclass(frozen=True)
 class Setting:
-    """The setting of a run: a file instead of a script or of its output, and the environment."""
+    """The setting of a run: files instead of the script and of the output, and the environment."""
 
     input_file: Path | None = None
     output_file: Path | None = None
@@ -62,7 +62,7 @@ class Setting:
 
 
 def run(text: str, setting: Setting = Setting()) -> Ended:
-    """Runs memrun on the text of a script. It ignores its arguments."""
+    """Runs memrun on the text of a script, and with an argument, which it has to ignore."""
     with ExitStack() as files:
         ran = subprocess.Popen(
             [MEMRUN, "--help"],
@@ -77,7 +77,7 @@ def run(text: str, setting: Setting = Setting()) -> Ended:
 
 
 def stream(file: Path | None, how: int, files: ExitStack) -> int:
-    """Opens a file for a stream of memrun, or returns a pipe if there is none."""
+    """Opens a file for a stream of memrun. Returns a pipe if there is no file."""
     if file is None:
         return subprocess.PIPE
     opened = os.open(file, how)
@@ -100,9 +100,9 @@ def places(text: str) -> set[str]:
 
 
 def are_as_wanted(lines: Sequence[str], wanted: Sequence[str], allowed: set[str]) -> bool:
-    """Returns whether lines are as wanted, with places for the names P, Q, P0, P1, ..
+    """Returns whether lines are as wanted, with places instead of the names P, Q, P0, P1, ..
 
-    Each name has one place, no two have the same, and each place is allowed.
+    Each name stands for one place, different names for different places, and each place is allowed.
     """
     place_of = {}
     for line, other in zip(lines, wanted):
@@ -115,28 +115,28 @@ def are_as_wanted(lines: Sequence[str], wanted: Sequence[str], allowed: set[str]
 
 
 def must_end(script: Script, ended: Ended, errors: str = "") -> None:
-    """Raises Failed if a run has ended in another way than its script wants.
+    """Raises Failed unless a run has ended as its script wants.
 
-    Each line that is written ends with a line feed.
+    Each line of the output has to end with a line feed.
     """
     is_status = ended.status == script.status and ended.errors == errors
     lines = ended.output.split("\n")
     if not is_status or not are_as_wanted(lines, [*script.lines, ""], places(script.text)):
         raise Failed(
-            f"memrun: status {ended.status} in place of {script.status}, or other lines: "
+            f"memrun: status {ended.status}, not {script.status}, or wrong lines: "
             f"{script.text[:200]}\n{ended.output[-600:]}{ended.errors}"
         )
 
 
 def stored() -> Script:
-    """Returns the script that memrun's crate has, with its lines."""
+    """Returns the script that is stored in memrun's crate, with its output."""
     folder = TOP / "crates/memrun"
     lines = (folder / "stdout").read_text(encoding="utf-8").splitlines()
     return Script((folder / "stdin").read_text(encoding="utf-8"), lines)
 
 
 def worked() -> list[Script]:
-    """Returns the worked scripts of docs/script-format.md, with the lines beside them."""
+    """Returns the worked scripts of docs/script-format.md, with the output beside their lines."""
     page = (TOP / "docs/script-format.md").read_text(encoding="utf-8")
     part = page.partition("## One script of each kind\n")[2].partition("\n## ")[0]
     return [worked_script(block) for block in re.findall(r"(?:^    .*\n)+", part, re.M)]
@@ -152,7 +152,7 @@ def worked_script(block: str) -> Script:
     for row in block.splitlines():
         match = re.fullmatch(r"    (.*?)(?:(?:^|  ) *(\S.*))?", row)
         if match is None:
-            raise Failed(f"docs/script-format.md: isn't a line of a script: {row}")
+            raise Failed(f"docs/script-format.md: not a line of a script: {row}")
         if match[1].strip():
             commands.append(match[1].strip())
         if match[2]:
@@ -161,7 +161,7 @@ def worked_script(block: str) -> Script:
 
 
 def numbered(count: int, size: int) -> list[str]:
-    """Returns the lines of requests that all get a bucket of their own."""
+    """Returns the lines for requests that each get a bucket of their own."""
     return [f"chunk P{number} {size}" for number in range(count)]
 
 
@@ -169,7 +169,7 @@ def numbered(count: int, size: int) -> list[str]:
 LARGE_POOL = " 4096 5242880000 1048576 4096\n"
 
 POOLS = [
-    # Any bucket may be given that isn't held.
+    # A request may get any bucket that isn't held.
     # row: pool-eight-buckets, pool-passed-commands, pool-refusal-order
     Script(
         "pool 4096 1024 128 8\nalloc 129 8\nalloc 129 16\nalloc 48 16\n"
@@ -218,7 +218,7 @@ LONG = [
         f"bump 4096 {2**40}\n" + 5000 * "alloc 1048576 1048576\n" + "free 4999\n",
         [*[f"chunk {number * 2**20} 1048576" for number in range(1, 5001)], "released"],
     ),
-    # Each bucket is given once, and a further request is refused.
+    # Each bucket is allocated once, and one more request is refused.
     Script(
         "pool" + LARGE_POOL + 5000 * "alloc 1048576 4096\n" + "alloc 0 1\nfree 0\n",
         [*numbered(5000, 1048576), "OutOfMemory", "released"],
@@ -227,7 +227,7 @@ LONG = [
         "fixed" + LARGE_POOL + FIXED_BUCKETS * "alloc 1048576 4096\n" + "alloc 0 1\nfree 0\n",
         [*numbered(FIXED_BUCKETS, 1048576), "OutOfMemory", "released"],
     ),
-    # The bucket that comes back is the only free one.
+    # The bucket that is freed is then the only free one.
     Script(
         "loan-pool"
         + LARGE_POOL
@@ -248,8 +248,8 @@ LONG = [
     ),
 ]
 
-# Scripts that take memory, with the lines that are written if all requests succeed. The loan book
-# grows several times.
+# Scripts that take memory, with the output if all requests succeed. The loan book grows several
+# times.
 MEMORY = [
     Script(
         "bump 4096 8\nalloc 4 1\nshow\nfree 0\n",
@@ -284,7 +284,7 @@ MEMORY = [
 
 
 def run_scripts() -> None:
-    """Runs memrun on the scripts of each status, and with an input and an output that fail."""
+    """Runs memrun on all scripts, and with an input and an output that fail."""
     count = 0
     for script in [stored(), *worked(), *STATUSES, *POOLS, *LONG]:
         must_end(script, run(script.text))
@@ -297,19 +297,19 @@ def run_scripts() -> None:
         must_end(Script(text, [], IO_FAILED), ended, "memrun: output failed\n")
         count += 1
     picture.check_pages()
-    say(f"{count} scripts of memrun, of statuses 0, 2 and 3, with both streams as they have to be")
+    say(f"{count} scripts of memrun, with statuses 0, 2 and 3: both streams are right")
 
 
 def run_out_of_memory(library: Path) -> None:
-    """Runs memrun with each request for memory failing, one in each run, by a library."""
+    """Runs memrun with a library that makes its requests for memory fail, one in each run."""
     count = 0
     for script in [*MEMORY, *POOLS, stored(), *worked()]:
         count += refuse_in_turn(script, library)
-    say(f"{count} runs of memrun, each with a request for memory refused")
+    say(f"{count} runs of memrun, in each of which a request for memory failed")
 
 
 def refuse_in_turn(script: Script, library: Path) -> int:
-    """Runs a script with its first request failing, then its second, until none is left.
+    """Runs a script with its first request for memory failing, then its second, until none is left.
 
     At least one request has to fail. Returns the number of runs.
     """

@@ -1,12 +1,13 @@
 """Judges the mutants of all crates, or of some: `.ci/mutants [NAME..]`.
 
 A mutant is a wrong body, made by an edit in crates/NAME/must-fail (gate/edits.py has the form). The
-edits go in rounds into lanes, largest first, and `rt check --only` proves the edited functions
-there. Each function takes its callees by their contracts. So an edit counts as refused only if a
-goal of its own function stays open: a goal of another one shows nothing of the contract.
+edits are checked in rounds, the largest round first. Each round has a lane, in which
+`rt check --only` proves the edited functions. The proof of a function uses only the contracts of
+its callees. So an edit counts as refused only if a goal of its own function stays open: a goal of
+another function shows nothing about the contract.
 
-An edit that can't be read or applied, or whose text is no program, is a BAD EDIT. It is reported by
-itself, and the others of its round are judged.
+An edit that can't be read or applied, or whose text isn't a program, is a BAD EDIT. It is reported,
+and the other edits of its round are judged.
 """
 
 import shutil
@@ -23,7 +24,7 @@ from gate.process import Failed, Finished, say
 
 
 class Outcome(Enum):
-    """A check's verdict on an edit. Only the first passes the gate."""
+    """The verdict on an edit. Only the first one passes the gate."""
 
     REFUSED = "refused"
     NOT_REFUSED = "NOT REFUSED"
@@ -33,7 +34,7 @@ class Outcome(Enum):
 
 @dataclass(frozen=True)
 class Judgement:
-    """An edit's file with the outcome, and the reason."""
+    """The file of an edit, with the outcome and the reason."""
 
     path: Path
     outcome: Outcome
@@ -42,9 +43,9 @@ class Judgement:
 
 @dataclass
 class Round:
-    """Edits of one crate that are checked together: each of another function.
+    """Edits of one crate, each of a different function, that are checked together.
 
-    `texts` are the files of the crate that they change, with all of their changes.
+    `texts` has the files of the crate that the edits change, with all changes made.
     """
 
     crate: str
@@ -53,7 +54,7 @@ class Round:
     texts: dict[str, str] = field(default_factory=dict)
 
     def add(self, edit: Edit) -> None:
-        """Adds an edit. Raises BadEdit if it can't be applied after the others."""
+        """Adds an edit. Raises BadEdit if it can't be applied after those before."""
 
         def read(file: str) -> str:
             return self.texts[file] if file in self.texts else self.read(file)
@@ -72,13 +73,13 @@ class Round:
         return True
 
 
-# Checks the functions of a round in a lane that has its texts.
+# A check of the functions of a round, in a lane that has its texts.
 Check = Callable[[Round], Finished]
 
 
 @dataclass
 class Rounds:
-    """The rounds of a crate's edits, and the edits that are bad in themselves."""
+    """The rounds of a crate's edits, and the edits that can't be read or applied."""
 
     rounds: list[Round]
     bad: list[Judgement]
@@ -87,7 +88,7 @@ class Rounds:
 def rounds_of(workspace: Workspace, crate: str) -> Rounds:
     """Reads the edits of a crate and splits them into rounds.
 
-    An edit of several changes may change a type, so its round has no other.
+    An edit with several changes may change a type, so it has a round of its own.
     """
     folder = workspace.folder(crate)
 
@@ -119,8 +120,8 @@ def rounds_of(workspace: Workspace, crate: str) -> Rounds:
 def judge(round_: Round, check: Check) -> list[Judgement]:
     """Judges each edit of a round.
 
-    If an edit has no verdict, because a text of the round isn't a program, each edit without an
-    open goal is checked once more by itself.
+    There is no verdict on some edits if a text of the round isn't a program. Then each edit without
+    an open goal is checked once more by itself.
     """
     said = check(round_)
     found = []
@@ -147,7 +148,7 @@ def judgement(edit: Edit, outcome: Outcome, reason: str) -> Judgement:
 
 
 def without_verdict(edit: Edit, said: Finished) -> Judgement:
-    """Judges an edit by itself, if a check has no verdict on its function."""
+    """Judges an edit that was checked by itself and got no verdict."""
     errors = rt_output.compile_errors(said.text)
     if errors:
         return judgement(edit, Outcome.BAD_EDIT, errors[0])
@@ -155,7 +156,7 @@ def without_verdict(edit: Edit, said: Finished) -> Judgement:
 
 
 def check_in_lane(workspace: Workspace, label: str) -> Check:
-    """Returns a check of rounds in lanes of a checkout that have a label."""
+    """Returns a check that runs in lanes of a checkout with this label."""
 
     def check(round_: Round) -> Finished:
         lane = workspace.lane(round_.crate, label)
@@ -178,7 +179,7 @@ def report(judgements: Iterable[Judgement], top: Path) -> None:
 
 
 def judge_crates(workspace: Workspace, names: Sequence[str]) -> list[Judgement]:
-    """Judges the edits of some crates, the largest rounds first, and prints what it finds."""
+    """Judges the edits of some crates, the largest rounds first, and prints the judgements."""
     found: list[Judgement] = []
     tasks: list[tuple[Round, Check]] = []
     for name in names:
@@ -201,7 +202,7 @@ def judge_crates(workspace: Workspace, names: Sequence[str]) -> list[Judgement]:
 
 
 def main(names: list[str]) -> None:
-    """Runs `.ci/mutants NAME..`. Raises Failed if an edit isn't refused, or if there is none."""
+    """Runs `.ci/mutants [NAME..]`. Raises Failed if an edit isn't refused, or if there is none."""
     workspace = Workspace(TOP)
     for name in names:
         if name not in workspace.crates:
@@ -215,6 +216,6 @@ def main(names: list[str]) -> None:
             counts.append(f"{count} {outcome.value}")
     say(", ".join(counts))
     if not found:
-        raise Failed("mutants: these crates have no edit")
+        raise Failed("mutants: these crates have no edits")
     if any(each.outcome is not Outcome.REFUSED for each in found):
-        raise Failed("mutants: not all are refused")
+        raise Failed("mutants: not all of them are refused")

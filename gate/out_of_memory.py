@@ -1,10 +1,11 @@
-"""OOM tests: runs each test of a module out_of_memory with its requests for memory failing.
+"""Runs the OOM tests: each test of a module out_of_memory, with its requests for memory failing.
 
-First the first request fails (.ci/refuse.c), then the second, and so on, until none is left. Tests
-of a module after_making are run once more, with each request failing that comes after the making of
-values. Then memrun is run in the same way.
+In the first run only the first request fails (.ci/refuse.c), in the next one only the second, and
+so on. A test of a module after_making also runs once with every request failing that comes after
+the making of its values. Then memrun runs with its requests failing, one in each run.
 
-The tests are proved builds: `rt test` leaves them, or `rt ci` in a copy, `.ci/out-of-memory COPY`.
+The tests are proved builds, which `rt test` leaves in the checkout. `.ci/out-of-memory COPY` runs
+those that `rt ci` has built in a copy.
 """
 
 import os
@@ -18,8 +19,8 @@ from gate.crates import TOP, Workspace
 from gate.process import Failed, Finished, must_run, say
 from gate.temporary import temporary_folder
 
-# The exit statuses that .ci/refuse.c gives a program that succeeded: if the request that was to
-# fail never came, and if the program met the two marks.
+# The exit statuses that .ci/refuse.c gives a program that succeeded: if the request that had to
+# fail never came, and if the program requested the first two marks.
 NONE_REFUSED = 99
 MET_MARKS = 98
 # No test makes this many requests.
@@ -28,13 +29,13 @@ MOST_REQUESTS = 1000
 
 @dataclass(frozen=True)
 class OomTest:
-    """A test with the program that has it."""
+    """A test, and the program that contains it."""
 
     program: Path
     name: str
 
     def run(self, library: Path, variables: Mapping[str, str]) -> Finished:
-        """Runs the test with failing requests, as the variables say."""
+        """Runs the test, with the requests failing that the variables name."""
         environment = {**os.environ, **variables, "LD_PRELOAD": str(library)}
         return process.run([self.program, self.name], self.program.parent, environment)
 
@@ -45,7 +46,7 @@ class OomTest:
 
 
 def build_library(top: Path, folder: Path) -> Path:
-    """Builds the library that makes requests fail, in a folder."""
+    """Builds, in a folder, the library that makes requests fail."""
     library = folder / "refuse.so"
     must_run(["cc", "-O1", "-fPIC", "-shared", "-o", library, ".ci/refuse.c"], top)
     return library
@@ -61,16 +62,16 @@ def has_oom_tests(workspace: Workspace, name: str) -> bool:
 
 
 def tests_of(program: Path) -> list[OomTest]:
-    """Returns the OOM tests of a program. Raises Failed if it has none."""
+    """Returns the OOM tests in a program. Raises Failed if there are none."""
     listed = must_run([program, "--list"], program.parent)
     names = re.findall(r"^(.*\bout_of_memory::.*): test$", listed, re.M)
     if not names:
-        raise Failed(f"{program.name}: no OOM test")
+        raise Failed(f"{program.name}: has no OOM tests")
     return [OomTest(program, name) for name in names]
 
 
 def refuse_in_turn(test: OomTest, library: Path) -> None:
-    """Runs a test with each of its requests failing, one in each run.
+    """Runs a test once for each of its requests, which fails then.
 
     Raises Failed if the test fails.
     """
@@ -79,22 +80,22 @@ def refuse_in_turn(test: OomTest, library: Path) -> None:
         if said.status == NONE_REFUSED:
             return
         if said.status != 0:
-            raise Failed(f"{said.text}\n{test.name}: failed with request {at} refused")
+            raise Failed(f"{said.text}\n{test.name}: failed when its request {at} failed")
     raise Failed(f"{test.name}: makes more than {MOST_REQUESTS} requests")
 
 
 def refuse_after_making(test: OomTest, library: Path) -> None:
-    """Runs a test with all requests failing after the making of values.
+    """Runs a test with all requests failing that come after the making of its values.
 
     Raises Failed if the test fails.
     """
     said = test.run(library, {"REFUSE_MARKED": "1"})
     if said.status != MET_MARKS:
-        raise Failed(f"{said.text}\n{test.name}: failed with memory refused after the making")
+        raise Failed(f"{said.text}\n{test.name}: failed without memory after the making of values")
 
 
 def run_tests(workspace: Workspace, built: Path, library: Path) -> int:
-    """Runs the OOM tests of each crate that has some, as built in a checkout. Returns how many."""
+    """Runs the OOM tests of all crates that were built in a checkout. Returns their number."""
     count = 0
     for name in workspace.crates:
         if not has_oom_tests(workspace, name):
@@ -108,7 +109,7 @@ def run_tests(workspace: Workspace, built: Path, library: Path) -> int:
 
 
 def run(top: Path, built: Path) -> None:
-    """Runs all OOM tests of a checkout, and memrun, whose tests are built in another one.
+    """Runs all OOM tests of a checkout, whose programs are in the checkout `built`, and memrun.
 
     Raises Failed if a test fails, or if there is none.
     """
@@ -116,8 +117,8 @@ def run(top: Path, built: Path) -> None:
         library = build_library(top, work)
         count = run_tests(Workspace(top), built, library)
         if count == 0:
-            raise Failed("no OOM test")
-        say(f"{count} OOM tests held, with each of their requests for memory refused")
+            raise Failed("there are no OOM tests")
+        say(f"{count} OOM tests passed, with each of their requests for memory failing once")
         memrun.run_out_of_memory(library)
 
 

@@ -1,13 +1,17 @@
-"""Keeps pages and comments true.
+"""Checks that pages and comments are true.
 
-    .ci/pages            prints each thing that isn't so; the status is 1 if there is any
-    .ci/pages --hosts    prints a script of what GUIDE.md and README.md show from C
+    .ci/pages            prints everything that is wrong; if there is anything, the status is 1
+    .ci/pages --hosts    prints a script with the programs in C of GUIDE.md and README.md
 
-Each example of README.md and GUIDE.md is in that script, or in a file that is proved or that tests
-run. What pages and comments name is there, and so is what they link to. PROMISES.md and the edits
-name calls with labels of their clauses. Numbers that a page repeats are right. Pages and comments
-that users read are free of the words in `gate/wording.py`. No text is new by which a call of what
-threads share could wait, and the files that a person has to read are as they were read.
+It checks that
+
+- each example of README.md and GUIDE.md is in that script, or in a file that is proved or tested,
+- what pages and comments name or link to exists,
+- the calls and labels of clauses that PROMISES.md and the edits name exist,
+- the numbers that pages repeat are right,
+- pages, and comments that users read, have none of the words in `gate/wording.py`,
+- what threads share has no new text by which a call could wait (`gate/places.py`),
+- the files that a person has to read are as they were read (`gate/readings.py`).
 """
 
 import re
@@ -24,27 +28,27 @@ from gate.index import Index
 from gate.links import without_code
 from gate.process import Failed, say
 
-# The pages whose examples are in files that are proved or run: page, language, and the files.
+# The pages with examples that are proved or run: the page, the language, and files with them.
 TESTED = (
     ("README.md", "rust", "crates/examples/src/*.rt"),
     ("GUIDE.md", "rust", "crates/examples/src/*.rt"),
 )
-# The pages whose texts of C and shell are run in order, each from the top of a fresh copy.
+# The pages whose programs and shell commands are run in order, each page in a fresh copy.
 HOSTS = ("GUIDE.md", "README.md")
-# Words with which no comment begins: the files, the mark of a comment, and the words.
+# Words with which no comment may begin: the files, the mark of a comment, and the words.
 FIRST_WORDS = (
     ("crates/*/src/*.rt", "//[/!]", "What|Whether"),
     ("crates/*/specs/*.antt", "--", "it|they|that|this"),
 )
-# The most columns of a commit's subject, which `git log --oneline` shows.
+# The most columns that a commit's subject may have.
 SUBJECT = 72
-# How often the tree is read again if it changes meanwhile.
+# How often the tree is read if it changes meanwhile.
 ATTEMPTS = 3
 
 
 @dataclass(frozen=True)
 class Tree:
-    """A checkout: its texts by their paths, the words of those that aren't pages, and its index."""
+    """A checkout: its texts by path, the words of those that aren't pages, and its index."""
 
     top: Path
     texts: Mapping[str, str]
@@ -52,18 +56,19 @@ class Tree:
     index: Index
 
     def named(self, pattern: str) -> list[str]:
-        """Returns the paths that a pattern fits, in order."""
+        """Returns the paths that match a pattern, sorted."""
         return sorted(matching(self.texts, pattern))
 
     def joined(self, pattern: str) -> str:
-        """Returns the texts of the files that a pattern fits, as one."""
+        """Returns the joined texts of the files whose paths match a pattern."""
         return "\n".join(self.texts[path] for path in self.named(pattern))
 
 
 def read_texts(top: Path, read: Callable[[Path], dict[str, str]] = texts_below) -> dict[str, str]:
-    """Returns the texts of a checkout, which others may write to meanwhile.
+    """Returns the texts of a checkout, in which others may write meanwhile.
 
-    If a file vanishes while it is read, all is read again. Raises TreeChanged after some attempts.
+    If a file vanishes meanwhile, everything is read again. Raises TreeChanged if that happens in
+    each of the attempts.
     """
     for _ in range(ATTEMPTS - 1):
         try:
@@ -82,36 +87,36 @@ def read_tree(top: Path) -> Tree:
 
 
 def bare(text: str) -> str:
-    """Returns a text without the indentation and the marks of comments."""
+    """Returns a text without indentation and comment marks."""
     return re.sub(r"^[ \t]*(//[/!]?)?[ \t]*|[ \t]+$", "", text, flags=re.M)
 
 
 def untested_examples(tree: Tree) -> Iterator[str]:
-    """Yields each example of a page that is in none of the files that are proved or run."""
+    """Yields each example of a page that isn't in a file that is proved or run."""
     for page, language, files in TESTED:
         tested = bare(tree.joined(files))
         for example in re.findall(
             rf"^```{language}\n(.*?)^```$", bare(tree.texts[page]), re.M | re.S
         ):
             if example not in tested:
-                yield f"{page}: an example that no file has: {example}"
+                yield f"{page}: an example that is in no file: {example}"
 
 
 def lost_examples(tree: Tree) -> Iterator[str]:
-    """Yields each example that a comment names and that isn't there."""
+    """Yields each missing example that a comment names."""
     for path in tree.named("crates/*/src/*.rt"):
         for module, name, crate in re.findall(
             "Example: `(.*)::(.*)` of `(.*)`", bare(tree.texts[path])
         ):
             source = tree.texts.get(f"{crate}/src/{module}.rt", "")
             if re.search(rf"^pub fn {name}\b", source, re.M) is None:
-                yield f"{path}: an example that isn't there: {module}::{name} of {crate}"
+                yield f"{path}: names a missing example: {module}::{name} of {crate}"
 
 
 def is_there(tree: Tree, name: str) -> bool:
-    """Returns whether a name of a page is a path, a call, a definition, or words of one file.
+    """Returns whether a name in a page is a path, a call, a definition, a type, or words of a file.
 
-    Words in capitals stand for any word.
+    A word in capitals stands for any word.
     """
     words = [word for word in re.findall(r"\w+", name) if not word.isupper()]
     if "/" in name:
@@ -130,14 +135,14 @@ def is_there(tree: Tree, name: str) -> bool:
 
 
 def lost_names(tree: Tree) -> Iterator[str]:
-    """Yields each name of a page that nothing has."""
+    """Yields each name in a page that nothing has."""
     for page in tree.named("[A-Zd]*.md"):
         if page == "CHANGELOG.md":
             continue
         prose = without_code(tree.texts[page])
         for name in re.findall(r"`(?:\./)?(\w[\w:./*-]*)`(?!:\n)", prose):
             if not is_there(tree, name):
-                yield f"{page}: names what isn't there: {name}"
+                yield f"{page}: names something that doesn't exist: {name}"
 
 
 def unnamed_crates(tree: Tree) -> Iterator[str]:
@@ -149,7 +154,7 @@ def unnamed_crates(tree: Tree) -> Iterator[str]:
 
 
 def beginnings(text: str, mark: str) -> Iterator[str]:
-    """Yields each line of a comment that begins a sentence: the first, or one after a full stop."""
+    """Yields each line of a comment that begins it, or that comes after a full stop."""
     is_within = False
     for line in text.split("\n"):
         is_comment = re.match(rf"\s*{mark}", line) is not None
@@ -159,7 +164,7 @@ def beginnings(text: str, mark: str) -> Iterator[str]:
 
 
 def wrong_first_words(tree: Tree) -> Iterator[str]:
-    """Yields each comment that begins with a word that makes no sense by itself."""
+    """Yields each comment line that begins with a word of FIRST_WORDS."""
     for files, mark, words in FIRST_WORDS:
         wrong = re.compile(rf"{mark} ?(?:{words})\b", re.I)
         for path in tree.named(files):
@@ -169,16 +174,16 @@ def wrong_first_words(tree: Tree) -> Iterator[str]:
 
 
 def lost_edits(tree: Tree) -> Iterator[str]:
-    """Yields each edit in a folder that neither `.ci/mutants` nor the table of places reads."""
+    """Yields each edit in a folder from which no check reads edits."""
     for path in sorted(tree.texts):
         if not path.endswith(".edit"):
             continue
         if not contracts.EDIT_PATH.fullmatch(path) and not places.EDITS.fullmatch(path):
-            yield f"{path}: is in no folder whose edits are judged"
+            yield f"{path}: no check reads edits in this folder"
 
 
 def wrong_promises(tree: Tree) -> Iterator[str]:
-    """Yields each edit whose `# promise:` names no clause of a call, or that has none."""
+    """Yields each edit without a `# promise:`, or whose `# promise:` names no clause of a call."""
     for path, text in sorted(tree.texts.items()):
         if contracts.EDIT_PATH.fullmatch(path) is None:
             continue
@@ -196,13 +201,13 @@ def wrong_promises(tree: Tree) -> Iterator[str]:
 
 
 def long_subject(top: Path) -> Iterator[str]:
-    """Yields the subject of the last commit if it is too long and the checkout is one of git."""
+    """Yields the subject of the last commit if it is too long, in a git checkout."""
     if not (top / ".git").exists():
         return
     shown = process.run(["git", "log", "-1", "--format=%s"], top)
     subject = shown.text.rstrip("\n")
     if shown.is_ok and len(subject) > SUBJECT:
-        yield f"the last commit's subject has {len(subject)} columns, and not {SUBJECT}: {subject}"
+        yield f"the subject of the last commit has {len(subject)} columns, not {SUBJECT}: {subject}"
 
 
 def findings(tree: Tree) -> Iterator[str]:
@@ -227,17 +232,16 @@ def findings(tree: Tree) -> Iterator[str]:
 
 
 def hosts(page: str) -> Iterator[str]:
-    """Yields a script of the programs and commands that a page shows for C, in parts.
+    """Yields the parts of a script with the programs in C or C++, and the commands, of a page.
 
-    A text of C or C++ goes into the file that the line above it names. Raises Failed if none is
-    named.
+    A program goes into the file that the line above it names. Raises Failed if none is named.
     """
     blocks = re.findall(r"(?:`([\w.]+)`:\n\n)?^```(sh|c|cpp)\n(.*?)^```$", page, re.M | re.S)
     for file, language, text in blocks:
         if language == "sh":
             yield text
         elif not file:
-            raise Failed(f"pages: a program whose file isn't named:\n{text}")
+            raise Failed(f"pages: a program without the name of its file above:\n{text}")
         else:
             yield f"cat > {file} <<'END'\n{text}END\n"
 

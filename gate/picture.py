@@ -1,13 +1,13 @@
-"""Draws a region after each command of a script, as memrun has run it.
+"""Draws a region after each command of a script that memrun has run.
 
     tools/picture [SCRIPT]              prints the script with its replies and pictures
     tools/picture --svg FILE [SCRIPT]   also writes the pictures to an SVG file
 
-SCRIPT is a file, otherwise the script is read from standard input; docs/script-format.md says what
-is in one. Scripts whose first line is `bump`, `one`, `pool` or `fixed` have a region to draw.
+SCRIPT is a file; without it, the script is read from standard input. docs/script-format.md
+describes scripts. There is a region to draw if the first word is `bump`, `one`, `pool` or `fixed`.
 
-memrun is the program that --memrun names, otherwise the one that this checkout has built, or
-the one on the path. Nothing here is proved: a picture shows what memrun has replied.
+memrun is the program that --memrun names, otherwise the one that was built in this checkout,
+otherwise the one on the path. Nothing here is proved: a picture shows what memrun has replied.
 """
 
 import argparse
@@ -25,17 +25,17 @@ from gate.crates import TOP
 from gate.process import Failed, say
 
 MEMRUN = TOP / "crates/memrun/out/memrun"
-# The part of docs/script-format.md that has a script and its pictures, and their SVG file.
+# The part of docs/script-format.md with a script and its pictures, and the SVG file of these.
 PAGE = TOP / "docs/script-format.md"
 PART = "## Pictures\n"
 SVG = TOP / "docs/picture.svg"
 # The most buckets that a picture has room for.
 MOST_BUCKETS = 1024
-# A fixed pool has at most that many buckets.
+# The most buckets of a fixed pool.
 FIXED_BUCKETS = 512
-# The columns of a region in a text. Each represents the same number of bytes.
+# The columns of a region in a text. Each stands for the same number of bytes.
 COLUMNS = 64
-# The sign of a chunk in a text, by its position in the live list. Later ones have the last sign.
+# The signs of chunks in a text, by position in the live list. The last sign is for all later ones.
 SIGNS = "0123456789abcdefghijklmnopqrstuvwxyz#"
 FREE = "."
 KEPT = "-"
@@ -44,7 +44,7 @@ LEFT = 20
 REGION = 640
 ROW = 74
 BAR = 30
-# The least width of a chunk that has room for its position.
+# The least width of a chunk with room for the number of its position.
 LABEL = 14
 FILLS = {FREE: "#ffffff", KEPT: "#e4e4e4"}
 LIVE_FILL = "#b0b0b0"
@@ -52,7 +52,7 @@ LIVE_FILL = "#b0b0b0"
 
 @dataclass(frozen=True)
 class Chunk:
-    """A chunk of the live list."""
+    """A chunk in the live list."""
 
     place: int
     size: int
@@ -80,7 +80,7 @@ class Region:
 
 @dataclass(frozen=True)
 class Part:
-    """Bytes of a region that are alike: of one live chunk, unusable for every request, or free."""
+    """Adjacent bytes of a region that are all in one live chunk, all unusable, or all free."""
 
     start: int
     end: int
@@ -111,9 +111,7 @@ def region_of(line: str) -> Region:
     if kind == "fixed":
         places = places[:FIXED_BUCKETS]
     if len(places) > MOST_BUCKETS:
-        raise Failed(
-            f"picture: a picture has room for {MOST_BUCKETS} buckets, and not {len(places)}"
-        )
+        raise Failed(f"picture: a picture has room for {MOST_BUCKETS} buckets, not {len(places)}")
     return Region(kind, start, size, [Chunk(place, length) for place in places])
 
 
@@ -149,7 +147,7 @@ def steps_of(region: Region, commands: Sequence[str], output: str) -> Iterator[S
 
 
 def kept_bytes(region: Region, live: Sequence[Chunk]) -> Iterator[tuple[int, int]]:
-    """Yields the bytes that no request can get, from a start to an end each."""
+    """Yields the start and the end of each range of bytes that no request can get."""
     if region.kind == "bump":
         yield region.start, max((chunk.end for chunk in live), default=region.start)
         return
@@ -189,7 +187,7 @@ def parts_of(region: Region, live: Sequence[Chunk]) -> list[Part]:
 def row_of(region: Region, live: Sequence[Chunk]) -> str:
     """Returns the region as one line of text.
 
-    A column shows the first chunk that has a byte in it, otherwise `-` if a byte in it is unusable.
+    A column shows the first chunk with a byte in it, otherwise `-` if one of its bytes is unusable.
     """
     columns = min(COLUMNS, region.size)
     parts = parts_of(region, live)
@@ -204,7 +202,7 @@ def row_of(region: Region, live: Sequence[Chunk]) -> str:
 
 
 def text_of(first: str, region: Region, steps: Sequence[Step]) -> str:
-    """Returns a script with its replies, and the region after its first line and each command."""
+    """Returns a script with its replies, and with the region after each line."""
     lines = [first, row_of(region, [])]
     for step in steps:
         lines += [f"{step.command:<20}  {step.reply}", row_of(region, step.live)]
@@ -212,7 +210,7 @@ def text_of(first: str, region: Region, steps: Sequence[Step]) -> str:
 
 
 def rectangle(region: Region, part: Part, top: int) -> Iterator[str]:
-    """Yields the rectangle of a part, and the position of a chunk that has room for it."""
+    """Yields the rectangle of a part, and the position of a chunk if there is room for it."""
     x = LEFT + REGION * (part.start - region.start) / region.size
     width = REGION * (part.end - part.start) / region.size
     fill = FILLS.get(part.sign, LIVE_FILL)
@@ -281,18 +279,18 @@ def wrong_pictures(program: Path, page: str, svg: str) -> Iterator[str]:
     part = page.partition(PART)[2].partition("\n## ")[0]
     blocks = [dedent(block) for block in re.findall(r"(?:^    .*\n)+", part, re.M)]
     if len(blocks) != 2:
-        yield f"{PAGE.name}: `{PART.strip()}` hasn't a script and its pictures"
+        yield f"{PAGE.name}: `{PART.strip()}` has no script with pictures"
         return
     script, text = blocks
     drawn_text, drawn_svg = draw(program, script)
     if text != drawn_text:
-        yield f"{PAGE.name}: other pictures than tools/picture draws:\n{drawn_text}"
+        yield f"{PAGE.name}: the pictures aren't those that tools/picture draws:\n{drawn_text}"
     if svg != drawn_svg:
-        yield f"{SVG.name}: another file than tools/picture --svg writes for the script of {PAGE.name}"
+        yield f"{SVG.name}: isn't what tools/picture --svg writes for the script of {PAGE.name}"
 
 
 def check_pages() -> None:
-    """Raises Failed if the pictures of the pages aren't those that are drawn."""
+    """Raises Failed if the stored pictures differ from those that are drawn now."""
     page = PAGE.read_text(encoding="utf-8")
     found = list(wrong_pictures(MEMRUN, page, SVG.read_text(encoding="utf-8")))
     if found:
@@ -300,12 +298,12 @@ def check_pages() -> None:
 
 
 def find_memrun() -> Path:
-    """Returns the memrun of this checkout, otherwise the one on the path."""
+    """Returns the memrun that was built in this checkout, otherwise the one on the path."""
     if MEMRUN.exists():
         return MEMRUN
     found = shutil.which("memrun")
     if found is None:
-        raise Failed("picture: memrun isn't built, nor on the path: name it by --memrun FILE")
+        raise Failed("picture: memrun is neither built nor on the path: name it by --memrun FILE")
     return Path(found)
 
 

@@ -1,11 +1,13 @@
-"""The table of places: what the libraries may name, and which files step on words or go round.
+"""The table of places: what the libraries may use, and which files step on shared words or loop.
 
-No contract sees a step that is in no log, nor a wait. So two lists name what may be used: `NAMED`
-of other crates, and `CALLED` of calls in what threads share that the libraries don't define. The
-texts by which a call could wait are counted by their files in `PLACES`. Whoever changes such a
-place reads it, and then changes its number here. Comments and clauses don't count.
+No contract sees a step that is in no log, nor a wait. So two lists say what may be used. `NAMED`
+has the names from other crates. `CALLED` has the functions that crates over shared words may call,
+besides those that the libraries define. `PLACES` says how often each file has each text by which a
+call could wait. If you change such a place, read it, and then change its number here. Comments and
+clauses don't count.
 
-A text can be evaded. So gate/readings.py has sums of the files that a person has to read.
+This check of texts can be evaded. So gate/readings.py has sums of the files that a person has to
+read.
 """
 
 import functools
@@ -24,10 +26,10 @@ C = "bb_memory_c/src/"
 C_CALLS = "bb_memory_c_calls/src/"
 EDITS = re.compile(r"crates/(\w+)/refused-by-text/[^/]+\.edit")
 SOURCE = re.compile(r"crates/(bb_\w+/src/.*)\.rt")
-# The crates over `atomic_table`: the allocators that threads share, and the calls of C.
+# The crates over shared words: the allocators that threads share, and the calls of C.
 SHARED = re.compile(r"bb_memory_(?:bump|c|c_calls|seats|shared_pools)/")
-# The folder of the proof of a function that calls itself, with the measure by which the recursion
-# ends.
+# The folder of the proof of a function that calls itself. The proof has the measure by which the
+# recursion ends.
 RECURSION = re.compile(r"crates/(bb_\w+/proofs/(?:.*/)?\+[^/]+)/.*")
 
 # What the libraries may name from crates outside this repository.
@@ -53,7 +55,7 @@ NAMED = frozenset(
         "thiserror::Error",
     }
 )
-# How imports from the libraries themselves begin, besides those of modules of the same file.
+# How imports from the libraries themselves begin, except from modules of the same file.
 OWN = re.compile(r"bb_\w+|crate|self|super")
 MODULE = re.compile(r"\bmod (\w+);")
 IMPORT = re.compile(r"\buse\s+([^;]+);")
@@ -75,10 +77,10 @@ DEFINED = re.compile(r"\bfn (\w+)")
 
 @dataclass(frozen=True)
 class Kind:
-    """A kind of text, and how often each file may have each text; a file that isn't named has none.
+    """A kind of text, and how often each file has each text. Files that aren't named have none.
 
-    A text is what the last group of the pattern finds, in the files whose path `within` matches at
-    the beginning.
+    A text is what the last group of `pattern` matches. Only the files count with a path whose
+    beginning matches `within`.
     """
 
     name: str
@@ -177,7 +179,7 @@ PLACES = (
         },
     ),
     Kind(
-        "goes round",
+        "loops",
         SHARED,
         re.compile(
             r"\b(for\b(?=[^{};]*\bin\b)|while\b|loop\b|iter\w*|cycle\b(?=\())"
@@ -226,7 +228,7 @@ def sources_of(texts: Mapping[str, str]) -> dict[str, str]:
 
 
 def imported(tree: str) -> Iterator[str]:
-    """Yields each path that an import has, as `std::alloc::Global` of `std::alloc::{Global}`."""
+    """Yields each path of an import, such as `std::alloc::Global` of `std::alloc::{Global}`."""
     head, brace, rest = re.sub(r"\s*(::|[{},])\s*", r"\1", tree.strip()).partition("{")
     if not brace:
         yield head.removeprefix("::")
@@ -236,7 +238,7 @@ def imported(tree: str) -> Iterator[str]:
 
 
 def unnamed(code: str) -> Iterator[str]:
-    """Yields each path of another crate that the libraries may not name."""
+    """Yields each path from another crate that the libraries may not name."""
     own = {*MODULE.findall(code)}
     paths = [path for tree in IMPORT.findall(code) for path in imported(tree)]
     roots = [(path.partition("::")[0], path) for path in paths]
@@ -247,17 +249,17 @@ def unnamed(code: str) -> Iterator[str]:
 
 
 def own_calls(code: str) -> Iterator[str]:
-    """Yields the name of a function for each time that it calls itself."""
+    """Yields the name of a function once for each call of the function by itself."""
     for name, body in functions(code):
         yield from re.findall(rf"(?:\bself\.|\bSelf::|(?<![\w.:]))({name})\b(?=\(|::<)", body)
 
 
 def counted(found: Iterator[str], right: Mapping[str, int]) -> Iterator[str]:
-    """Yields each text that is found more or less often than it should be, and how often it is."""
+    """Yields each text that isn't found as often as it should be, with both numbers."""
     counts = Counter(found)
     for text in sorted({*counts, *right}):
         if counts[text] != right.get(text, 0):
-            yield f"`{text}` {counts[text]} times, and not {right.get(text, 0)}"
+            yield f"`{text}` {counts[text]} times, not {right.get(text, 0)}"
 
 
 @functools.cache
@@ -268,14 +270,14 @@ def bare(source: str) -> str:
 
 @functools.cache
 def defined_in(code: str) -> frozenset[str]:
-    """Returns the names of the functions that a code defines."""
+    """Returns the names of the functions that this code defines."""
     return frozenset(DEFINED.findall(code))
 
 
 @functools.cache
 def misplaced_in(name: str, code: str, defined: frozenset[str]) -> tuple[str, ...]:
-    """Returns the names and calls that the code of one file may not have, and its wrong numbers."""
-    found = [f"names what isn't in NAMED: {path}" for path in unnamed(code)]
+    """Returns the names and calls that a file may not have, and the texts with wrong numbers."""
+    found = [f"names something that isn't in NAMED: {path}" for path in unnamed(code)]
     body = IMPORT.sub("", code)
     for kind in PLACES:
         if kind.within.match(name) is not None:
@@ -284,14 +286,14 @@ def misplaced_in(name: str, code: str, defined: frozenset[str]) -> tuple[str, ..
             found += [f"{text} ({kind.name})" for text in wrong]
     if SHARED.match(name) is not None:
         calls = sorted({*CALL.findall(body)} - defined - CALLED)
-        found += [f"calls what isn't in CALLED: {call}" for call in calls]
+        found += [f"calls something that isn't in CALLED: {call}" for call in calls]
         wrong = counted(own_calls(body), OWN_CALLS.get(name, {}))
         found += [f"{text} (calls itself)" for text in wrong]
     return tuple(found)
 
 
 def misplaced(sources: Mapping[str, str]) -> list[str]:
-    """Returns the names and calls that sources may not have, and the texts at wrong places."""
+    """Returns the names and calls that sources may not have, and the texts with wrong numbers."""
     found = []
     codes = {name: bare(source) for name, source in sources.items()}
     defined = frozenset().union(*map(defined_in, codes.values()))
@@ -299,7 +301,7 @@ def misplaced(sources: Mapping[str, str]) -> list[str]:
         file = f"crates/{name}.rt"
         if UNREADABLE.search(sources.get(name, "")) is not None:
             found.append(
-                f"{file}: a macro, a raw text or a comment in stars, which isn't read here"
+                f"{file}: has a macro, a raw string or a block comment, which isn't parsed here"
             )
         wrong = misplaced_in(name, codes.get(name, ""), defined)
         found += [f"{file}: {text}" for text in wrong]
@@ -307,16 +309,16 @@ def misplaced(sources: Mapping[str, str]) -> list[str]:
 
 
 def recursions(texts: Mapping[str, str]) -> list[str]:
-    """Returns the folders of proofs of recursions that the table lacks, or has but shouldn't."""
+    """Returns the proof folders of recursions that aren't in RECURSIONS, or are gone."""
     folders = {match[1] for path in texts if (match := RECURSION.fullmatch(path)) is not None}
     return [
         *(f"crates/{folder}: isn't in RECURSIONS" for folder in sorted(folders - RECURSIONS)),
-        *(f"crates/{folder}: is gone from RECURSIONS" for folder in sorted(RECURSIONS - folders)),
+        *(f"crates/{folder}: is only in RECURSIONS" for folder in sorted(RECURSIONS - folders)),
     ]
 
 
 def unrefused(texts: Mapping[str, str]) -> list[str]:
-    """Returns the edits of `refused-by-text` that the table lets pass, or that can't be applied."""
+    """Returns the edits in `refused-by-text` that the table accepts, or that can't be applied."""
     sources = sources_of(texts)
     found = []
     for path, text in sorted(texts.items()):
@@ -328,11 +330,11 @@ def unrefused(texts: Mapping[str, str]) -> list[str]:
             edit = parse_edit(Path(path), text)
             made = apply(edit, lambda file: texts[folder + file])
         except BadEdit as error:
-            found.append(f"{path}: isn't an edit of these sources: {error}")
+            found.append(f"{path}: can't be applied to these sources: {error}")
             continue
         edited = sources_of({folder + file: after for file, after in made.items()})
         if not misplaced(sources | edited):
-            found.append(f"{path}: not refused by the table of places")
+            found.append(f"{path}: isn't refused by the table of places")
     return found
 
 

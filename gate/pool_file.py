@@ -1,8 +1,8 @@
-"""Tests pools in files over an installed library: `.ci/run-c` calls it.
+"""Tests pools in files over an installed library, for `.ci/run-c`.
 
-The programs are in crates/bb_memory_c/tests/pool_file. They run over both forms of the library, and
-`cases` also under the compiler's checkers. Then each mutant of bb_pool_file.c there has to be
-refused by the program that its file names:
+The test programs are in crates/bb_memory_c/tests/pool_file. They run with the archive and with the
+shared library, and `cases` also under the compiler's checkers. There are also mutants of
+bb_pool_file.c. Each has to be refused by the program that its file names:
 
     # function: bb_pool_file_take
     # refused by: kills pause 31
@@ -10,8 +10,8 @@ refused by the program that its file names:
     old: if (load_slot(file, slot) == word)
     new: if (word != 0)
 
-Last, gate/pool_traces.py compares the code with the proved machine. A mutant that no program refuses
-is `refused by: machine`.
+Last, gate/pool_traces.py compares the code with the proved machine. A mutant that no program
+refuses is `refused by: machine`.
 """
 
 import os
@@ -34,9 +34,9 @@ CRATE = "crates/bb_memory_c"
 FLAGS = ("-O2", "-Wall", "-Wextra", "-Werror", "-pedantic", "-Wshadow", "-Wconversion")
 CHECKERS = ("-fsanitize=address,undefined", "-fno-sanitize-recover=all")
 PROGRAMS = ("cases", "kills", "shown", "trace")
-# A program that hangs is ended after that many seconds.
+# The seconds after which a program is killed, since it hangs.
 LONGEST = "240"
-# Runs of `kills` with each form of the library: words before and after the folder.
+# Runs of `kills` with each form of the library: the arguments, except the second, the folder.
 KILLS = {
     "archive": (
         ("run", "2500", "0", "1"),
@@ -51,7 +51,7 @@ KILLS = {
         ("step", "499"),
     ),
 }
-# Sizes of the model, and the wrong protocols in which it has to find a violation.
+# The sizes of the model, and the wrong protocols in which it has to find a violation.
 SIZES = (
     {"PROCESSES": 3, "BUCKETS": 1, "SLOTS": 2, "MESSAGES": 2, "NUMBERS": 1, "KILLS": 2},
     {"PROCESSES": 2, "BUCKETS": 2, "SLOTS": 2, "MESSAGES": 2, "NUMBERS": 1, "KILLS": 2},
@@ -60,7 +60,7 @@ WRONG = ("any", "look", "slots", "order", "address")
 
 
 def refused_by(text: str) -> list[str]:
-    """Returns the words of the program that refuses the mutant in this text."""
+    """Returns the program, with its arguments, that has to refuse the mutant in this text."""
     match = re.search(r"^# refused by: (.+)$", text, re.MULTILINE)
     if match is None:
         raise Failed("a mutant has no line `# refused by:`")
@@ -68,7 +68,7 @@ def refused_by(text: str) -> list[str]:
 
 
 class PoolFile:
-    """The tests over the library that is installed below `prefix`, in a folder for what they make."""
+    """The tests over the library that is installed below `prefix`. They make files in `work`."""
 
     def __init__(self, top: Path, prefix: Path, work: Path, environment: Mapping[str, str]) -> None:
         self.top = top
@@ -77,11 +77,11 @@ class PoolFile:
         self.prefix = prefix
         self.work = work
         self.environment = environment
-        # Where the pools' files are: in memory and on a disk. The first has those of most tests.
+        # Where the pools' files are: in memory and on a disk. Most tests use the first folder.
         self.folders: list[Path] = []
 
     def make_folders(self, made: ExitStack) -> None:
-        """Makes folders for the pools' files, which other users may enter."""
+        """Makes folders for the pools' files, which other users can enter, too."""
         for place in (Path("/dev/shm"), Path(tempfile.gettempdir())):
             if place.is_dir():
                 folder = made.enter_context(tempfile.TemporaryDirectory(dir=place))
@@ -89,7 +89,7 @@ class PoolFile:
                 self.folders.append(Path(folder))
 
     def compile(self, words: Sequence[str | Path], compiler: str = "cc") -> None:
-        """Runs a compiler with the installed headers."""
+        """Runs a compiler that finds the installed headers."""
         includes: list[str | Path] = [f"-I{self.prefix / 'include'}", f"-I{self.crate}"]
         must_run([compiler, *includes, *words, "-pthread"], self.work, self.environment)
 
@@ -99,11 +99,11 @@ class PoolFile:
         return must_run(command, self.work, self.environment).rstrip()
 
     def run_kills(self, program: Path, words: Sequence[str]) -> str:
-        """Runs one of the tests of `kills` in the first folder."""
+        """Runs one of the tests of `kills`, in the first folder."""
         return self.run_program(program, [words[0], self.folders[0], *words[1:]])
 
     def build(self) -> None:
-        """Builds each program over the archive and over the shared library."""
+        """Builds each program with the archive and with the shared library."""
         library = self.prefix / "lib"
         archive = library / "libbb_memory.a"
         shared: list[str | Path] = [
@@ -121,7 +121,7 @@ class PoolFile:
             self.compile(["-o", self.work / f"{name}.shared", compiled, *shared])
 
     def run_checked(self) -> str:
-        """Runs `cases` and bb_pool_file.c under the checkers of addresses and undefined behavior."""
+        """Runs `cases` under the checkers of addresses and undefined behavior."""
         program = self.work / "cases.checked"
         sources = [self.crate / "bb_pool_file.c", self.sources / "cases.c"]
         flags = ["-std=c11", "-g", "-O1", *CHECKERS]
@@ -141,11 +141,11 @@ class PoolFile:
         )
         expected = (self.sources / "shown.txt").read_text(encoding="utf-8")
         if shown.returncode != 0 or shown.stdout.replace(str(path), "FILE") != expected:
-            raise Failed(f"bb-pool shows something else than shown.txt:\n{shown.stdout}")
-        return "bb-pool: it shows what shown.txt has"
+            raise Failed(f"bb-pool prints something other than shown.txt:\n{shown.stdout}")
+        return "bb-pool: prints what shown.txt has"
 
     def run_owners(self) -> str:
-        """Runs what bb_pool_file.hpp has, under the checkers."""
+        """Runs the test of bb_pool_file.hpp under the checkers."""
         program = self.work / "owners"
         words: list[str | Path] = ["-std=c++17", "-g", "-O1", *FLAGS[1:], *CHECKERS, "-o", program]
         archive = self.prefix / "lib/libbb_memory.a"
@@ -161,10 +161,10 @@ class PoolFile:
         source = self.work / "hello.c"
         source.write_text(re.sub(r"(?m)^// {0,5}", "", match[0]) + "\n", encoding="utf-8")
         self.compile(["-std=c99", *FLAGS, "-c", "-o", self.work / "hello.o", source])
-        return "bb_pool_file.h: the program at its head is compiled"
+        return "bb_pool_file.h: the program at its head compiles"
 
     def build_examples(self) -> list[Program]:
-        """Builds the producers and consumers: those in C as C and as C++, those in C++ and Rust."""
+        """Builds the producers and consumers in C (as C and as C++), in C++ and in Rust."""
         top = self.crate.parent.parent
         examples = top / "examples/c"
         library = self.prefix / "lib/libbb_memory.a"
@@ -197,7 +197,7 @@ class PoolFile:
         return programs
 
     def run_examples(self) -> str:
-        """Runs producers and consumers over one file, and kills them again and again."""
+        """Runs producers and consumers over one file, and kills them repeatedly."""
         programs = self.build_examples()
         path = self.folders[0] / "example"
         messages = Messages(programs, path, self.prefix / "bin/bb-pool")
@@ -206,7 +206,7 @@ class PoolFile:
         return f"producers and consumers, {len(programs)} programs of each: {came}"
 
     def run_model(self, size: Mapping[str, int]) -> str:
-        """Looks at each state of the model of this size."""
+        """Explores each state of the model of this size."""
         numbers = "_".join(str(number) for number in size.values())
         program = self.work / f"model_{numbers}"
         defined = [f"-D{name}={number}" for name, number in size.items()]
@@ -215,15 +215,15 @@ class PoolFile:
         return self.run_program(program, [])
 
     def run_wrong_model(self) -> str:
-        """Looks for a violation in each wrong protocol."""
+        """Makes the model find a violation in each wrong protocol."""
         program = self.work / "model_wrong"
         self.compile(["-std=c++17", *FLAGS, "-o", program, self.sources / "model.cpp"], "c++")
         for word in WRONG:
             self.run_program(program, [word])
-        return f"model: a violation is found in each of {len(WRONG)} wrong protocols"
+        return f"model: finds a violation in each of {len(WRONG)} wrong protocols"
 
     def build_mutant(self, file: Path, name: str) -> Path:
-        """Builds a program over a mutant, in a folder of its own, and returns the program."""
+        """Builds a program with a mutant, in a folder of its own. Returns the program."""
         edit = edits.parse_edit(file, file.read_text(encoding="utf-8"))
         changed = edits.apply(edit, lambda name: (self.crate / name).read_text(encoding="utf-8"))
         folder = self.work / f"{file.stem}.{name}"
@@ -236,11 +236,11 @@ class PoolFile:
         return mutant
 
     def check_mutant(self, file: Path) -> None:
-        """Has a mutant be refused by the program that its file names. Raises Failed if it isn't."""
+        """Raises Failed unless a mutant is refused by the program that its file names."""
         program, *words = refused_by(file.read_text(encoding="utf-8"))
         mutant = self.build_mutant(file, program)
         place = [words[0], str(self.folders[0]), *words[1:]] if words else [str(self.folders[0])]
-        # A test that fails may leave processes for a while, which would keep a pipe open.
+        # A failed test may leave processes that run for a while. They would keep a pipe open.
         ran = subprocess.run(
             ["timeout", "60", str(mutant), *place],
             cwd=self.work,
@@ -254,11 +254,11 @@ class PoolFile:
             raise Failed(f"{file.name}: isn't refused by `{program} {' '.join(words)}`")
 
     def mutants(self) -> list[Path]:
-        """Returns the files of mutants."""
+        """Returns the files of the mutants."""
         return sorted((self.sources / "mutants").glob("*.mutant"))
 
     def check_mutants(self, pool: ThreadPoolExecutor) -> None:
-        """Has each mutant be refused."""
+        """Raises Failed unless each mutant is refused by its program."""
         files = [
             file
             for file in self.mutants()
@@ -266,7 +266,7 @@ class PoolFile:
         ]
         for _ in pool.map(self.check_mutant, files):
             pass
-        say(f"mutants of bb_pool_file.c: {len(files)} are refused")
+        say(f"mutants of bb_pool_file.c: programs refuse {len(files)}")
 
     def check_traces(self, pool: ThreadPoolExecutor) -> None:
         """Compares the code and its mutants with the machine."""
@@ -275,7 +275,7 @@ class PoolFile:
         traces.check_mutants(self.mutants(), lambda file: self.build_mutant(file, "trace"), pool)
 
     def jobs(self) -> list[Callable[[], str]]:
-        """Returns the tests, the longest first. Each returns what it prints."""
+        """Returns the tests, the longest first. Each returns the text to print."""
         jobs: list[Callable[[], str]] = []
         if has("c++", self.environment):
             jobs += [partial(self.run_model, size) for size in SIZES]

@@ -1,8 +1,8 @@
 """Runs programs that send and receive messages through one pool in a file, and kills them.
 
-A message is a line: the process of its sender, a blank, and a number. Each sender counts from 0. A
-receiver prints a message before it is done with it, so a message that it was killed with is printed
-again.
+A message is a line: the process id of its sender, a blank, and a number. Each sender counts from 0.
+A receiver prints a message before it calls `done`. So if it is killed in between, another receiver
+prints the message again.
 """
 
 import random
@@ -15,21 +15,21 @@ from typing import IO
 
 from gate.process import Failed, must_run
 
-# How many senders and how many receivers live at one time, and how many processes are killed.
+# The number of senders, and of receivers, that run at one time, and of processes that are killed.
 ALIVE = 3
 KILLS = 300
-# A process is killed within that many seconds after the one before.
+# The most seconds to wait between two kills.
 PAUSE = 0.01
-# How many messages a sender has to send that is killed, and one of the last.
+# The number of messages for a sender that will be killed, and for one of the last senders.
 ENDLESS = 1_000_000_000
 LAST = 500
-# What takes longer than that many seconds hangs.
+# The seconds after which a process is taken to hang.
 LONGEST = 60.0
 
 
 @dataclass(frozen=True)
 class Program:
-    """The commands that send and receive, before the path of the file."""
+    """The commands that send and receive, without the path of the file, which comes last."""
 
     sends: Sequence[str | Path]
     receives: Sequence[str | Path]
@@ -37,13 +37,13 @@ class Program:
 
 @dataclass(frozen=True)
 class Started:
-    """A process of a program, and whether it sends."""
+    """A process that was started, and whether it sends."""
 
     process: subprocess.Popen[bytes]
     sends: bool
 
     def kill(self) -> None:
-        """Kills the process. Raises Failed if it has ended by itself."""
+        """Kills the process. Raises Failed if it had ended by itself."""
         status = self.process.poll()
         self.process.kill()
         self.process.wait()
@@ -54,9 +54,9 @@ class Started:
 def faults(lines: Iterable[str], senders: Mapping[int, int | None], killed: int) -> list[str]:
     """Returns what is wrong with the lines that receivers have printed.
 
-    `senders` has the number of messages that each process sent, or None if it was killed: then its
-    messages are the first ones, without a gap. `killed` receivers may each have one message printed
-    again.
+    `senders` has the number of messages that each process sent, or None if the process was killed.
+    The messages of a killed process count up from 0 without a gap, too. Each of the `killed`
+    receivers may be the reason that one message was printed twice.
     """
     found = []
     came: dict[int, set[int]] = {process: set() for process in senders}
@@ -73,15 +73,15 @@ def faults(lines: Iterable[str], senders: Mapping[int, int | None], killed: int)
         if came[sender] != set(range(count)):
             missing = len(set(range(count)) - came[sender])
             found.append(
-                f"process {sender}: {missing} of {count} messages never came, or others did"
+                f"process {sender}: {missing} of {count} messages are missing, or there are others"
             )
     if again > killed:
-        found.append(f"{again} messages came again, but {killed} receivers were killed")
+        found.append(f"{again} messages came twice, but only {killed} receivers were killed")
     return found
 
 
 class Messages:
-    """Processes of some programs that share the file at `path`, which `bb_pool` shows."""
+    """Processes that share the file at `path`. The program `bb_pool` shows the file."""
 
     def __init__(self, programs: Sequence[Program], path: Path, bb_pool: Path) -> None:
         self.programs = programs
@@ -89,12 +89,12 @@ class Messages:
         self.bb_pool = bb_pool
         self.random = random.Random(1)
         self.alive: list[Started] = []
-        # As `faults` has them.
+        # As for `faults`.
         self.senders: dict[int, int | None] = {}
         self.killed_receivers = 0
 
     def start(self, program: Program, output: IO[bytes], count: int | None) -> Started:
-        """Starts a sender of `count` messages, or a receiver if it is None."""
+        """Starts a sender of `count` messages, or a receiver if `count` is None."""
         words = program.receives if count is None else [*program.sends, self.path, str(count)]
         if count is None:
             words = [*words, self.path]
@@ -108,7 +108,7 @@ class Messages:
         return started
 
     def start_any(self, sends: bool, output: IO[bytes]) -> None:
-        """Starts any program, which sends or receives without an end."""
+        """Starts a random program, which sends or receives until it is killed."""
         self.start(self.random.choice(self.programs), output, ENDLESS if sends else None)
 
     def kill_one(self, started: Started) -> None:
@@ -118,11 +118,11 @@ class Messages:
         self.killed_receivers += not started.sends
 
     def shown(self, *options: str) -> str:
-        """Returns what `bb-pool` shows."""
+        """Returns what `bb-pool` prints."""
         return must_run([self.bb_pool, *options, self.path], self.path.parent)
 
     def finish(self, output: IO[bytes]) -> None:
-        """Has each program send its last messages, and waits until all are received."""
+        """Lets each program send its last messages, and waits until all of them are received."""
         last = [self.start(program, output, LAST) for program in self.programs]
         for program in self.programs:
             self.start(program, output, None)
@@ -133,7 +133,7 @@ class Messages:
                 raise Failed(f"{started.process.args!r} hangs") from error
             self.alive.remove(started)
             if status != 0:
-                raise Failed(f"{started.process.args!r} has status {status}")
+                raise Failed(f"{started.process.args!r} ended with status {status}")
             self.senders[started.process.pid] = LAST
         end = time.monotonic() + LONGEST
         while "slots: 0 full" not in self.shown():
@@ -142,7 +142,7 @@ class Messages:
             time.sleep(0.1)
 
     def run(self, printed: Path) -> str:
-        """Runs all, and returns what came of it. Raises Failed if a message or a bucket is lost."""
+        """Runs and kills the processes. Raises Failed if a message or a bucket is lost."""
         try:
             with printed.open("wb") as output:
                 for at in range(2 * ALIVE):
@@ -168,4 +168,4 @@ class Messages:
             found.append(f"buckets are lost:\n{shown}")
         if found:
             raise Failed("\n".join(found[:10]))
-        return f"{len(lines)} messages came, with {KILLS} kills"
+        return f"{len(lines)} messages were received, with {KILLS} kills"

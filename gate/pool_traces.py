@@ -1,9 +1,9 @@
 """Compares bb_pool_file.c with the proved machine of a pool in a file, at every word and lock.
 
-`trace` (crates/bb_memory_c/tests/pool_file/trace.c) steps processes through their calls and writes
-each change of a flag, a slot or a lock. `file_replay` has the machine take the same steps, or says at
-which line it can't. The code's traces have to be the machine's, and a trace of each mutant must not
-be, unless the mutant says why it takes no other step:
+`trace` (crates/bb_memory_c/tests/pool_file/trace.c) steps processes through their calls, and writes
+each change of a flag, a slot or a lock. `file_replay` lets the machine take the same steps, or says
+at which line it can't. The machine has to accept each trace of the code. It has to refuse a trace
+of each mutant, unless the mutant says why it takes no step that the code doesn't take:
 
     # no step: a wake changes only the words of events
 """
@@ -20,9 +20,9 @@ from gate.process import Failed, say
 REPLAY = "crates/file_replay/out/file_replay"
 # The exit status of `file_replay` at a difference.
 DIFFERENCE = 1
-# A trace that takes longer is ended after that many seconds.
+# The seconds after which a trace is taken to hang.
 LONGEST = 120
-# The traces of the code: words before and after the folder.
+# The traces of the code: the arguments, except the second, the folder.
 CODE = (
     ("duels", "7"),
     ("random", "1", "400", "0"),
@@ -32,31 +32,31 @@ CODE = (
     ("random", "5", "400", "0"),
     ("random", "6", "400", "8"),
 )
-# The traces of a mutant, up to the first that the machine doesn't allow.
+# The traces of a mutant, which end at the first one that the machine refuses.
 OF_MUTANT = (
     ("random", "1", "200", "0"),
     ("duels", "13"),
     *(("random", str(seed), "400", str(seed % 2 * 8)) for seed in range(2, 10)),
 )
-# In place of the program that refuses a mutant: only the machine does.
+# What a mutant names instead of a program if only the machine refuses it.
 MACHINE = "machine"
-# At least this many instructions of each call are stepped and compared.
+# The least number of instructions of each call that have to be stepped and compared.
 LEAST = 5000
 
 
 def reason_for_no_step(text: str) -> str | None:
-    """Returns why the mutant in this text takes no step that the code doesn't, if it says so.
+    """Returns why the mutant in this text takes no step that the code doesn't take, if it says so.
 
-    Raises Failed if nothing but the machine could refuse it.
+    Raises Failed if it also says that only the machine refuses it.
     """
     match = re.search(r"^# no step: (.+)$", text, re.MULTILINE)
     if match is not None and re.search(rf"^# refused by: {MACHINE}$", text, re.MULTILINE):
-        raise Failed("a mutant that the machine refuses takes another step")
+        raise Failed("a mutant that only the machine refuses has `# no step:`")
     return None if match is None else match[1]
 
 
 def steps_of(text: str) -> Counter[str]:
-    """Returns how many instructions of each call were stepped, by what `trace` says of it."""
+    """Returns how many instructions of each call were stepped, from what `trace` says."""
     found: Counter[str] = Counter()
     for line in text.splitlines():
         call, _, steps = line.split()
@@ -65,7 +65,7 @@ def steps_of(text: str) -> Counter[str]:
 
 
 class Traces:
-    """The traces that programs write, replayed by the program that was built below `top`."""
+    """The traces that programs write. The replay program is the one built below `top`."""
 
     def __init__(self, top: Path, folder: Path) -> None:
         self.replay_program = top / REPLAY
@@ -73,7 +73,7 @@ class Traces:
         self.folder = folder
 
     def trace(self, program: Path, words: Sequence[str]) -> tuple[str, Counter[str]]:
-        """Returns a trace that a program writes, and how many instructions it stepped."""
+        """Returns a trace that a program writes, and the number of instructions for each call."""
         command: list[str | Path] = [program, words[0], self.folder, *words[1:]]
         try:
             ran = subprocess.run(
@@ -85,19 +85,19 @@ class Traces:
                 check=False,
             )
         except subprocess.TimeoutExpired as error:
-            raise Failed(f"trace {' '.join(words)}: it hangs") from error
+            raise Failed(f"trace {' '.join(words)}: hangs") from error
         if ran.returncode != 0:
             raise Failed(f"{ran.stderr}trace {' '.join(words)}: status {ran.returncode}")
         return ran.stdout, steps_of(ran.stderr)
 
     def replay(self, trace: str) -> subprocess.CompletedProcess[str]:
-        """Has the machine follow a trace."""
+        """Replays a trace in the machine."""
         return subprocess.run(
             [self.replay_program], input=trace, capture_output=True, text=True, check=False
         )
 
     def check_code(self, program: Path, words: Sequence[str]) -> Counter[str]:
-        """Has the machine allow a trace of the code, and returns how many instructions it has."""
+        """Replays a trace of the code. Returns how many instructions of each call it has."""
         trace, steps = self.trace(program, words)
         replayed = self.replay(trace)
         if replayed.returncode != 0:
@@ -105,10 +105,10 @@ class Traces:
         return steps
 
     def check_all(self, program: Path, pool: ThreadPoolExecutor) -> None:
-        """Has the machine allow all traces of the code."""
+        """Raises Failed unless the machine accepts all traces of the code."""
         steps: Counter[str] = Counter()
         for each in pool.map(lambda words: self.check_code(program, words), CODE):
-            # A sum of two counters would forget a call that was never stepped.
+            # `+` of two counters would drop a call that was never stepped.
             steps.update(each)
         few = [call for call, count in steps.items() if count < LEAST]
         if few:
@@ -119,22 +119,22 @@ class Traces:
         )
 
     def check_mutant(self, program: Path, name: str) -> None:
-        """Has the machine refuse a trace of a mutant."""
+        """Raises Failed unless the machine refuses a trace of a mutant."""
         for words in OF_MUTANT:
             trace, _ = self.trace(program, words)
             status = self.replay(trace).returncode
             if status == DIFFERENCE:
                 return
             if status != 0:
-                raise Failed(f"{name}: `file_replay` ends with status {status}")
-        raise Failed(f"{name}: the machine allows all of its traces")
+                raise Failed(f"{name}: `file_replay` ended with status {status}")
+        raise Failed(f"{name}: the machine accepts all of its traces")
 
     def check_mutants(
         self, files: Iterable[Path], build: Callable[[Path], Path], pool: ThreadPoolExecutor
     ) -> None:
-        """Has the machine refuse each mutant that takes another step.
+        """Raises Failed unless the machine refuses each mutant that takes another step.
 
-        `build` returns a mutant's program.
+        `build` returns the program of a mutant.
         """
         steps = [
             file for file in files if reason_for_no_step(file.read_text(encoding="utf-8")) is None

@@ -1,4 +1,4 @@
-"""Commands that the gate runs."""
+"""Runs the commands of the gate."""
 
 import os
 import shutil
@@ -9,7 +9,7 @@ from dataclasses import dataclass
 from pathlib import Path
 from typing import Any
 
-# How a command is started whose streams are read as one text.
+# Arguments for a command whose two streams are read as one text.
 ONE_TEXT: dict[str, Any] = {
     "stdout": subprocess.PIPE,
     "stderr": subprocess.STDOUT,
@@ -24,7 +24,7 @@ class Failed(Exception):
 
 @dataclass(frozen=True)
 class Finished:
-    """A command that has ended: its status, and the text of both of its streams as it came."""
+    """A command that has ended: its status, and the text of both streams as it was written."""
 
     status: int
     text: str
@@ -36,7 +36,7 @@ class Finished:
 
     @property
     def last_line(self) -> str:
-        """Returns the last line of the text, without blank lines at its end."""
+        """Returns the last line of the text that isn't blank."""
         return self.text.strip().rpartition("\n")[2]
 
 
@@ -61,7 +61,7 @@ def must_run(
     folder: Path,
     environment: Mapping[str, str] | None = None,
 ) -> str:
-    """Runs a command as `run` does and returns its text. Raises Failed, with the text, if it fails."""
+    """Runs a command as `run` does. Returns its text, or raises Failed with it if it fails."""
     ran = run(words, folder, environment)
     if not ran.is_ok:
         command = " ".join(str(word) for word in words)
@@ -74,7 +74,7 @@ def must_show(
     folder: Path,
     environment: Mapping[str, str] | None = None,
 ) -> None:
-    """Runs a command whose output is shown as it comes. Raises Failed if its status isn't 0."""
+    """Runs a command and shows its output as it comes. Raises Failed if its status isn't 0."""
     sys.stdout.flush()
     command = [str(word) for word in words]
     ran = subprocess.run(command, cwd=folder, env=environment, stdin=subprocess.DEVNULL)
@@ -88,7 +88,7 @@ def say(text: str) -> None:
 
 
 def has(tool: str, environment: Mapping[str, str] | None = None) -> bool:
-    """Returns whether a tool is installed. A line says so if it isn't."""
+    """Returns whether a tool is installed. If not, prints a line."""
     path = (os.environ if environment is None else environment).get("PATH")
     if shutil.which(tool, path=path) is None:
         say(f"{tool}: not installed, skipped")
@@ -97,10 +97,10 @@ def has(tool: str, environment: Mapping[str, str] | None = None) -> bool:
 
 
 def status_of(main: Callable[[list[str]], None]) -> int:
-    """Runs a command of the gate on the words after its name, and returns its exit status.
+    """Runs a command of the gate with its arguments, and returns the exit status.
 
-    The text of Failed goes to standard error, and the status is 1 then. The status is also 1 if a
-    file or a folder is missing, or can't be made.
+    If it raises Failed, the text goes to standard error, and the status is 1. The same goes for an
+    OSError: for example, if a file is missing or can't be made.
     """
     try:
         main(sys.argv[1:])

@@ -1,4 +1,4 @@
-"""Proves one crate in a lane, unless a proof is kept, and runs the tests of one."""
+"""Proves a crate in a lane, unless a proof is kept, and runs the tests of a crate."""
 
 import os
 import shutil
@@ -15,7 +15,7 @@ from gate.process import ONE_TEXT, say
 
 @dataclass(frozen=True)
 class Built:
-    """A run of `rt` that proved and built a crate, or failed: its output, and its cost."""
+    """A run of `rt` that proved and built a crate, or failed: its output and its cost."""
 
     status: int
     text: str
@@ -23,7 +23,7 @@ class Built:
 
 
 def command_of(workspace: Workspace, name: str) -> str:
-    """Returns the command of `rt` that proves and builds a crate."""
+    """Returns the `rt` command that proves and builds a crate."""
     return "run" if workspace.is_program(name) else "lib"
 
 
@@ -37,7 +37,7 @@ def product_of(workspace: Workspace, name: str) -> Path:
 
 
 def is_kept(workspace: Workspace, name: str) -> bool:
-    """Returns whether an earlier run proved a crate, and nothing of what it read has changed."""
+    """Returns whether an earlier run proved a crate, and nothing that it read has changed."""
     stamp = workspace.out(name) / "proved"
     if not stamp.exists() or not product_of(workspace, name).exists():
         return False
@@ -45,7 +45,7 @@ def is_kept(workspace: Workspace, name: str) -> bool:
 
 
 def build(lane: Workspace, name: str, jobs: int, nice: int, report: Callable[[str], None]) -> Built:
-    """Proves and builds a crate in its lane with some jobs. Reports the progress."""
+    """Proves and builds a crate in its lane with some jobs, and reports the progress."""
     folder = lane.folder(name)
     words = ["nice", "-n", str(nice), "rt", command_of(lane, name), "--jobs", str(jobs)]
     stdin = folder / "stdin"
@@ -65,7 +65,7 @@ def build(lane: Workspace, name: str, jobs: int, nice: int, report: Callable[[st
 
 
 def bring(made: Path, out: Path) -> None:
-    """Replaces the contents of a crate's out/ by those of its lane."""
+    """Moves what a lane has made into the crate's out/, in place of what was there."""
     for each in made.iterdir():
         old = out / each.name
         if old.is_dir():
@@ -78,7 +78,7 @@ def prove(
 ) -> bool:
     """Proves and builds a crate over those below it, unless a proof is kept.
 
-    Returns whether it is proved. Prints the reason if it isn't, and the cost.
+    Returns whether the crate is proved. Prints the cost, and if it isn't proved, the reason.
     """
     if is_kept(workspace, name):
         return True
@@ -102,7 +102,7 @@ def prove(
 
 
 def run_tests(workspace: Workspace, name: str) -> list[bool]:
-    """Runs the tests of a crate without a proof, and returns for each whether it passed."""
+    """Runs the tests of a crate without proving them, and returns for each whether it passed."""
     ran = process.run(["rt", "try", "--test"], workspace.folder(name))
     if ran.is_ok:
         say(f"test: ran the tests of {name}")

@@ -1,12 +1,12 @@
 """The public names of the crates whose paths, signatures and promises stay from version to version.
 
-`docs/public.txt` has each name as a user writes it. Below a call are its signature and the labels of
-its clauses; below a type what it is, and the traits that it implements; below a trait its ghost
-members. A name that is passed on has one line, with the path under which the page has it first. At
+`docs/public.txt` has each name as a user writes it. Below a call are its signature and the labels
+of its clauses; below a type what it is, and the traits that it implements; below a trait its ghost
+members. If a name is passed on under another path, it has one line, which has the first path. At
 the end is each definition that a clause cites, with its fields.
 
-So a name, a label or a field that is lost fails the check of the pages. `tools/contracts --fix`
-writes the page, and says what it no longer has.
+So if a name, a label or a field is lost, `.ci/pages` fails. `tools/contracts --fix` writes the
+page, and says what the page no longer has.
 """
 
 import re
@@ -17,7 +17,7 @@ from gate.edits import NO_LABEL
 from gate.index import Call, Index, Type, labels_of
 
 PAGE = "docs/public.txt"
-# The crates whose public names stay, each after those whose modules it passes on.
+# The crates whose public names stay. Each comes after those whose modules it passes on.
 CRATES = ("bb_memory_base", "bb_memory", "loan_book")
 
 MODULE = re.compile(r"^pub mod (\w+);", re.M)
@@ -25,15 +25,15 @@ USE = re.compile(r"^pub use ([\w:]+?)(?:::\{([^}]*)\})?;", re.M)
 ITEM = re.compile(r"^pub (?:(?:const|unsafe) )*(fn|struct|enum|type|trait|const) (\w+)", re.M)
 DERIVED = re.compile(r"#\[derive\(([^)]*)\)\]")
 
-# The lines of which each word is an item that can be lost.
+# The lines in which each word is an item that can be lost.
 WORDS = re.compile(r"(requires|ensures|fields|implements|trait with):? (.*)")
 
-# Where a module or an item is declared: the crate, the modules, and the item's own name.
+# The place of a module or an item: the crate, the modules, and the item's own name.
 Path = tuple[str, ...]
 
 
 class Modules:
-    """The modules of a checkout, and the items that each of them makes public."""
+    """The modules of a checkout, with the items that each of them makes public."""
 
     def __init__(self, index: Index) -> None:
         self.texts: Mapping[Path, str] = {
@@ -41,7 +41,7 @@ class Modules:
         }
 
     def exports(self, module: Path) -> dict[str, Path]:
-        """Returns where each public name of a module is declared, except names of libraries."""
+        """Returns for each public name of a module where it is declared, except library names."""
         text = self.texts[module]
         found = {name: (*module, name) for name in MODULE.findall(text)}
         found |= {name: (*module, name) for _, name in ITEM.findall(text)}
@@ -54,13 +54,13 @@ class Modules:
         return found
 
     def add(self, found: dict[str, Path], module: Path, words: list[str]) -> None:
-        """Adds the items that a module passes on by a path, under the path's last name."""
+        """Adds the item that a module passes on by a path, under the last name of the path."""
         target = self.resolved(module, words)
         if target is not None:
             found[words[-1]] = target
 
     def start(self, module: Path, word: str) -> Path | None:
-        """Returns the module that a path begins with, or None if it is one of a library."""
+        """Returns the module with which a path begins, or None if a library has it."""
         starts = {"crate": module[:1], "self": module, "super": module[:-1]}
         for path in (starts.get(word, ()), (*module, word), (word,)):
             if path in self.texts:
@@ -68,7 +68,7 @@ class Modules:
         return None
 
     def resolved(self, module: Path, words: list[str]) -> Path | None:
-        """Returns where the item is declared to which a path in a module leads, or None."""
+        """Returns where the item is declared that a path in a module names, or None."""
         place = self.start(module, words[0])
         for word in words[1:]:
             if place is None:
@@ -79,13 +79,13 @@ class Modules:
 
 
 def without_comments(lines: list[str]) -> str:
-    """Returns lines of a source in one line, without comments and attributes."""
+    """Joins lines of a source into one, without comments and attributes."""
     kept = [rattle.without_comment(line).strip() for line in lines]
     return " ".join(line for line in kept if line and not line.startswith("#["))
 
 
 def text_of_type(index: Index, type: Type) -> str:
-    """Returns the text of a type: its public fields or variants, or the type that it renames."""
+    """Returns the text of a type: with its public fields or variants, or the type that it names."""
     lines = index.texts[f"crates/{type.place.file}"].split("\n")[type.place.line - 1 :]
     if type.item.kind == "type" or lines[0].endswith((";", "}")):
         after = next(number for number, line in enumerate(lines) if line.endswith((";", "}")))
@@ -101,7 +101,7 @@ def text_of_type(index: Index, type: Type) -> str:
 
 
 def traits_of(index: Index, type: Type, crates: Set[str]) -> list[str]:
-    """Returns the traits that a type implements by an attribute or in one of these crates, sorted."""
+    """Returns the traits, sorted, that a type implements by an attribute or in these crates."""
     lines = index.texts[f"crates/{type.place.file}"].split("\n")
     first = type.place.line - 1
     while lines[first - 1].startswith(("#[", "///")):
@@ -115,7 +115,7 @@ def traits_of(index: Index, type: Type, crates: Set[str]) -> list[str]:
 
 
 class Page:
-    """The page that a checkout should have: each name with the lines below it, in order."""
+    """The page that a checkout should have: each name, in order, with the lines below it."""
 
     def __init__(self, index: Index) -> None:
         self.index = index
@@ -193,15 +193,15 @@ def text_of(index: Index) -> str:
 
 
 def fixed(index: Index) -> dict[str, str]:
-    """Returns the page with the text that it should have, if the checkout has one of the crates."""
+    """Returns the page with its right text, if the checkout has one of the crates."""
     text = text_of(index)
     return {PAGE: text} if text else {}
 
 
 def named_lines(text: str) -> list[str]:
-    """Returns each name of the page, and each line below it after that name.
+    """Returns each name in a text of the page, and each line below a name, with that name before.
 
-    A line of labels, fields, traits or ghost members becomes one for each of them.
+    A line of labels, fields, traits or ghost members becomes one line for each of them.
     """
     found = []
     name = ""
@@ -220,17 +220,17 @@ def named_lines(text: str) -> list[str]:
 
 
 def lost(before: str, after: str) -> list[str]:
-    """Returns the items that one text of the page has and another one hasn't."""
+    """Returns the items that are in one text of the page, and not in another one."""
     kept = set(named_lines(after))
     return [line for line in named_lines(before) if line not in kept]
 
 
 def wrong(index: Index) -> Iterator[str]:
-    """Yields the items that the page has and the sources haven't, and those that it lacks."""
+    """Yields the items that only the page has, and those that only the sources have."""
     page, right = index.texts.get(PAGE, ""), text_of(index)
     for line in lost(page, right):
-        yield f"{PAGE}: is no longer so: {line}"
+        yield f"{PAGE}: the sources no longer have: {line}"
     for line in lost(right, page):
         yield f"{PAGE}: lacks (tools/contracts --fix): {line}"
     if page != right and sorted(named_lines(page)) == sorted(named_lines(right)):
-        yield f"{PAGE}: has another order (tools/contracts --fix)"
+        yield f"{PAGE}: isn't in order (tools/contracts --fix)"

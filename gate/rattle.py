@@ -1,7 +1,7 @@
-"""Reads what sources of Rattle declare: calls with their clauses, types, impls and definitions.
+"""Reads what Rattle sources declare: calls with their clauses, types, impls and definitions.
 
-Sources are in the layout of `rt fmt`, by which an item begins at the first column of a line and a
-method four columns further in. That is why no parser of the whole language is needed.
+Sources have the layout of `rt fmt`: an item begins at the first column of a line, and a method four
+columns further in. So this needs no parser for the whole language.
 """
 
 import re
@@ -18,7 +18,7 @@ DOC = re.compile(r" *///? ?(.*)")
 
 @dataclass(frozen=True)
 class Clause:
-    """A clause of a function: its kind, `requires` or `ensures`, its label, or "", and its text."""
+    """A clause of a function: its kind (`requires` or `ensures`), its label or "", and its text."""
 
     kind: str
     label: str
@@ -27,7 +27,7 @@ class Clause:
 
 @dataclass(frozen=True)
 class TypeName:
-    """A type as a source writes it: the name, and its arguments, as in `BucketPool<Words<A>>`."""
+    """A type as a source writes it, such as `BucketPool<Words<A>>`: its name and its arguments."""
 
     name: str
     arguments: tuple["TypeName", ...] = ()
@@ -35,7 +35,7 @@ class TypeName:
 
 @dataclass(frozen=True)
 class Function:
-    """A function's head: its place, the text of its comment, and its clauses, in order.
+    """The head of a function: its place, the text of its comment, and its clauses, in order.
 
     `signature` is the text before the clauses, in one line.
     """
@@ -50,7 +50,7 @@ class Function:
 
 @dataclass(frozen=True)
 class Block:
-    """A trait or an impl: its methods, and which ghost members it defines.
+    """A trait or an impl: its methods, and the ghost members that it defines.
 
     `trait` is empty in an impl of a type's own methods, and `type` is None in a trait.
     """
@@ -65,7 +65,7 @@ class Block:
 
 @dataclass(frozen=True)
 class TypeItem:
-    """A public type: a struct, an enum, or another name for a type, which is then its target."""
+    """A public type: a struct, an enum, or another name for a type, which is its target."""
 
     kind: str
     name: str
@@ -77,7 +77,7 @@ class TypeItem:
 
 @dataclass(frozen=True)
 class Source:
-    """The declarations of a file of `src`. `functions` are those outside traits and impls."""
+    """The declarations of a file in `src`. `functions` has those outside traits and impls."""
 
     functions: tuple[Function, ...]
     blocks: tuple[Block, ...]
@@ -86,7 +86,7 @@ class Source:
 
 @dataclass(frozen=True)
 class Definition:
-    """A definition of a file of `specs`, or a trait's ghost member: its comment and its fields."""
+    """A definition in `specs`, or the ghost member of a trait: its comment and its fields."""
 
     name: str
     line: int
@@ -100,12 +100,12 @@ def first_sentence(text: str) -> str:
 
 
 def without_comment(line: str) -> str:
-    """Returns a line without the comment that ends it."""
+    """Returns a line without the comment at its end."""
     return re.sub(r"(^|\s)//.*", "", line)
 
 
 def closing(text: str, start: int) -> int:
-    """Returns the position after the bracket that closes the one at `start`."""
+    """Returns the position after the bracket that closes the bracket at `start`."""
     depth = 0
     for position in range(start, len(text)):
         if text[position] in "([{":
@@ -118,7 +118,7 @@ def closing(text: str, start: int) -> int:
 
 
 def clauses_of(text: str) -> tuple[Clause, ...]:
-    """Returns the clauses of the function whose head a text without comments begins with."""
+    """Returns the clauses of the function whose head begins a text without comments."""
     found = []
     position = 0
     while position < len(text):
@@ -136,13 +136,13 @@ def clauses_of(text: str) -> tuple[Clause, ...]:
 
 
 def in_one_line(text: str) -> str:
-    """Returns the head of an item in one line, as `rt fmt` writes one that is short."""
+    """Returns the head of an item in one line, as `rt fmt` writes a short head."""
     line = re.sub(r"\s+", " ", text).strip()
     return re.sub(r",? (?=[)>\]])|(?<=[(<\[]) ", "", line)
 
 
 def signature_of(text: str) -> str:
-    """Returns, in one line, the signature of the function whose head a text begins with."""
+    """Returns, in one line, the signature of the function whose head begins a text."""
     position = 0
     while position < len(text):
         if text[position] in "([":
@@ -155,7 +155,7 @@ def signature_of(text: str) -> str:
 
 
 def split_arguments(text: str) -> list[str]:
-    """Splits a list of arguments at its commas, except those within an argument."""
+    """Splits a list of arguments at its commas, except at those within an argument."""
     parts = [""]
     depth = 0
     for character in text:
@@ -171,7 +171,7 @@ def split_arguments(text: str) -> list[str]:
 
 
 def read_type(text: str) -> TypeName:
-    """Reads a type. Its path, references and lifetimes are left out."""
+    """Reads a type, without its path, references and lifetimes."""
     text = re.sub(r"^(?:&(?:'\w+ )?(?:mut )?)+", "", text.strip())
     name, bracket, rest = text.partition("<")
     if not bracket:
@@ -182,7 +182,7 @@ def read_type(text: str) -> TypeName:
 
 
 def generics(text: str) -> tuple[frozenset[str], str]:
-    """Returns the names of the parameters that a text begins with in `<..>`, and what follows."""
+    """Returns the names of the parameters in `<..>` at the beginning of a text, and the rest."""
     text = text.lstrip()
     if not text.startswith("<"):
         return frozenset(), text
@@ -203,7 +203,7 @@ def generics(text: str) -> tuple[frozenset[str], str]:
 
 
 def head_from(lines: list[str], index: int) -> str:
-    """Returns the head of the item that begins at a line, in one line, up to its `{` or `;`."""
+    """Returns, in one line, the head of the item that begins at a line, up to its `{` or `;`."""
     head = ""
     for line in lines[index:]:
         text = without_comment(line).strip()
@@ -214,7 +214,7 @@ def head_from(lines: list[str], index: int) -> str:
 
 
 def read_functions(lines: list[str], first: int, after: int) -> Iterator[Function]:
-    """Yields the functions whose heads are in these lines, counted from 0."""
+    """Yields the functions whose heads are in these lines, which count from 0."""
     comment: list[str] = []
     for index in range(first, after):
         line = lines[index]
@@ -238,7 +238,7 @@ def read_functions(lines: list[str], first: int, after: int) -> Iterator[Functio
 
 
 def read_block(lines: list[str], first: int, after: int) -> Block:
-    """Reads the trait or the impl of these lines, counted from 0."""
+    """Reads the trait or the impl in these lines, which count from 0."""
     head = head_from(lines, first)
     item = ITEM.match(head)
     assert item is not None
@@ -266,7 +266,7 @@ def comment_above(lines: list[str], index: int) -> str:
 
 
 def read_ghosts(lines: list[str], first: int, after: int) -> Iterator[Definition]:
-    """Yields the ghost members that the trait or the impl of these lines defines."""
+    """Yields the ghost members that the trait or the impl in these lines defines."""
     for index in range(first, after):
         ghost = GHOST.match(lines[index])
         if ghost is not None:
@@ -282,7 +282,7 @@ def read_type_item(lines: list[str], index: int, kind: str, name: str) -> TypeIt
 
 
 def read_source(text: str) -> Source:
-    """Reads a file of `src`."""
+    """Reads a file in `src`."""
     lines = text.split("\n")
     functions: list[Function] = []
     blocks: list[Block] = []
@@ -309,7 +309,7 @@ def read_source(text: str) -> Source:
 
 
 def read_definitions(text: str) -> list[Definition]:
-    """Reads a file of `specs`."""
+    """Reads a file in `specs`."""
     found = []
     lines = text.split("\n")
     for index, line in enumerate(lines):

@@ -1,10 +1,13 @@
-"""Shows for each worked row which tests and scripts have it, and fails if a row has none.
+"""Shows which tests and scripts have each worked row, and fails if a row has none.
 
-The rows are the lines `NAME: what it shows` of gate/rows.txt. A test has the rows of a comment
-`// row: NAME, ..` above its `#[test]`, or of a line `//! row: ..` at its module's head. A line
-`NAME | SCRIPT | OUTPUT` of a table has the row of that name, if a test of the file checks it.
-A script of memrun has its row by its name: a worked one in docs/script-format.md, or one below a
-comment of a file of SCRIPTS; `.ci/run-memrun` runs both.
+A row is a worked example that has to be tested: a line `NAME: what it shows` of gate/rows.txt.
+
+- A test has the rows of a comment `// row: NAME, ..` above its `#[test]`, or of a line
+  `//! row: NAME, ..` in the comment at the head of its module.
+- A line `NAME | SCRIPT | OUTPUT` of a table has the row of that name, if a test of the file checks
+  the table.
+- A script of memrun has the rows that docs/script-format.md names above it, or a comment of a file
+  of SCRIPTS. `.ci/run-memrun` runs all of these scripts.
 """
 
 import re
@@ -17,13 +20,13 @@ from gate.process import Failed, say
 
 ROWS = "gate/rows.txt"
 PAGE = "docs/script-format.md"
-# The scripts that `.ci/run-memrun` runs, besides those of the page.
+# The files with further scripts that `.ci/run-memrun` runs.
 SCRIPTS = (".ci/run-memrun", "gate/memrun.py")
 
 
 @dataclass(frozen=True)
 class Claim:
-    """A test or a script that names the rows that it has."""
+    """A test or a script that has a row."""
 
     row: str
     where: str
@@ -42,10 +45,10 @@ class Report:
         if claim.row in self.rows:
             self.places.setdefault(claim.row, []).append(claim.where)
         else:
-            self.wrong.append(f"{claim.where}: {claim.row} is no row of {ROWS}")
+            self.wrong.append(f"{claim.where}: {claim.row} isn't a row of {ROWS}")
 
     def finish(self) -> None:
-        """Finds the rows that nothing has."""
+        """Adds an error for each row that nothing has."""
         for row, shows in self.rows.items():
             if row not in self.places:
                 self.wrong.append(f"no test has {row}: {shows}")
@@ -57,32 +60,32 @@ class Report:
 
 
 def read_rows(text: str) -> dict[str, str]:
-    """Reads the rows, by their names."""
+    """Returns what each row shows, by the name of the row."""
     rows = {}
     for line in text.splitlines():
         name, colon, shows = line.partition(": ")
         if not colon:
-            raise ValueError(f"{ROWS}: isn't `NAME: what it shows`: {line}")
+            raise ValueError(f"{ROWS}: not of the form `NAME: what it shows`: {line}")
         rows[name] = shows
     return rows
 
 
 def names_in(text: str) -> list[str]:
-    """Returns the names of a list of rows."""
+    """Returns the names in a list of rows."""
     return [name.strip() for name in text.split(", ")]
 
 
 def path_of(file: str) -> str:
-    """Returns the path of a module of tests, in the form in which a test is named."""
+    """Returns the path of a module of tests, in the form of a test's name."""
     return "::".join(file.removesuffix(".rt").split("/")).replace("::src::", "::")
 
 
 def marked(path: str, text: str) -> Iterator[Claim | str]:
-    """Yields the rows of comments above tests, and their errors."""
+    """Yields the rows of the comments above tests, and the errors in these comments."""
     for names, rest in re.findall(r"^// row: (.*)\n(?:///? .*\n)*(.*\n.*)", text, re.M):
         test = re.match(r"#\[test\]\nfn (\w+)", rest)
         if test is None:
-            yield f"{path}: no test is below the row {names}"
+            yield f"{path}: no test comes after the row {names}"
         else:
             yield from (Claim(name, f"{path}::{test[1]}") for name in names_in(names))
 
@@ -95,7 +98,7 @@ def of_module(path: str, text: str) -> Iterator[Claim]:
 
 
 def tabled(path: str, text: str, rows: dict[str, str]) -> Iterator[Claim | str]:
-    """Yields the rows of the tables of a file, and the tables that no test checks."""
+    """Yields the rows of the tables in a file, and an error for each table that no test checks."""
     for table, lines in re.findall(r'^const (\w+): &str = "\\\n(.*?)";$', text, re.M | re.S):
         if re.search(rf"#\[test\]\n(?:[^\n]+\n)*?[^\n]*\b{table}\b", text) is None:
             yield f"{path}: no test checks {table}"
@@ -105,7 +108,7 @@ def tabled(path: str, text: str, rows: dict[str, str]) -> Iterator[Claim | str]:
 
 
 def scripts(top: Path) -> Iterator[Claim]:
-    """Yields the rows of the scripts on which memrun is run."""
+    """Yields the rows of the scripts that memrun runs."""
     page = (top / PAGE).read_text(encoding="utf-8")
     for name in re.findall(r"^\*\*.*\(row `([\w-]+)`\)", page, re.M):
         yield Claim(name, PAGE)
@@ -143,4 +146,4 @@ def main(words: list[str]) -> None:
     found = report(TOP)
     say("\n".join(found.lines()))
     if found.wrong:
-        raise Failed("rows: the lines above aren't so")
+        raise Failed("rows: the report above has findings")

@@ -1,17 +1,17 @@
-"""The reader of `rt`'s output. No other file knows the form of its lines."""
+"""Reads the output of `rt`. No other file knows the form of its lines."""
 
 import re
 from collections.abc import Iterator
 from dataclasses import dataclass
 
-# Errors of a proof file that only say that a name is gone, or that another declaration was refused:
-# they show nothing about a contract.
+# Errors in a proof file that only say that a name is gone, or that another declaration was refused.
+# They show nothing about a contract.
 NAME_IS_GONE = re.compile("has no |is not in scope|not admitted|stands on")
 
 
 @dataclass(frozen=True)
 class Verdict:
-    """A check's verdict on one function: the end of its line, and the notes above the line."""
+    """A check's verdict on a function: the end of its line, and the notes above the line."""
 
     text: str
     notes: str
@@ -27,14 +27,14 @@ class Test:
 
 @dataclass(frozen=True)
 class Counts:
-    """The last line of a run: how many passed, and how many failed."""
+    """The numbers in the last line of a run: how many passed, and how many failed."""
 
     passed: int
     failed: int
 
 
 def progress(line: str) -> str | None:
-    """Returns the progress of a check, as `3 of 10`, if a line reports it."""
+    """Returns the progress of a check, such as `3 of 10`, if a line reports it."""
     match = re.match(r"so far: (\d+ of \d+)|checked \S+, (\d+ of \d+)", line)
     if match is None:
         return None
@@ -53,17 +53,17 @@ def verdict_on(path: str, text: str) -> Verdict | None:
 def functions_that_may_wait(text: str) -> list[str]:
     """Returns the functions that are proved, but may wait instead of returning.
 
-    A test may also abort, so it has another line, and isn't meant.
+    Tests aren't included: they may also abort, so their lines are different.
     """
     found = re.findall(r"^fn (.*): proved, may wait", text, re.M)
     return list(dict.fromkeys(found))
 
 
 def open_goals(path: str, text: str) -> list[str]:
-    """Returns the goals of a function that a check left open, and its errors about refused answers.
+    """Returns the goals of a function that a check left open, and the errors of refused answers.
 
-    `path` begins with the crate's name. Answers in the proof files of this function count, except
-    those that are refused because a name is gone.
+    `path` begins with the crate's name. Answers in the proof files of this function count, unless
+    they are refused because a name is gone.
     """
     goals = []
     verdict = verdict_on(path, text)
@@ -77,9 +77,9 @@ def open_goals(path: str, text: str) -> list[str]:
 
 
 def refused_answers(path: str, text: str) -> Iterator[str]:
-    """Yields the errors in the proof files of a function, each in one line."""
+    """Yields the errors in the proof files of a function, each as one line."""
     parts = [re.escape(part) for part in path.split("::")[1:]]
-    # The folder of a function that calls itself begins with a plus.
+    # The name of the folder of a function that calls itself begins with a plus.
     parts[-1] = r"\+?" + parts[-1]
     folder = "/".join(["proofs", *parts])
     pattern = rf"^(?:\./)?{folder}/\w+\.antt:\S+ error: (.*(?:\n  .*)*)"
@@ -88,18 +88,18 @@ def refused_answers(path: str, text: str) -> Iterator[str]:
 
 
 def compile_errors(text: str) -> list[str]:
-    """Returns the errors that end a check before any proof because a text isn't a program."""
+    """Returns the errors that end a check before any proof, since a text isn't a program."""
     return re.findall(r"^(?:\S+ error\[[\w-]+\]|rattle: error): .*", text, re.M)
 
 
 def tests(text: str) -> list[Test]:
-    """Returns the tests that have run, in their order."""
+    """Returns the tests that have run, in order."""
     found = re.findall(r"^test (\S+) \.\.\. (\w+)", text, re.M)
     return [Test(name, word == "ok") for name, word in found]
 
 
 def counts(text: str) -> Counts | None:
-    """Returns the numbers in the last line of a run, if it has some."""
+    """Returns the numbers in the last line of a run, if there are any."""
     match = re.fullmatch(r"(\d+) passed, (\d+) failed", text.strip().rpartition("\n")[2])
     if match is None:
         return None

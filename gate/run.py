@@ -1,8 +1,8 @@
-"""The merge gate, `.ci/run`: all that a change has to pass.
+"""The merge gate, `.ci/run`: everything that a change has to pass.
 
-That is the toolchain's gate `rt ci`, which proves all crates and tests from nothing, and beside it
-the gate's own tests, pages, layout, `./test`, mutants, C plainly and under each checker, and the
-Rust crate. OOM tests run on what `rt ci` built.
+That is `rt ci`, the gate of the toolchain, which proves all crates and tests from nothing. Beside
+it run the gate's own tests, `.ci/pages`, the checks of layout, `./test`, the mutants, C without and
+with each checker, and the Rust crate. Last, the OOM tests run on what `rt ci` has built.
 """
 
 import os
@@ -22,17 +22,17 @@ from gate.crates import TOP, Workspace
 from gate.process import Failed, must_run, must_show, say, status_of
 from gate.temporary import temporary_folder
 
-# The word that a library needs to wait, and the kit's trait that brings it.
+# The word that code needs in order to wait, and the trait of the kit that brings it.
 WAIT = re.compile(r"\bWait(?:Methods)?\b")
-# The library that `./test` has built.
+# The library that `./test` builds.
 LIBRARY = "crates/bb_memory_c/out/libbb_memory_c.a"
 
 
 def waiting_lines(workspace: Workspace) -> list[str]:
     """Returns the lines of sources that name Wait, each with its place.
 
-    With a function that may wait, a lock could be put around an allocator. Tests join threads by
-    the promise that started them.
+    A function that may wait could put a lock around an allocator. Tests don't need Wait: they join
+    threads by the promise that started them.
     """
     found = []
     for name in workspace.crates:
@@ -61,9 +61,9 @@ def refuse_waiting_functions(log: str) -> None:
 
 
 def copy_for_rt(top: Path, copy: Path) -> None:
-    """Copies the files that `rt ci` reads, without mutants.
+    """Copies the files that `rt ci` reads, without the mutants.
 
-    For each mutant it would prove a crate once more. `.ci/mutants` judges them.
+    For each mutant, `rt ci` would prove a crate once more. `.ci/mutants` judges them instead.
     """
     copy.mkdir()
     for file in ("HANDLES", "crates.txt"):
@@ -73,9 +73,9 @@ def copy_for_rt(top: Path, copy: Path) -> None:
 
 
 class Background:
-    """A command that runs beside others. Its output goes to a file, or to the gate's own.
+    """A command that runs beside others. Its output goes to a file, or to the gate's output.
 
-    It leads a process group of its own, so that it can be ended with all that it has started.
+    It leads a process group of its own, so that it can be ended with everything that it started.
     """
 
     def __init__(self, words: Sequence[str | Path], folder: Path, log: Path | None) -> None:
@@ -93,27 +93,27 @@ class Background:
             )
 
     def text(self) -> str:
-        """Returns the contents of the file with the output."""
+        """Returns the contents of the output file."""
         if self.log is None:
             return ""
         return self.log.read_text(encoding="utf-8", errors="replace")
 
     def finish(self) -> str:
-        """Waits for the end, and returns the output. Raises Failed, with the output, if it fails."""
+        """Waits for the end, and returns the output. Raises Failed with it if it fails."""
         status = self.process.wait()
         if status != 0:
             raise Failed(f"{self.text().rstrip()}\nstatus {status}: {self.command}".strip())
         return self.text()
 
     def end(self) -> None:
-        """Ends the command if it still runs, and with it what it has started."""
+        """Ends the command, and everything that it started, if it still runs."""
         if self.process.poll() is None:
             os.killpg(self.process.pid, signal.SIGTERM)
             self.process.wait()
 
 
 def show_until_end(command: Background, log: Path, beginning: str) -> None:
-    """Shows the lines of a command's output that begin with a text, old and new, until it ends."""
+    """Shows the output lines of a command that begin with a text, old and new, until it ends."""
     with log.open(encoding="utf-8", errors="replace") as output:
         rest = ""
         has_ended = False
@@ -131,7 +131,7 @@ def show_until_end(command: Background, log: Path, beginning: str) -> None:
 def background(
     words: Sequence[str | Path], folder: Path, log: Path | None = None
 ) -> Iterator[Background]:
-    """Starts a command beside others, and ends it at the end if it still runs."""
+    """Starts a command beside others. At the end of the block, ends it if it still runs."""
     started = Background(words, folder, log)
     try:
         yield started
@@ -147,7 +147,7 @@ def test_gate(top: Path) -> None:
 
 
 def show_rows(top: Path) -> None:
-    """Checks that each worked row has a test, and shows the end of the report."""
+    """Checks that each worked row has a test. Shows the end of the report."""
     lines = must_run([top / ".ci/rows"], top).splitlines()
     say("\n".join(lines[-5:]))
 
@@ -164,7 +164,7 @@ def check_texts(top: Path) -> None:
 
 
 def run_commands(top: Path, work: Path) -> str:
-    """Runs `rt ci` and, beside it, everything else of the gate that doesn't need its results.
+    """Runs `rt ci`, and beside it the parts of the gate that don't need its results.
 
     Returns the output of `rt ci`. Raises Failed if a command fails.
     """
@@ -181,7 +181,7 @@ def run_commands(top: Path, work: Path) -> str:
 def run(top: Path) -> None:
     """Runs the gate on a checkout. Raises Failed if something fails.
 
-    The last line that it prints is the one of `rt ci`.
+    The last line that it prints is the last line of `rt ci`.
     """
     began = time.monotonic()
     with temporary_folder() as work:
@@ -194,7 +194,7 @@ def run(top: Path) -> None:
 
 
 def end(number: int, frame: FrameType | None) -> None:
-    """Ends the gate at a signal, and the commands that it has started."""
+    """Ends the gate, and the commands that it has started, at a signal."""
     raise Failed(f"run: ended by signal {number}")
 
 

@@ -1,4 +1,4 @@
-"""The scheduler: which crate is proved when, and with how many jobs of `rt`."""
+"""The scheduler, which decides when each crate is proved, and with how many jobs of `rt`."""
 
 from collections.abc import Callable, Collection, Mapping, Sequence
 from concurrent.futures import FIRST_COMPLETED, Future, ThreadPoolExecutor, wait
@@ -13,8 +13,9 @@ MOST_JOBS = 3
 class Plan:
     """The work to do: crates to prove, in the order of crates.txt, and crates of tests to run.
 
-    `below` has for each crate all crates on which it depends; a crate is proved once all of these
-    are done. Others wait for a large crate, and it gets processors that no other can use.
+    `below` has for each crate all crates on which it depends. A crate is proved once all of these
+    are done. Other crates wait for each `large` crate, so that one gets the processors that no
+    other crate can use.
     """
 
     proves: Sequence[str]
@@ -28,8 +29,8 @@ class Plan:
 class Scheduler:
     """Proves the crates of a plan side by side, and runs tests beside them.
 
-    `prove` proves one crate with some jobs, and returns whether it is proved. `test` runs the tests
-    of one crate, and returns for each whether it passed.
+    `prove` proves one crate with a number of jobs, and returns whether the crate is proved. `test`
+    runs the tests of one crate, and returns for each whether it passed.
     """
 
     def __init__(
@@ -47,7 +48,7 @@ class Scheduler:
         self.results: dict[str, list[bool]] = {}
 
     def ready(self) -> list[str]:
-        """Returns the crates that have not begun, and below which all are done or have failed."""
+        """Returns the crates that haven't begun, and below which all are done or have failed."""
         return [
             name
             for name in self.plan.proves
@@ -61,10 +62,10 @@ class Scheduler:
         return [name for name in self.running.values() if name in self.jobs]
 
     def jobs_for(self, name: str) -> int:
-        """Returns with how many jobs a crate that is ready is proved.
+        """Returns the number of jobs with which to prove a crate that is ready.
 
-        That is one, and for a large crate also each processor that neither a running job nor
-        another ready crate takes.
+        That is one. A large crate also gets one for each processor that neither a running job nor
+        another ready crate takes, up to MOST_JOBS.
         """
         if name not in self.plan.large:
             return 1
@@ -73,7 +74,7 @@ class Scheduler:
         return min(1 + free, MOST_JOBS)
 
     def start(self, name: str) -> None:
-        """Starts to prove a crate, or gives it up if one below has failed."""
+        """Starts to prove a crate, or gives it up if a crate below it has failed."""
         if not all(all(self.results[each]) for each in self.plan.below[name]):
             self.results[name] = [False]
             return
@@ -90,10 +91,10 @@ class Scheduler:
             self.start(ready[0])
 
     def run(self, wait_longer: Callable[[list[str]], None]) -> dict[str, list[bool]]:
-        """Does all of the plan, and returns for each crate whether it, or each test, succeeded.
+        """Carries out the plan. Returns for each crate whether it was proved, or its tests passed.
 
-        `wait_longer` is called with the names of the running work if none of it has ended for 30
-        seconds.
+        If no crate has finished for 30 seconds, `wait_longer` is called with the names of those
+        that are running.
         """
         with self.pool:
             for name in self.plan.tests:

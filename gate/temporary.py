@@ -9,10 +9,10 @@ from pathlib import Path
 
 @contextmanager
 def temporary_folder() -> Iterator[Path]:
-    """Makes a folder below TMPDIR, or otherwise /tmp, and removes it at the end.
+    """Makes a folder below TMPDIR, or below /tmp if that isn't set, and removes it at the end.
 
-    Raises an OSError if none can be made. No other place is tried, so a script never goes on with a
-    name that isn't its own.
+    Raises an OSError if the folder can't be made. No other place is tried, so a script never goes
+    on with a name that isn't its own.
     """
     parent = os.environ.get("TMPDIR") or "/tmp"
     with tempfile.TemporaryDirectory(dir=parent) as made:

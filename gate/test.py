@@ -1,13 +1,14 @@
-"""All tests: `./test` proves each crate but those of tests, and runs tests, scripts and examples.
+"""Proves and tests the crates: `./test [NAME..]`.
 
-It runs every `#[test]`, memrun on its stored script and on scripts of each status, and the examples
-in C if there is a C compiler. `./test NAME..` does this for some crates and for those below them. A
-test needs no proof to fail: `rt try` runs it at once, and .ci/run proves that it is safe and ends.
+`./test` proves each crate except those of tests, and runs all tests: every `#[test]`, memrun on its
+stored script and on scripts of each status, and the examples in C if there is a C compiler.
+`./test NAME..` does this for some crates and for those below them, without the examples. A test
+runs without a proof: `rt try` runs it at once, and .ci/run proves that it is safe and ends.
 
-At most as many crates are proved side by side as there are processors, those that are higher in
-crates.txt first. What is made is in crates/*/out, and is kept while nothing that its proof read has
-changed: the next `./test`, `rt check` of a crate above and `make install` prove it no more. All else
-that a change has to pass is in .ci/run, the merge gate.
+Crates are proved side by side, at most as many as there are processors, and first those that are
+higher in crates.txt. The results are in crates/*/out. They are kept until something changes that
+the proof has read. So the next `./test`, `rt check` of a crate above, and `make install` prove
+nothing again. Everything else that a change has to pass is in .ci/run, the merge gate.
 """
 
 import os
@@ -25,14 +26,14 @@ from gate.temporary import temporary_folder
 
 # The hash of the logic that the proofs are for.
 LOGIC = "dac8208d650f15bf"
-# A crate of at least this many files is large: more than one job proves it sooner.
+# A crate with at least this many files is large: it is proved sooner with more than one job.
 LARGE = 10
-# The most memory that a check takes, in kilobytes.
+# The most memory that one check takes, in kilobytes.
 CHECK_TAKES = 4_000_000
 
 
 def most_at_once() -> int:
-    """Returns how many crates are proved at a time: as processors and available memory allow."""
+    """Returns how many crates may be proved at once, by processors and available memory."""
     text = Path("/proc/meminfo").read_text(encoding="utf-8")
     available = re.search(r"MemAvailable: +(\d+)", text)
     if available is None:
@@ -41,7 +42,7 @@ def most_at_once() -> int:
 
 
 def wanted_crates(workspace: Workspace, names: Sequence[str]) -> list[str]:
-    """Returns the crates with these names and those below them; all crates if no name is given."""
+    """Returns the crates with these names and those below them, or all crates without a name."""
     for name in names:
         if name not in workspace.crates:
             raise Failed(f"test: crates.txt has no {name}")
@@ -70,7 +71,7 @@ class Test:
         self.how_far: dict[str, str] = {}
 
     def prove(self, name: str, jobs: int) -> bool:
-        """Proves a crate. If processors are few, those that are higher in crates.txt come first."""
+        """Proves a crate. If processors are few, those higher in crates.txt come first."""
 
         def report(how_far: str) -> None:
             self.how_far[name] = how_far
@@ -83,19 +84,19 @@ class Test:
         return prove.run_tests(self.workspace, name)
 
     def say_how_far(self, names: Sequence[str]) -> None:
-        """Prints the running work, and its progress."""
+        """Prints which crates are running, and how far they are."""
         running = ", ".join(f"{name} {self.how_far.get(name, '')}".strip() for name in names)
         say(f"test: {time.monotonic() - self.began:.0f} s: {running}")
 
     def crates(self, plan: Plan) -> list[bool]:
-        """Proves crates and runs tests, and returns for each whether it succeeded."""
+        """Proves crates and runs tests. Returns for each whether it succeeded."""
         results = Scheduler(plan, self.prove, self.run_tests).run(self.say_how_far)
         return [is_ok for each in results.values() for is_ok in each]
 
     def part(self, what: str, words: Sequence[str | Path]) -> list[bool]:
         """Runs a part of the tests on the built files.
 
-        Returns for each test that its last line counts that it passed.
+        Its last line has the number of tests. Returns that each of them passed, or one failure.
         """
         say(f"test: {what}")
         ran = process.run(words, self.workspace.top)
@@ -111,34 +112,34 @@ class Test:
     def examples(self) -> list[bool]:
         """Builds and runs the examples in C over the library that was proved."""
         with temporary_folder() as work:
-            # `make` splits a path at a blank, and the path of a checkout may have some.
+            # The path of a checkout may have blanks, at which `make` would split it.
             library = work / "libbb_memory_c.a"
             shutil.copy2(self.workspace.out("bb_memory_c") / library.name, library)
             given = [f"LIBRARY={library}", f"WORK={work}"]
             make = ["make", f"-sj{CORES}", "-C", "examples/c", "plain", *given]
-            return self.part("runs the examples in C", make)
+            return self.part("running the examples in C", make)
 
     def run(self, names: Sequence[str]) -> list[bool]:
-        """Tests these crates and those below them, or all. Returns whether each part succeeded."""
+        """Tests these crates and those below them, or all. Returns whether each part passed."""
         wanted = wanted_crates(self.workspace, names)
         plan = plan_of(self.workspace, wanted)
         say(
-            f"test: proves {' '.join(plan.proves)}, by {CORES} processors, after any other run here"
+            f"test: proving {' '.join(plan.proves)} on {CORES} processors, after any other run here"
         )
         with self.workspace.lock():
             results = self.crates(plan)
             if all(results) and "memrun" in wanted:
-                results += self.part("runs memrun on scripts", [TOP / ".ci/run-memrun"])
+                results += self.part("running memrun on scripts", [TOP / ".ci/run-memrun"])
             if all(results) and not names and process.has("cc") and process.has("make"):
                 results += self.examples()
         return results
 
 
 def main(names: list[str]) -> None:
-    """Runs `./test NAME..`."""
+    """Runs `./test [NAME..]`."""
     say(f"test: {kit()}")
     if not kit().endswith(f" logic {LOGIC}"):
-        say(f"test: warning: tried with logic {LOGIC}; under another one a check may fail")
+        say(f"test: warning: made for logic {LOGIC}; with another one, a check may fail")
     test = Test(Workspace(TOP))
     results = test.run(names)
     used = os.times()
@@ -147,4 +148,4 @@ def main(names: list[str]) -> None:
     counted = f"{results.count(True)} passed, {results.count(False)} failed"
     say(counted)
     if not all(results):
-        raise Failed("test: not all passed")
+        raise Failed("test: not everything passed")

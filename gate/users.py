@@ -1,4 +1,4 @@
-"""Tests and examples that use a call, found by its name and by the names of its type."""
+"""Finds the tests and examples that use a call, by its name and by the names of its type."""
 
 import re
 from collections.abc import Iterator, Mapping
@@ -6,7 +6,7 @@ from dataclasses import dataclass
 
 from gate.index import Call, Index
 
-# Where tests and examples are: their files, and the form of a function's head there.
+# Where tests and examples are: the kind, the files, and the head of a function there.
 RATTLE = re.compile(r" *(?:pub )?fn (\w+)")
 C = re.compile(r"(?:\w+[ *]+)+(\w+)\(.*\) \{$")
 PLACES = (
@@ -19,7 +19,7 @@ PLACES = (
 
 @dataclass(frozen=True)
 class User:
-    """A function of a test or an example, with its text."""
+    """A function of a file with tests or examples, with its text."""
 
     name: str
     text: str
@@ -36,7 +36,7 @@ class UserFile:
 
 
 def users_in(text: str, head: re.Pattern[str]) -> Iterator[User]:
-    """Yields the functions of a text, each up to the next one's head."""
+    """Yields the functions of a text. Each ends before the head of the next one."""
     name = ""
     lines: list[str] = []
     for line in text.split("\n"):
@@ -61,7 +61,7 @@ def user_files(texts: Mapping[str, str]) -> Iterator[UserFile]:
 
 
 def names_of_owner(index: Index, call: Call) -> set[str]:
-    """Returns the names of the types whose call of this name has the same body or contract."""
+    """Returns the names of the types that have this call: the same body or the same contract."""
     found = {call.owner}
     for other in index.inherited:
         if other.name == call.name and call.place in (other.place, other.contract):
@@ -78,8 +78,8 @@ def names_of_others(index: Index, call: Call, owners: set[str]) -> set[str]:
 def lines_of(index: Index, call: Call) -> list[str]:
     """Returns a line for each file whose tests or examples use a call.
 
-    A method is looked for in functions that name its type, and in all functions of a file that
-    names no other type with a method of this name.
+    A method is looked for in each function that names its type. If the file names its type, and no
+    other type with a method of this name, the method is looked for in all functions of the file.
     """
     owners = names_of_owner(index, call)
     others = names_of_others(index, call, owners)

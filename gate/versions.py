@@ -1,4 +1,4 @@
-"""The version, which `bb_memory.h` has as BB_VERSION, in all files that repeat it."""
+"""The version, BB_VERSION of `bb_memory.h`, and its copies in other files."""
 
 import re
 from collections.abc import Iterator, Mapping
@@ -6,21 +6,21 @@ from collections.abc import Iterator, Mapping
 HEADER = "crates/bb_memory_c/bb_memory.h"
 VERSION = re.compile(r'^#define BB_VERSION "([\d.]+)"', re.M)
 CHANGES = "CHANGELOG.md"
-# The text before the version, the version, and the text after it, in each file that repeats it.
+# Patterns of the text before the version, the version, and the text after it, in each file.
 COPIES = {
     "bindings/rust/Cargo.toml": re.compile(r'(^\[package\]\nname = .*\nversion = ")(.*)(")', re.M),
     "bindings/rust/Cargo.lock": re.compile(r'(^name = "bb_memory"\nversion = ")(.*)(")', re.M),
 }
-# The same in the name of a file of the release, which a page may have.
+# The same for the name of a release file, which a page may have.
 RELEASE = re.compile(r"(\bbb_memory-|libbb_memory\.so\.)(\d+\.\d+\.\d+)()")
 PARTS = ("MAJOR", "MINOR", "PATCH")
 PAGE = re.compile(r"[A-Z]+\.md|docs/\w+\.md|bindings/rust/\w+\.md|crates/\w+/\w+\.md")
-# The version of the crate that this is a port of, and the last one before those of CHANGELOG.md.
+# The version of the ported crate, and the last version before those in CHANGELOG.md.
 OTHERS = ("0.9.3", "0.14.0")
 
 
 def version_of(texts: Mapping[str, str]) -> str:
-    """Returns the version that the header has."""
+    """Returns the version in the header."""
     match = VERSION.search(texts[HEADER])
     if match is None:
         raise ValueError(f"{HEADER}: has no BB_VERSION")
@@ -28,14 +28,14 @@ def version_of(texts: Mapping[str, str]) -> str:
 
 
 def pages(texts: Mapping[str, str]) -> Iterator[str]:
-    """Yields the pages except CHANGELOG.md."""
+    """Yields all pages except CHANGELOG.md."""
     for path in sorted(texts):
         if PAGE.fullmatch(path) and path != CHANGES:
             yield path
 
 
 def copies(texts: Mapping[str, str]) -> Iterator[tuple[str, re.Pattern[str], str]]:
-    """Yields each file that repeats the version, the text with it, and the right version."""
+    """Yields each file with a copy of the version, the copy's pattern, and the right version."""
     version = version_of(texts)
     for name, number in zip(PARTS, version.split(".")):
         yield HEADER, re.compile(rf"(^#define BB_VERSION_{name} )(\d+)($)", re.M), number
@@ -46,21 +46,22 @@ def copies(texts: Mapping[str, str]) -> Iterator[tuple[str, re.Pattern[str], str
 
 
 def wrong(texts: Mapping[str, str]) -> Iterator[str]:
-    """Yields each place that has another version than the header, and what CHANGELOG.md lacks."""
+    """Yields each copy that differs from the header's version, and the errors in CHANGELOG.md."""
     for file, pattern, right in copies(texts):
         found = pattern.findall(texts[file])
         if not found and pattern is not RELEASE:
-            yield f"{file}: the version isn't where it is looked for"
+            yield f"{file}: has no version at the expected place"
         for _, number, _ in found:
             if number != right:
-                yield f"{file}: version {number} and not {right} (tools/contracts --fix)"
+                yield f"{file}: version {number}, not {right} (tools/contracts --fix)"
     yield from wrong_changes(texts)
 
 
 def wrong_changes(texts: Mapping[str, str]) -> Iterator[str]:
     """Yields the errors in the versions that CHANGELOG.md lists.
 
-    The newest one is the header's, each older one names its commit, and a page names no other one.
+    The newest one has to be the header's, and each older one has to name its commit. Pages may name
+    no other version.
     """
     headings = re.findall(r"^## (\d+\.\d+\.\d+)(.*)$", texts[CHANGES], re.M)
     versions = [version for version, _ in headings]
@@ -76,7 +77,7 @@ def wrong_changes(texts: Mapping[str, str]) -> Iterator[str]:
 
 
 def fixed(texts: Mapping[str, str]) -> dict[str, str]:
-    """Returns the files that repeat the version, with the right one."""
+    """Returns the files that repeat the version, with the right version."""
     found: dict[str, str] = {}
     for file, pattern, right in copies(texts):
         text = found.get(file, texts[file])

@@ -1,8 +1,8 @@
-"""Words that crept in and that a native speaker of English would not use in these places.
+"""Finds words that crept in, and that a native speaker of English would not use in these places.
 
-Pages, the comments of the headers for C and C++, and doc comments have none of them, except for the
-uses that ALLOWED names. Code isn't looked at. A word is here only if it can be found by a pattern
-that rarely finds anything else.
+Pages, the comments of the headers for C and C++, and doc comments may have none of them, except for
+the uses that ALLOWED names. Code isn't checked. A word is listed only if a pattern can find it that
+rarely matches anything else.
 """
 
 import re
@@ -12,18 +12,18 @@ from dataclasses import dataclass
 
 @dataclass(frozen=True)
 class Word:
-    """A pattern, in which a blank may also be the end of a line, and what to write instead."""
+    """A pattern, in which a blank also matches a line break, and what to write instead."""
 
     pattern: str
     instead: str
 
     def compiled(self) -> re.Pattern[str]:
-        """Returns the pattern as one that finds it in prose."""
+        """Returns the compiled pattern, for prose that may have line breaks."""
         return re.compile(self.pattern.replace(" ", r"(?: +|\n[ ]*)"))
 
 
-# A condition has one of these subjects and one of these verbs. If `where` comes after a comma, or if
-# nothing or one of the words of PLACED comes after the verb, it is mostly a place.
+# In a condition, one of these subjects and one of these verbs come after `where`. It mostly means a
+# place if it comes after a comma, or if nothing or a word of PLACED comes after the verb.
 NOT_A_PLACE = r"(?<!,\s)"
 SUBJECT = r"(?:it|this|that|they|these|each|every|all|both|neither|some|any|the|a|an|its)"
 IS = r"(?:is|are|isn't|aren't|was|were)"
@@ -54,29 +54,29 @@ WORDS = (
     Word(rf"{NOT_A_PLACE}\b[Ww]here {SUBJECT} (?:[\w'-]+ ){{0,4}}?{IS}\b{NOT_PLACED}", "if"),
 )
 
-# Uses that are right, each by a phrase that has the word.
+# Phrases in which such a word is right.
 ALLOWED = ("Where a peer is quicker",)
 
 PAGE = re.compile(r".*\.md")
-# The page of which only the newest version's part is looked at: what older ones have was published.
+# The page of which only the part of the newest version is checked: the others are published.
 CHANGES = "CHANGELOG.md"
 HEADER = re.compile(r"crates/bb_memory_c/bb_\w+\.(?:h|hpp)")
 DOCUMENTED = re.compile(r"crates/.*/src/.*\.rt|bindings/rust/src/.*\.rs")
 
 
 def blank(text: str) -> str:
-    """Returns as many ends of lines as a text has, so that lines keep their numbers."""
+    """Returns only the line breaks of a text, so that the lines after it keep their numbers."""
     return "\n" * text.count("\n")
 
 
 def prose_of_page(page: str) -> str:
-    """Returns a page without its blocks of code."""
+    """Returns a page without its code blocks."""
     fenced = re.sub(r"^ *```.*?^ *```$", lambda found: blank(found[0]), page, flags=re.M | re.S)
     return re.sub(r"^ {4}[^\n]*$", "", fenced, flags=re.M)
 
 
 def prose_of_comments(source: str, mark: str) -> str:
-    """Returns the texts of the comments of a source, each on its line."""
+    """Returns the texts of the comments in a source, each on its own line."""
     lines = []
     for line in source.split("\n"):
         found = re.search(rf"{mark} ?(.*)", line)
@@ -85,7 +85,7 @@ def prose_of_comments(source: str, mark: str) -> str:
 
 
 def prose_of(path: str, text: str) -> str:
-    """Returns what a file has to read, or nothing if its words aren't looked at."""
+    """Returns the prose of a file, or nothing if its words aren't checked."""
     prose = ""
     if path == CHANGES:
         prose = prose_of_page("\n## ".join(text.split("\n## ")[:2]))
@@ -95,12 +95,12 @@ def prose_of(path: str, text: str) -> str:
         prose = prose_of_comments(text, r"(?:^|\s)//")
     elif DOCUMENTED.fullmatch(path):
         prose = prose_of_comments(text, r"^\s*//[/!]")
-    # Code in a sentence is a name, which is no word.
+    # Code in a sentence is a name, and not a word.
     return re.sub(r"`[^`\n]+`", "`_`", prose)
 
 
 def spans(phrases: Collection[str], prose: str) -> Iterator[tuple[int, int]]:
-    """Yields where phrases are in a text."""
+    """Yields the start and the end of each phrase in a text."""
     for phrase in phrases:
         pattern = re.escape(phrase).replace(r"\ ", r"\s+")
         for found in re.finditer(pattern, prose):
@@ -108,7 +108,7 @@ def spans(phrases: Collection[str], prose: str) -> Iterator[tuple[int, int]]:
 
 
 def wrong(texts: Mapping[str, str], allowed: Collection[str] = ALLOWED) -> Iterator[str]:
-    """Yields each use of a word that isn't allowed."""
+    """Yields each use of a listed word that isn't allowed."""
     patterns = [(word, word.compiled()) for word in WORDS]
     for path, text in sorted(texts.items()):
         prose = prose_of(path, text)
@@ -125,11 +125,11 @@ def wrong(texts: Mapping[str, str], allowed: Collection[str] = ALLOWED) -> Itera
 
 
 def unused(texts: Mapping[str, str], allowed: Collection[str] = ALLOWED) -> Iterator[str]:
-    """Yields each allowed phrase that no text has, or in which no word has to be allowed."""
+    """Yields each allowed phrase that is in no text, or that needs no allowance."""
     proses = [prose_of(path, text) for path, text in texts.items()]
     patterns = [word.compiled() for word in WORDS]
     for phrase in allowed:
         if not any(pattern.search(phrase) for pattern in patterns):
             yield f"gate/wording.py: an allowed phrase that needs no allowance: {phrase}"
         elif not any(next(spans([phrase], prose), None) for prose in proses):
-            yield f"gate/wording.py: an allowed phrase that no text has: {phrase}"
+            yield f"gate/wording.py: an allowed phrase that is in no text: {phrase}"

@@ -1,12 +1,14 @@
 // bb_memory: allocators over a region of memory that the host owns. The host is the program that
 // uses this library.
 
-// For C99 or later and C++11 or later, on Linux with an x86-64-v2 processor. bb_memory.hpp has
-// owners for C++17. The contract of each exported function but `bb_use_memory` is proved, for every
-// caller that keeps the rules below.
+// For C99 or later and C++11 or later, on Linux with an x86-64-v2 processor. bb_memory.hpp adds
+// owners for C++17: objects that free what they hold when they go out of scope.
+
+// The contract of each exported function of this header, except `bb_use_memory`, is proved for
+// every caller that keeps the rules below.
 
 // EXAMPLE
-//
+
 //     #include <stdio.h>
 //     #include <string.h>
 //     #include "bb_memory.h"
@@ -26,14 +28,33 @@
 //         memset(chunk.place, 0, 48);
 //         if (bb_pool_deallocate(&pool, chunk.place) != BB_OK)
 //             return 1;
-//         if (bb_pool_deallocate(&pool, chunk.place) == BB_OK)  // a second return is refused
+//         if (bb_pool_deallocate(&pool, chunk.place) == BB_OK)  // a second free is refused
 //             return 1;
 //         bb_pool_destroy(&pool);
 //         return 0;
 //     }
 
+// TERMS
+
+// Region: the memory over which an allocator is made.
+
+// Chunk: the part of a region that one call has allocated.
+
+// Bucket: one of the equal parts into which a pool divides its region. In a pool, each chunk has a
+// bucket of its own. A bucket is held from its allocation until it is freed or detached.
+
+// Place: where a region, a bucket or a chunk begins.
+
+// Handle: a variable of the host that stands for an allocator, a party or a `bb_detached`. It is
+// empty until `init` or `join` fills it, and again after `destroy` or `leave`.
+
+// Party: one thread's access to a bump or a pool that threads share. It has a handle of its own.
+
+// Detached bucket: a bucket on its way from one party to another. No party holds it until a party
+// attaches it.
+
 // HANDLES
-//
+
 // | Handle                            | Allocates                        | Frees             |
 // |-----------------------------------|----------------------------------|-------------------|
 // | `bb_bump`                         | one chunk after another          | all at once       |
@@ -43,16 +64,18 @@
 // | `bb_shared_pool`, `bb_pool_party` | as a pool, for threads           | each by its party |
 // | `bb_detached`                     | nothing: it carries a bucket     |                   |
 
-// Sizes and alignments are in bytes. No function reads or writes a byte of a region. Chunks that
-// are in use lie inside the region, at multiples of the requested alignment, and never overlap.
+// Sizes and alignments are in bytes. No function reads or writes a byte of a region.
+
+// Chunks that are in use lie inside the region, at multiples of the requested alignment, and never
+// overlap.
 
 // RULES
-//
+
 // No function checks these rules. Breaking one may give a chunk to two holders, or corrupt the
 // library's memory. The most dangerous ones come first.
 
-//  1. Only one call at a time uses a handle. A data race on a handle is undefined behaviour, and
-//     may give one chunk twice. Threads that call at the same time each have a party, or use a
+//  1. Only one call at a time uses a handle. A data race on a handle is undefined behavior, and
+//     may allocate one chunk twice. Threads that call at the same time each have a party, or use a
 //     lock.
 
 //  2. Pass a handle to another thread only with synchronization: by a lock, an atomic, or the start
@@ -61,46 +84,46 @@
 //  3. Free each chunk once. A second free is refused until the place is allocated again; from then
 //     on it takes the chunk from its new holder.
 
-//  4. A region serves one allocator at a time. The host keeps the region while a chunk in it is in
-//     use. A region may be a chunk of another allocator. That chunk then serves nothing else, and
-//     is freed only after the inner allocator is destroyed.
+//  4. A region serves one allocator at a time, and the host keeps the region as long as a chunk in
+//     it is in use. A region may be a chunk of another allocator. That chunk then serves nothing
+//     else, and is freed only after the inner allocator is destroyed.
 
-//  5. While a shared pool or bump exists, no other one may have the same start, not even one that
-//     lies in a chunk of the first. Parties and detached buckets are recognized by that start,
-//     which `info` stores as `start_address`. `bb_shared_pool_abandon` and
-//     `bb_shared_bump_abandon` say how long an abandoned one exists.
+//  5. No two shared pools that exist at the same time may have the same start, even if one lies in
+//     a chunk of the other; nor may two shared bumps. Calls recognize parties and detached buckets
+//     by that start, which `info` reports as `start_address`. The comments of
+//     `bb_shared_pool_abandon` and `bb_shared_bump_abandon` say how long an abandoned one exists.
 
-//  6. A handle is a variable with both fields zero before its first use: `bb_pool pool =
-//     BB_EMPTY;`. It is passed by its address, which is never null.
+//  6. A handle has both fields zero before its first use: `bb_pool pool = BB_EMPTY;`. It is passed
+//     by its address, which is never null.
 
-//  7. Only the functions of this library write a handle, and it keeps its kind. A compiler refuses
-//     a handle of another kind, unless the host casts. A handle may be moved; its old copy is not
-//     used again.
+//  7. Only the functions of this library write a handle. A handle is passed only to functions for
+//     its type: the compiler refuses any other, unless the host casts. A handle may be copied to
+//     another variable; from then on only the copy is used.
 
 //  8. Two handles that are passed to one call are different variables.
 
-//  9. No function is called in a signal handler. The handler may have interrupted a call with the
-//     handle, or `malloc`.
+//  9. No function is called from a signal handler: the signal may have interrupted a call with the
+//     same handle, or `malloc`.
 
 // 10. After `fork`, only one of the two processes goes on using a handle. If the process had
-//     several threads, it has to be the parent: in the child `malloc` may be locked for good.
+//     several threads, that has to be the parent: in the child `malloc` may be locked for good.
 //     Processes share a pool through bb_pool_file.h.
 
-// 11. `malloc` and `free` are those of C, or two functions of the host with the same meaning. The
-//     comment of `bb_use_memory` says what the functions that it names have to do.
+// 11. `malloc`, `posix_memalign` and `free` are those of C, or three functions of the host with the
+//     same meaning. The comment of `bb_use_memory` says what the functions passed to it have to do.
 
-// Functions with a `const` handle are the exception to rule 1: they may run at the same time as
-// other calls with their handle, except those that make it or empty it. That is tested
-// (examples/c/places.c) and not proved, since the proofs are of one call at a time.
+// Rule 1 has one exception. A function whose handle is `const` may run at the same time as other
+// calls with this handle, except those that fill or empty it. This is tested (examples/c/places.c)
+// but not proved, since the proofs are about one call at a time.
 
 // CHECKERS
-//
+
 // If AddressSanitizer or ThreadSanitizer is on, or if BB_VALGRIND is defined before the first
 // include, bb_memory_sanitize.h reports to the checker what is in use. BB_NO_SANITIZE turns that
-// off. Define each of these two macros for all files of a program, or for none.
+// off. Define each of these two macros in all files of a program, or in none.
 
 // With MemorySanitizer, call `__msan_unpoison` on each struct that one of these functions has
-// filled.
+// filled in.
 
 #ifndef BB_MEMORY_H
 #define BB_MEMORY_H
@@ -122,47 +145,50 @@ extern "C" {
 //
 
 // The version of this header and of the library, as text.
-#define BB_VERSION "3.0.0"
+#define BB_VERSION "3.1.0"
 
-// The first number of the version.
+// The major version: the first number.
 #define BB_VERSION_MAJOR 3
 
-// The second number of the version.
-#define BB_VERSION_MINOR 0
+// The minor version: the second number.
+#define BB_VERSION_MINOR 1
 
-// The third number of the version.
+// The patch version: the third number.
 #define BB_VERSION_PATCH 0
 
-// The version as one number, for `#if`. It grows with each version.
+// The version as one number, to compare in `#if`. It grows with each version.
 #define BB_VERSION_NUMBER (BB_VERSION_MAJOR * 10000 + BB_VERSION_MINOR * 100 + BB_VERSION_PATCH)
 
 // The number in the shared library's SONAME. It grows if a function is removed, or if a type, a
-// struct's fields or a code's number changes. It stays if functions or codes are added. A program
-// runs with any library of this number that is at least as new as the one that it was linked with.
+// struct's fields or a code's number changes. It stays the same if functions or codes are added. A
+// program runs with any library of this number that is at least as new as the one that it was
+// linked with.
 #define BB_ABI 4
 
 //
 // PLACES
 //
 
-// A place is where a region, a bucket or a chunk begins. The functions compute with its number, and
-// never read or write the memory there. A host whose places are numbers, such as offsets, defines
-// BB_PLACES_ARE_NUMBERS before the first include.
+// A place is where a region, a bucket or a chunk begins. The functions use it only as a number, and
+// never read or write the memory there.
+
+// A host whose places are not addresses (but offsets, for example) defines BB_PLACES_ARE_NUMBERS
+// before the first include.
 
 #ifdef BB_PLACES_ARE_NUMBERS
 
-// The place where a region begins, or a chunk that a call allocates.
+// The place of a region, or of a chunk that a call allocates.
 typedef size_t bb_place;
 
-// A place that is only passed to a call.
+// A place that is passed to a call to name a chunk or a bucket.
 typedef size_t bb_address;
 
 #else
 
-// The place where a region begins, or a chunk that a call allocates.
+// The place of a region, or of a chunk that a call allocates.
 typedef void *bb_place;
 
-// A place that is only passed to a call.
+// A place that is passed to a call to name a chunk or a bucket.
 typedef const void *bb_address;
 
 #endif
@@ -174,25 +200,25 @@ typedef const void *bb_address;
 // A call that can be refused returns a code, or a struct that begins with one. If the code isn't
 // BB_OK, the call did nothing, and the rest of a returned struct is 0.
 
-// The last line of a function's comment lists its codes other than BB_OK. If several apply, the
-// first one in that list is returned.
+// The last paragraph of a function's comment lists its codes other than BB_OK. If several apply,
+// the first one in that list is returned.
 
 enum {
     // Done.
     BB_OK = 0,
 
-    // 0 bytes were requested from a bump. A pool allocates a bucket for 0 bytes, and a one-chunk
-    // allocator allocates all that it would for any size.
+    // 0 bytes were requested from a bump. For 0 bytes a pool allocates a bucket, and a one-chunk
+    // allocator allocates the same as for any other size.
     BB_SIZE_IS_ZERO = 1,
 
     // The size is greater than a bucket's.
     BB_SIZE_TOO_LARGE = 2,
 
-    // The alignment is greater than a bucket's; in a resize of the one chunk, greater than the old
-    // alignment.
+    // The alignment is greater than a bucket's. For `bb_one_chunk_grow` and `bb_one_chunk_shrink`:
+    // the new alignment is greater than the old one.
     BB_ALIGNMENT_FAILURE = 3,
 
-    // No room is left in the region for a request.
+    // The region has no room left for the request.
     BB_OUT_OF_MEMORY = 4,
 
     // The new size of a grow is not greater than the old one.
@@ -209,8 +235,8 @@ enum {
     BB_UNINITIALIZED = 8,
 
     // No chunk in use begins at the place. For a party: no bucket that it holds and doesn't cache
-    // begins there. For `attach_number`: the party of number `from` hasn't detached the bucket by
-    // its number, or another party has attached it since.
+    // begins there. For `attach_number`: party `from` hasn't detached the bucket by
+    // `detach_number`, or another party has attached it since.
     BB_NOT_HELD = 9,
 
     // A handle that must be empty is not.
@@ -220,36 +246,36 @@ enum {
     // says when.
     BB_INVALID_ARGUMENT = 11,
 
-    // Each party has joined or was abandoned. For `join_number`: the party of this number has
-    // joined or was abandoned, or there is none.
+    // Every party has joined or was abandoned. For `join_number`: the party with this number has
+    // joined or was abandoned, or no party has the number.
     BB_NO_PARTY = 12,
 
     // The place is not a multiple of the old alignment, or the old size of a shrink is greater than
     // what is reserved for the chunk.
     BB_LAYOUT_MISMATCH = 13,
 
-    // `malloc` failed. Only calls that take memory return it: MEMORY lists them.
+    // `malloc` failed. Only calls that request memory return this; the section MEMORY lists them.
     BB_MALLOC_REFUSED = 14,
 
     // The new size of a grow is greater than what is reserved for the chunk.
     BB_MORE_THAN_RESERVED = 15,
 
-    // The region has no room for one bucket, or not for the required number of buckets.
+    // The region doesn't have room for one bucket, or for the required number of buckets.
     BB_NO_BUCKET = 16,
 
     // A bucket of the pool is detached.
     BB_BUCKET_DETACHED = 17,
 
-    // A party has joined and not left, or a party was abandoned.
+    // A party has joined and hasn't left, or was abandoned.
     BB_PARTIES_JOINED = 18,
 
     // The pool has only one party, so no other one could attach the bucket.
     BB_ONE_PARTY = 19,
 
-    // A detached bucket is already in the `bb_detached`.
+    // The `bb_detached` already has a bucket in it.
     BB_DETACHED_FULL = 20,
 
-    // No detached bucket is in the `bb_detached`.
+    // The `bb_detached` has no bucket in it.
     BB_DETACHED_EMPTY = 21,
 
     // No bucket has the number, or none begins at the place.
@@ -290,24 +316,25 @@ static inline const char *bb_name(uint32_t code) {
     case BB_DETACHED_EMPTY: return "BB_DETACHED_EMPTY";
     case BB_NOT_A_BUCKET: return "BB_NOT_A_BUCKET";
     case BB_OTHER_POOL: return "BB_OTHER_POOL";
+
     default: return "an unknown code";
     }
 }
 
-// Returns a sentence on `code` for a log, in lower case and without a full stop, or "not a code of
-// bb_memory" if this version has no such code. The text is static: don't free it.
+// Returns a short text about `code` for a log, in lower case and without a period, or "not a code
+// of bb_memory" if this version has no such code. The text is static: don't free it.
 static inline const char *bb_text(uint32_t code) {
     switch (code) {
     case BB_OK: return "done";
-    case BB_SIZE_IS_ZERO: return "0 bytes were requested of a bump";
+    case BB_SIZE_IS_ZERO: return "0 bytes were requested from a bump";
     case BB_SIZE_TOO_LARGE: return "the size is greater than a bucket's";
-    case BB_ALIGNMENT_FAILURE: return "the alignment is greater than can be given";
+    case BB_ALIGNMENT_FAILURE: return "the alignment is greater than the bucket's or the old one";
     case BB_OUT_OF_MEMORY: return "no room is left in the region";
     case BB_GROW_WOULD_SHRINK: return "the new size of a grow is not greater than the old one";
     case BB_SHRINK_WOULD_GROW: return "the new size of a shrink is not smaller than the old one";
     case BB_INVALID_LAYOUT: return "the size and the alignment are not a valid layout";
     case BB_UNINITIALIZED: return "the handle is empty";
-    case BB_NOT_HELD: return "nothing in use begins at the place, or the bucket is not detached";
+    case BB_NOT_HELD: return "the caller holds nothing there, or that party has not detached it";
     case BB_ALREADY_INITIALIZED: return "the handle is not empty";
     case BB_INVALID_ARGUMENT: return "the region, the buckets or the number of parties is invalid";
     case BB_NO_PARTY: return "no such party is left to join";
@@ -318,10 +345,11 @@ static inline const char *bb_text(uint32_t code) {
     case BB_BUCKET_DETACHED: return "a bucket of the pool is detached";
     case BB_PARTIES_JOINED: return "a party has not left, or was abandoned";
     case BB_ONE_PARTY: return "the pool has only one party, so nothing can be detached";
-    case BB_DETACHED_FULL: return "a detached bucket is already in the bb_detached";
-    case BB_DETACHED_EMPTY: return "no detached bucket is in the bb_detached";
+    case BB_DETACHED_FULL: return "the bb_detached or the slot already has a bucket in it";
+    case BB_DETACHED_EMPTY: return "the bb_detached or the slot has no bucket in it";
     case BB_NOT_A_BUCKET: return "no bucket has the number or begins at the place";
     case BB_OTHER_POOL: return "the party or the detached bucket belongs to another pool or bump";
+
     default: return "not a code of bb_memory";
     }
 }
@@ -359,13 +387,13 @@ static inline const char *bb_text(uint32_t code) {
 
 // clang-format off
 
-// A handle before its first use: `bb_pool pool = BB_EMPTY;`.
+// Initializes a handle before its first use: `bb_pool pool = BB_EMPTY;`.
 #define BB_EMPTY {BB_NULL, false}
 
 // clang-format on
 
-// The size and the alignment of a type, for two parameters: `bb_pool_allocate(&pool,
-// BB_OF(message))`.
+// The size and the alignment of a type, as two arguments of a call:
+// `bb_pool_allocate(&pool, BB_OF(message))`.
 #define BB_OF(type) sizeof(type), BB_ALIGN_OF(type)
 
 //
@@ -393,7 +421,7 @@ typedef struct bb_pool {
     bool made;
 } bb_pool;
 
-// A bump that threads share, with its parties that haven't joined.
+// A bump that threads share. Each thread joins it as a party.
 typedef struct bb_shared_bump {
     void *at;
     bool made;
@@ -405,7 +433,7 @@ typedef struct bb_bump_party {
     bool made;
 } bb_bump_party;
 
-// A pool that threads share, with its parties that haven't joined.
+// A pool that threads share. Each thread joins it as a party.
 typedef struct bb_shared_pool {
     void *at;
     bool made;
@@ -417,14 +445,14 @@ typedef struct bb_pool_party {
     bool made;
 } bb_pool_party;
 
-// A carrier of one bucket at a time, which goes from one party to another.
+// Carries one bucket at a time from one party to another.
 typedef struct bb_detached {
     void *at;
     bool made;
 } bb_detached;
 
-// The result of a request: a code, and with BB_OK the place where the chunk begins. It is returned
-// in registers.
+// The result of a request: a code and, if that is BB_OK, the place where the chunk begins. It is
+// returned in registers.
 typedef struct bb_chunk {
     // BB_OK, or why there is no place.
     uint32_t code;
@@ -433,7 +461,7 @@ typedef struct bb_chunk {
     bb_place place;
 } bb_chunk;
 
-// The result of a query: a code, and with BB_OK a number. It is returned in registers.
+// The result of a query: a code and, if that is BB_OK, a number. It is returned in registers.
 typedef struct bb_number {
     // BB_OK, or why there is no number.
     uint32_t code;
@@ -446,15 +474,17 @@ typedef struct bb_number {
 // MEMORY
 //
 
-// Only `init`, `join`, `join_number`, `cache` and `reset` take memory, which is never in the
-// region. For each handle they request at most this many bytes from `malloc` in all:
+// The library's own memory is never in a region. Only `init`, `join`, `join_number`, `cache` and
+// `reset` request it, by `malloc` and `posix_memalign`. For each handle they request at most this
+// many bytes in all:
 
 //     bb_bump, bb_one_chunk    64
-//     bb_pool                  256, and 16 for each 64 buckets
-//     bb_shared_bump           256, and 16 for each party; to join 64; to reset as much as at
-//                              first, before the old memory is freed
-//     bb_shared_pool           336, 16 for each bucket, 12 for each party; to join 256; to cache
-//                              256, 1 for each bucket, 4 for each that may be cached
+//     bb_pool                  256, plus 16 for each 64 buckets
+//     bb_shared_bump           256, plus 16 for each party; `join`: 64; `reset`: as many as `init`,
+//                              before the old memory is freed
+//     bb_shared_pool           464, plus 16 for each bucket and 12 for each party; `join`: 256;
+//                              `cache`: 256, plus 1 for each bucket and 4 for each that may be
+//                              cached
 //     bb_detached              128
 
 // `destroy` frees that memory, and `leave`, `forget` and `abandon` free a party's. The handle is
@@ -462,15 +492,21 @@ typedef struct bb_number {
 // use.
 
 // Has the library call `allocate` in place of `malloc`, and `release` in place of `free`. Each of
-// them gets `context` as its first parameter. So a host without `malloc` can give the library an
+// them gets `context` as its first argument. So a host without `malloc` can give the library an
 // arena. Call this before any other function, or while every handle is empty and no pool in a file
-// is open. No lock guards it.
+// is open. The call takes no lock.
 //
 // `allocate` returns a block of at least `size` bytes at a multiple of `align`, or NULL if it has
 // none. The block overlaps no other one, and nobody else writes it until it is released. `size` is
 // never 0, and `align` is 16.
 //
-// `release` gets a block that `allocate` returned, once. It is never NULL.
+// Without this call, `posix_memalign` provides each block of at least 128 bytes, at a multiple of
+// 128: processors fetch cache lines in pairs, and threads that write to the same pair slow each
+// other down. If several threads use the library, `allocate` should align such blocks in the same
+// way.
+//
+// `release` gets only blocks that `allocate` returned, and each of them only once. It never gets
+// NULL.
 //
 // Any thread that is in a call of the library may call either function, and several threads may do
 // so at once. Neither function calls this library, and each returns to its caller: neither throws,
@@ -512,8 +548,8 @@ typedef struct bb_bump_figures {
     // Where the region begins.
     size_t start_address;
 
-    // The bytes from the start of the region to the end of the last chunk, with the padding between
-    // chunks.
+    // The bytes from the start of the region to the end of the last chunk, including the padding
+    // between chunks.
     size_t used_space;
 
     // The bytes after the last chunk.
@@ -547,7 +583,7 @@ uint32_t bb_one_chunk_destroy(bb_one_chunk *one);
 // Allocates all bytes from the first multiple of `align` in the region up to the region's end.
 //
 // Returns the place of the chunk; `bb_one_chunk_reserved` returns its length. BB_OUT_OF_MEMORY if
-// the chunk is in use already, if it would have less than `size` bytes, or if it would have none.
+// the chunk is in use already, if it would have fewer than `size` bytes, or if it would have none.
 //
 // Codes, in order: BB_UNINITIALIZED, BB_INVALID_LAYOUT, BB_OUT_OF_MEMORY.
 BB_MUST_USE bb_chunk bb_one_chunk_allocate(bb_one_chunk *one, size_t size, size_t align);
@@ -561,12 +597,13 @@ uint32_t bb_one_chunk_deallocate(bb_one_chunk *one, bb_address place);
 
 // Grows the chunk at `place` to all bytes that are reserved for it: the region from `place` on.
 //
-// `old_size` and `old_align` are the chunk's layout before the call, `new_size` and `new_align` the
-// one that it has to fit now. The host vouches for `old_size`: it is only compared with `new_size`.
+// `old_size` and `old_align` are the chunk's layout before the call; `new_size` and `new_align` are
+// the layout that it has to fit now. The host vouches for `old_size`: it is only compared with
+// `new_size`.
 //
 // Returns the place of the chunk, which doesn't change. BB_INVALID_LAYOUT if either layout is
-// invalid. BB_NOT_HELD if the chunk in use doesn't begin at `place`. BB_LAYOUT_MISMATCH if `place`
-// is not a multiple of `old_align`. BB_GROW_WOULD_SHRINK if `new_size` is at most `old_size`.
+// invalid. BB_NOT_HELD if no chunk in use begins at `place`. BB_LAYOUT_MISMATCH if `place` is not a
+// multiple of `old_align`. BB_GROW_WOULD_SHRINK if `new_size` is at most `old_size`.
 // BB_ALIGNMENT_FAILURE if `new_align` is greater than `old_align`. BB_MORE_THAN_RESERVED if
 // `new_size` is greater than what is reserved.
 //
@@ -577,13 +614,13 @@ BB_MUST_USE bb_chunk bb_one_chunk_grow(bb_one_chunk *one, bb_address place, size
 
 // Shrinks the chunk at `place` to exactly `new_size` bytes, which may be 0.
 //
-// `old_size` and `old_align` are the chunk's layout before the call, `new_size` and `new_align` the
-// one that it has to fit now. The host vouches for `old_size`: it is only compared with `new_size`
-// and with what is reserved, which doesn't change.
+// `old_size` and `old_align` are the chunk's layout before the call; `new_size` and `new_align` are
+// the layout that it has to fit now. The host vouches for `old_size`: it is only compared with
+// `new_size` and with what is reserved, which doesn't change.
 //
 // Returns the place of the chunk, which doesn't change. BB_INVALID_LAYOUT if either layout is
-// invalid. BB_NOT_HELD if the chunk in use doesn't begin at `place`. BB_LAYOUT_MISMATCH if `place`
-// is not a multiple of `old_align`, or if `old_size` is greater than what is reserved.
+// invalid. BB_NOT_HELD if no chunk in use begins at `place`. BB_LAYOUT_MISMATCH if `place` is not a
+// multiple of `old_align`, or if `old_size` is greater than what is reserved.
 // BB_SHRINK_WOULD_GROW if `new_size` is at least `old_size`. BB_ALIGNMENT_FAILURE if `new_align` is
 // greater than `old_align`.
 //
@@ -598,9 +635,9 @@ BB_MUST_USE bb_chunk bb_one_chunk_shrink(bb_one_chunk *one, bb_address place, si
 bb_number bb_one_chunk_holds(bb_one_chunk *one, bb_address place);
 
 // Returns how many bytes are reserved for the chunk at `place`: the region from `place` on. A chunk
-// has that many bytes after it was allocated or grown.
+// that has just been allocated or grown has that many bytes.
 //
-// BB_NOT_HELD if the chunk in use doesn't begin at `place`.
+// BB_NOT_HELD if no chunk in use begins at `place`.
 //
 // Codes, in order: BB_UNINITIALIZED, BB_NOT_HELD.
 bb_number bb_one_chunk_reserved(bb_one_chunk *one, bb_address place);
@@ -623,20 +660,20 @@ typedef struct bb_one_chunk_figures {
 uint32_t bb_one_chunk_info(bb_one_chunk *one, bb_one_chunk_figures *figures);
 
 //
-// POOL: a region that is cut into buckets of one layout.
+// POOL: a region that is divided into buckets of one size and alignment.
 //
 
 // Bucket 0 begins at the first multiple of the alignment in the region. Each further bucket begins
-// a stride after the one before it, and the region has a whole stride for the last one, too. A
-// chunk is at the start of its bucket.
+// one stride after the one before it. The region has a whole stride for the last one, too. A chunk
+// begins where its bucket begins.
 
 // The stride in bytes of buckets of `size` bytes at multiples of `align`: the size rounded up to
-// the alignment. The numbers are not checked. With constants the result is a constant.
+// the alignment. The arguments are not checked. With constants the result is a constant.
 #define BB_STRIDE(size, align) \
     ((BB_SIZE(size) + (BB_SIZE(align) - 1)) / BB_SIZE(align) * BB_SIZE(align))
 
 // The bytes of a region for this number of buckets, if the region starts at a multiple of `align`;
-// for any other start add `align` less 1. The numbers are not checked. With constants the result is
+// for any other start add `align` - 1. The arguments are not checked. With constants the result is
 // a constant, as in `static unsigned char region[BB_BYTES_FOR(48, 8, 16)]`.
 #define BB_BYTES_FOR(size, align, buckets) (BB_STRIDE(size, align) * BB_SIZE(buckets))
 
@@ -656,9 +693,10 @@ static inline size_t bb_bytes_for(size_t size, size_t align, uint32_t buckets) {
 //
 // Each bucket has `bucket_size` bytes and begins at a multiple of `bucket_align`.
 //
-// BB_INVALID_LAYOUT if these two are not a valid layout. BB_INVALID_ARGUMENT if `start` is 0, if
-// `start` plus `size`, or `start` rounded up to `bucket_align`, exceeds SIZE_MAX, if `bucket_size`
-// is 0, or if there is room for UINT32_MAX buckets or more. BB_NO_BUCKET if there is room for none.
+// BB_INVALID_LAYOUT if `bucket_size` and `bucket_align` are not a valid layout. BB_INVALID_ARGUMENT
+// if `start` is 0, if `start` plus `size`, or `start` rounded up to `bucket_align`, exceeds
+// SIZE_MAX, if `bucket_size` is 0, or if there is room for UINT32_MAX buckets or more. BB_NO_BUCKET
+// if there is room for none.
 //
 // Codes, in order: BB_ALREADY_INITIALIZED, BB_INVALID_LAYOUT, BB_INVALID_ARGUMENT, BB_NO_BUCKET,
 // BB_MALLOC_REFUSED.
@@ -670,17 +708,16 @@ BB_MUST_USE uint32_t bb_pool_init(bb_pool *pool, size_t bucket_size, size_t buck
 // Codes, in order: BB_UNINITIALIZED.
 uint32_t bb_pool_destroy(bb_pool *pool);
 
-// Allocates `size` bytes at a multiple of `align`, in a bucket that isn't held. Any free bucket may
-// be returned.
+// Allocates `size` bytes at a multiple of `align`, in any free bucket.
 //
-// Returns the place of the chunk. BB_SIZE_TOO_LARGE or BB_ALIGNMENT_FAILURE if a bucket can't have
-// such a chunk. BB_OUT_OF_MEMORY if every bucket is held.
+// Returns the place of the chunk. BB_SIZE_TOO_LARGE or BB_ALIGNMENT_FAILURE if `size` or `align` is
+// greater than a bucket's. BB_OUT_OF_MEMORY if every bucket is held.
 //
 // Codes, in order: BB_UNINITIALIZED, BB_INVALID_LAYOUT, BB_SIZE_TOO_LARGE, BB_ALIGNMENT_FAILURE,
 // BB_OUT_OF_MEMORY.
 BB_MUST_USE bb_chunk bb_pool_allocate(bb_pool *pool, size_t size, size_t align);
 
-// Allocates a whole bucket. Any free bucket may be returned.
+// Allocates a whole bucket, which may be any free one.
 //
 // Returns the place of the bucket. BB_OUT_OF_MEMORY if every bucket is held.
 //
@@ -704,7 +741,7 @@ typedef struct bb_pool_figures {
     // Where bucket 0 begins: the region's start rounded up to the alignment.
     size_t start_address;
 
-    // The bytes of the region, as `init` got them.
+    // The bytes of the region, as they were passed to `init`.
     size_t size;
 
     // The bytes of a bucket.
@@ -728,13 +765,13 @@ typedef struct bb_pool_figures {
 // Codes, in order: BB_UNINITIALIZED.
 uint32_t bb_pool_info(bb_pool *pool, bb_pool_figures *figures);
 
-// Returns where the bucket of this number begins, held or not. Buckets count from 0.
+// Returns where the bucket with this number begins, held or not. Buckets are numbered from 0.
 //
 // A process that maps the region at another address may read bucket n there: it begins n *
 // BB_STRIDE(bucket_size, bucket_align) bytes after bucket 0. If the alignment is greater than a
 // page, bucket 0 has the same offset from the mapping's start as in the process that has the pool.
 //
-// BB_NOT_A_BUCKET if the pool has no bucket of this number.
+// BB_NOT_A_BUCKET if no bucket has this number.
 //
 // Codes, in order: BB_UNINITIALIZED, BB_NOT_A_BUCKET.
 bb_chunk bb_pool_place_at(const bb_pool *pool, uint32_t number);
@@ -752,10 +789,11 @@ bb_number bb_pool_number_at(const bb_pool *pool, bb_address place);
 //
 // Each bucket has `bucket_size` bytes and begins at a multiple of `bucket_align`.
 //
-// BB_INVALID_LAYOUT if these two are not a valid layout. BB_INVALID_ARGUMENT if `start` is 0, if
-// `start` plus `size`, or `start` rounded up to `bucket_align`, exceeds SIZE_MAX, if `bucket_size`
-// is 0, or if there is room for UINT32_MAX buckets or more. BB_NO_BUCKET if there is room for none,
-// or for fewer than `buckets`. An empty handle stays empty if the call is refused.
+// BB_INVALID_LAYOUT if `bucket_size` and `bucket_align` are not a valid layout. BB_INVALID_ARGUMENT
+// if `start` is 0, if `start` plus `size`, or `start` rounded up to `bucket_align`, exceeds
+// SIZE_MAX, if `bucket_size` is 0, or if there is room for UINT32_MAX buckets or more. BB_NO_BUCKET
+// if there is room for none, or for fewer than `buckets`. An empty handle stays empty if the call
+// is refused.
 //
 // Codes, in order: BB_ALREADY_INITIALIZED, BB_INVALID_LAYOUT, BB_INVALID_ARGUMENT, BB_NO_BUCKET (no
 // room for one), BB_MALLOC_REFUSED, BB_NO_BUCKET (fewer than `buckets`).
@@ -764,6 +802,7 @@ BB_MUST_USE static inline uint32_t bb_pool_init_at_least(bb_pool *pool, size_t b
                                                          size_t size, uint32_t buckets) {
     bb_pool_figures figures;
     uint32_t code = bb_pool_init(pool, bucket_size, bucket_align, start, size);
+
     if (code != BB_OK)
         return code;
 
@@ -776,7 +815,7 @@ BB_MUST_USE static inline uint32_t bb_pool_init_at_least(bb_pool *pool, size_t b
 
 #ifndef BB_PLACES_ARE_NUMBERS
 
-// Allocates a whole bucket, for hosts that want only a pointer. Any free bucket may be returned.
+// Allocates a whole bucket, which may be any free one, for hosts that want only a pointer.
 //
 // Returns the place of the bucket, or NULL if every bucket is held or if the handle is empty.
 // `bb_pool_deallocate` frees the bucket. Compilers may assume that no pointer is stored in the
@@ -788,22 +827,22 @@ BB_MUST_USE __attribute__((malloc)) static inline void *bb_pool_get(bb_pool *poo
 #endif
 
 //
-// PARTIES: what threads share.
+// PARTIES: how threads share a bump or a pool.
 //
 
-// A shared bump or pool is made for some number of parties. `join` makes a party in a handle of its
-// own, for one thread at a time. `leave` ends the party, which can join again. No call of a party
-// waits for another thread.
+// A shared bump or pool is made for a fixed number of parties. `join` puts one of them in a handle
+// of its own, for one thread at a time. `leave` empties that handle, and the party can join again
+// later. No call of a party waits for another thread.
 
 // Only one thread at a time calls `join`, `join_number`, `leave`, `forget`, `reset`, `destroy` or
-// `abandon` on a shared pool or bump. Other threads may use parties meanwhile.
+// `abandon` on a given shared pool or bump. Other threads may use its parties meanwhile.
 
 //
 // SHARED BUMP: a bump for threads.
 //
 
 // Makes a shared bump in an empty handle, over the region of `size` bytes at `start`, for this
-// number of parties. None of them has joined.
+// number of parties. None of them has joined yet.
 //
 // BB_INVALID_ARGUMENT if `start` is 0, if `start` plus `size` exceeds SIZE_MAX, or if `parties` is
 // 0.
@@ -812,31 +851,31 @@ BB_MUST_USE __attribute__((malloc)) static inline void *bb_pool_get(bb_pool *poo
 BB_MUST_USE uint32_t bb_shared_bump_init(bb_shared_bump *bump, bb_place start, size_t size,
                                          uint32_t parties);
 
-// Frees the memory of the shared bump and empties the handle, if no party is joined.
+// Frees the memory of the shared bump and empties the handle, unless a party is joined.
 //
-// BB_PARTIES_JOINED if a party has joined and not left, or if one was ever abandoned. If the call
-// is refused, nothing changes. `bb_shared_bump_abandon` doesn't look at parties.
+// BB_PARTIES_JOINED if a party has joined and hasn't left, or if one was ever abandoned. If the
+// call is refused, nothing changes. `bb_shared_bump_abandon` doesn't look at parties.
 //
 // Codes, in order: BB_UNINITIALIZED, BB_PARTIES_JOINED.
 uint32_t bb_shared_bump_destroy(bb_shared_bump *bump);
 
 // Empties the handle without looking at parties, for a host that gives up the bump. Parties that
-// have joined stay usable, but can't leave. The bump exists, and its memory stays, until each of
-// them has been abandoned. Until then no other shared bump may have the same start (rule 5).
+// have joined stay usable, but can't leave. The bump and its memory exist until each of them has
+// been abandoned. Until then no other shared bump may have the same start (rule 5).
 //
 // Codes, in order: BB_UNINITIALIZED.
 uint32_t bb_shared_bump_abandon(bb_shared_bump *bump);
 
 // Joins as any party that hasn't joined, in the empty handle `party`.
 //
-// BB_ALREADY_INITIALIZED if `party` isn't empty, BB_UNINITIALIZED if `bump` is. BB_NO_PARTY if each
-// party has joined or was abandoned.
+// BB_ALREADY_INITIALIZED if `party` isn't empty, BB_UNINITIALIZED if `bump` is. BB_NO_PARTY if
+// every party has joined or was abandoned.
 //
 // Codes, in order: BB_ALREADY_INITIALIZED, BB_UNINITIALIZED, BB_NO_PARTY, BB_MALLOC_REFUSED.
 BB_MUST_USE uint32_t bb_shared_bump_join(bb_shared_bump *bump, bb_bump_party *party);
 
-// Ends a party of this bump and empties its handle. The party can join again. The chunks that it
-// allocated stay in use.
+// Has a party of this bump leave, and empties its handle. The party can join again later. The
+// chunks that it allocated stay in use.
 //
 // BB_UNINITIALIZED if either handle is empty. BB_OTHER_POOL if the party belongs to another bump.
 //
@@ -844,10 +883,10 @@ BB_MUST_USE uint32_t bb_shared_bump_join(bb_shared_bump *bump, bb_bump_party *pa
 uint32_t bb_shared_bump_leave(bb_shared_bump *bump, bb_bump_party *party);
 
 // Starts again over the same region, with the same number of parties, none of which has joined. All
-// chunks are freed: the host uses none of them any more.
+// chunks are freed: the host must not use them anymore.
 //
-// BB_PARTIES_JOINED if a party has joined and not left, or if one was ever abandoned. If the call
-// is refused, the bump stays as it was.
+// BB_PARTIES_JOINED if a party has joined and hasn't left, or if one was ever abandoned. If the
+// call is refused, the bump stays as it was.
 //
 // Codes, in order: BB_UNINITIALIZED, BB_PARTIES_JOINED, BB_MALLOC_REFUSED.
 BB_MUST_USE uint32_t bb_shared_bump_reset(bb_shared_bump *bump);
@@ -867,7 +906,7 @@ uint32_t bb_bump_party_abandon(bb_bump_party *party);
 BB_MUST_USE bb_chunk bb_bump_party_allocate(bb_bump_party *party, size_t size, size_t align);
 
 // Stores the figures of the party's bump in `figures`, which stays as it was if the handle is
-// empty. `used_space` is what one atomic load finds.
+// empty. `used_space` is read by one atomic load.
 //
 // Codes, in order: BB_UNINITIALIZED.
 uint32_t bb_bump_party_info(bb_bump_party *party, bb_bump_figures *figures);
@@ -876,24 +915,26 @@ uint32_t bb_bump_party_info(bb_bump_party *party, bb_bump_figures *figures);
 // SHARED POOL: a pool for threads.
 //
 
-// A bucket is freed through the party that holds it: the one that allocated or attached it. The
-// free of a bucket happens before its next allocation (the steps are sequentially consistent), so
-// the bytes of a bucket need no further lock.
+// Each bucket has a flag, which says that the bucket is free, or which party holds it, or which
+// party has detached it. A bucket that a party caches (`bb_pool_party_cache`) counts as held.
 
-// Each bucket has a flag, which says that it is free, or which party holds it or has detached it. A
-// bucket that a party caches counts as held. Calls that look at each bucket say that their time is
-// proportional to the number of buckets.
+// A bucket is freed through the party that holds it: the one that allocated or attached it. The
+// free of a bucket happens before its next allocation (the atomic operations on flags are
+// sequentially consistent), so the bytes of a bucket need no lock of their own.
+
+// If a call looks at every bucket, its comment says that its time is proportional to the number of
+// buckets.
 
 // Makes a shared pool in an empty handle, over the region of `size` bytes at `start`, for this
-// number of parties. None of them has joined. The pool has as many buckets as the region has room
-// for. A host that wants fewer buckets passes a smaller size.
+// number of parties. None of them has joined yet. The pool has as many buckets as the region has
+// room for. A host that wants fewer buckets passes a smaller size.
 //
 // Each bucket has `bucket_size` bytes and begins at a multiple of `bucket_align`.
 //
-// BB_INVALID_LAYOUT if these two are not a valid layout. BB_INVALID_ARGUMENT if `start` is 0, if
-// `start` plus `size`, or `start` rounded up to `bucket_align`, exceeds SIZE_MAX, if `bucket_size`
-// or `parties` is 0, or if there is room for UINT32_MAX buckets or more. BB_NO_BUCKET if there is
-// room for none.
+// BB_INVALID_LAYOUT if `bucket_size` and `bucket_align` are not a valid layout. BB_INVALID_ARGUMENT
+// if `start` is 0, if `start` plus `size`, or `start` rounded up to `bucket_align`, exceeds
+// SIZE_MAX, if `bucket_size` or `parties` is 0, or if there is room for UINT32_MAX buckets or more.
+// BB_NO_BUCKET if there is room for none.
 //
 // Codes, in order: BB_ALREADY_INITIALIZED, BB_INVALID_LAYOUT, BB_INVALID_ARGUMENT, BB_NO_BUCKET,
 // BB_MALLOC_REFUSED.
@@ -901,13 +942,13 @@ BB_MUST_USE uint32_t bb_shared_pool_init(bb_shared_pool *pool, size_t bucket_siz
                                          size_t bucket_align, bb_place start, size_t size,
                                          uint32_t parties);
 
-// Frees the memory of the shared pool and empties the handle, if no party is joined and no bucket
-// is detached. The call's time is proportional to the number of buckets and of parties, and it uses
-// some 100 bytes of stack for each party.
+// Frees the memory of the shared pool and empties the handle, unless a party is joined or a bucket
+// is detached. The call's time is proportional to the number of buckets plus the number of parties,
+// and it uses about 100 bytes of stack for each party.
 //
-// BB_PARTIES_JOINED if a party has joined and not left, or if one was ever abandoned.
+// BB_PARTIES_JOINED if a party has joined and hasn't left, or if one was ever abandoned.
 // BB_BUCKET_DETACHED if a bucket is detached: have a party attach it or free it first. If the call
-// is refused, nothing changes. `bb_shared_pool_abandon` looks at neither.
+// is refused, nothing changes. `bb_shared_pool_abandon` looks at neither parties nor buckets.
 //
 // Codes, in order: BB_UNINITIALIZED, BB_PARTIES_JOINED, BB_BUCKET_DETACHED.
 uint32_t bb_shared_pool_destroy(bb_shared_pool *pool);
@@ -927,7 +968,7 @@ typedef struct bb_shared_pool_figures {
     // Where bucket 0 begins: the region's start rounded up to the alignment.
     size_t start_address;
 
-    // The bytes of the region, as `init` got them.
+    // The bytes of the region, as they were passed to `init`.
     size_t size;
 
     // The bytes of a bucket.
@@ -939,7 +980,7 @@ typedef struct bb_shared_pool_figures {
     // How many buckets the pool has.
     size_t number_of_buckets;
 
-    // How many buckets are held.
+    // How many buckets are held. The comment of the call that stores this says which ones count.
     size_t held_buckets;
 } bb_shared_pool_figures;
 
@@ -972,43 +1013,45 @@ typedef struct bb_holder {
     uint32_t party;
 } bb_holder;
 
-// Stores in `holder` what the flag of the bucket of this number says, as one load finds it. If the
-// call is refused, `holder` stays as it was. Any thread may call this while parties are used.
+// Stores in `holder` what the flag of the bucket with this number says. The flag is read by one
+// atomic load. If the call is refused, `holder` stays as it was. Any thread may call this while
+// parties are used.
 //
-// BB_NOT_A_BUCKET if the pool has no bucket of this number.
+// BB_NOT_A_BUCKET if no bucket has this number.
 //
 // Codes, in order: BB_UNINITIALIZED, BB_NOT_A_BUCKET.
 uint32_t bb_shared_pool_holder(const bb_shared_pool *pool, uint32_t number, bb_holder *holder);
 
 // Joins as any party that hasn't joined, in the empty handle `party`.
 //
-// BB_ALREADY_INITIALIZED if `party` isn't empty, BB_UNINITIALIZED if `pool` is. BB_NO_PARTY if each
-// party has joined or was abandoned.
+// BB_ALREADY_INITIALIZED if `party` isn't empty, BB_UNINITIALIZED if `pool` is. BB_NO_PARTY if
+// every party has joined or was abandoned.
 //
 // Codes, in order: BB_ALREADY_INITIALIZED, BB_UNINITIALIZED, BB_NO_PARTY, BB_MALLOC_REFUSED.
 BB_MUST_USE uint32_t bb_shared_pool_join(bb_shared_pool *pool, bb_pool_party *party);
 
-// Joins as the party of this number, in the empty handle `party`. Parties count from 0, and
-// `bb_pool_party_number` returns a party's number.
+// Joins as the party with this number, in the empty handle `party`. Parties are numbered from 0,
+// and `bb_pool_party_number` returns a party's number.
 //
 // BB_ALREADY_INITIALIZED if `party` isn't empty, BB_UNINITIALIZED if `pool` is. BB_NO_PARTY if the
-// party of this number has joined or was abandoned, or if there is none.
+// party with this number has joined or was abandoned, or if no party has the number.
 //
 // Codes, in order: BB_ALREADY_INITIALIZED, BB_UNINITIALIZED, BB_NO_PARTY, BB_MALLOC_REFUSED.
 BB_MUST_USE uint32_t bb_shared_pool_join_number(bb_shared_pool *pool, uint32_t number,
                                                 bb_pool_party *party);
 
-// Ends a party of this pool and empties its handle. The party can join again. Each bucket whose
-// flag says that the party holds it, cached or not, is freed, in the order of their numbers. The
-// host uses none of them any more. The call's time is proportional to the number of buckets.
+// Has a party of this pool leave, and empties its handle. The party can join again later. Each
+// bucket whose flag says that the party holds it, cached or not, is freed, in the order of the
+// buckets' numbers. The host must not use these buckets anymore. The call's time is proportional to
+// the number of buckets.
 //
 // BB_UNINITIALIZED if either handle is empty. BB_OTHER_POOL if the party belongs to another pool.
 //
 // Codes, in order: BB_UNINITIALIZED, BB_OTHER_POOL.
 uint32_t bb_shared_pool_leave(bb_shared_pool *pool, bb_pool_party *party);
 
-// Ends a party of this pool and empties its handle, but frees no bucket. No flag changes. So the
-// next party that joins by the same number holds what this one held, cached or not.
+// Has a party of this pool leave, and empties its handle, but frees no bucket. No flag changes. So
+// the next party that joins with the same number holds what this one held, cached or not.
 //
 // BB_UNINITIALIZED if either handle is empty. BB_OTHER_POOL if the party belongs to another pool.
 //
@@ -1021,7 +1064,7 @@ uint32_t bb_shared_pool_forget(bb_shared_pool *pool, bb_pool_party *party);
 // Codes, in order: BB_UNINITIALIZED.
 uint32_t bb_pool_party_abandon(bb_pool_party *party);
 
-// Returns the number by which flags name this party. Parties count from 0.
+// Returns the number by which flags name this party. Parties are numbered from 0.
 //
 // Codes, in order: BB_UNINITIALIZED.
 bb_number bb_pool_party_number(bb_pool_party *party);
@@ -1029,11 +1072,12 @@ bb_number bb_pool_party_number(bb_pool_party *party);
 // Allocates `size` bytes at a multiple of `align`, in the bucket that the party cached last. If the
 // party caches none, the call searches all buckets once for a free one, by next fit. If the party
 // has allocated none since it last freed one, the search usually begins at the bucket that it freed
-// last; otherwise usually at the one after the bucket that it allocated last.
+// last; otherwise it usually begins after the bucket that it allocated last.
 //
-// Returns the place of the chunk. BB_SIZE_TOO_LARGE or BB_ALIGNMENT_FAILURE if a bucket can't have
-// such a chunk. BB_OUT_OF_MEMORY if the search found each bucket held, one after the other. While
-// other threads allocate and free buckets, they need not all have been held at one moment.
+// Returns the place of the chunk. BB_SIZE_TOO_LARGE or BB_ALIGNMENT_FAILURE if `size` or `align` is
+// greater than a bucket's. BB_OUT_OF_MEMORY if the search, which looks at one bucket after another,
+// found no free bucket. While other threads allocate and free buckets, there need not have been a
+// moment at which none was free.
 //
 // Codes, in order: BB_UNINITIALIZED, BB_INVALID_LAYOUT, BB_SIZE_TOO_LARGE, BB_ALIGNMENT_FAILURE,
 // BB_OUT_OF_MEMORY.
@@ -1042,18 +1086,17 @@ BB_MUST_USE bb_chunk bb_pool_party_allocate(bb_pool_party *party, size_t size, s
 // Allocates a whole bucket: the one that the party cached last, otherwise one that a search over
 // all buckets finds, by next fit.
 //
-// Returns the place of the bucket. BB_OUT_OF_MEMORY if the search found each bucket held, one after
-// the other.
+// Returns the place of the bucket. BB_OUT_OF_MEMORY if the search found no free bucket.
 //
 // Codes, in order: BB_UNINITIALIZED, BB_OUT_OF_MEMORY.
 BB_MUST_USE bb_chunk bb_pool_party_take(bb_pool_party *party);
 
-// Allocates up to `count` whole buckets, as that many calls of `bb_pool_party_take` do, and stores
-// their places in the array `slots`, from its first element on. `slots` may be NULL if `count` is
-// 0.
+// Allocates up to `count` whole buckets, as that many calls of `bb_pool_party_take` would, and
+// stores their places in the array `slots`, from its first element on. `slots` may be NULL if
+// `count` is 0.
 //
-// Returns how many were allocated. That is less than `count` if a further one would be refused with
-// BB_OUT_OF_MEMORY, and the code is BB_OK all the same.
+// Returns how many were allocated. The code is BB_OK even if that is less than `count`: then the
+// last search found no free bucket.
 //
 // Codes, in order: BB_UNINITIALIZED.
 BB_MUST_USE bb_number bb_pool_party_take_many(bb_pool_party *party, bb_place *slots, size_t count);
@@ -1066,17 +1109,17 @@ BB_MUST_USE bb_number bb_pool_party_take_many(bb_pool_party *party, bb_place *sl
 uint32_t bb_pool_party_deallocate(bb_pool_party *party, bb_address place);
 
 // Frees the buckets at the `count` places, in their order, as that many calls of
-// `bb_pool_party_deallocate` do, up to the first one that is refused with BB_NOT_HELD. `places` may
-// be NULL if `count` is 0.
+// `bb_pool_party_deallocate` would, up to the first one that is refused with BB_NOT_HELD. `places`
+// may be NULL if `count` is 0.
 //
-// Returns how many were freed. The code is BB_OK, even if that is less than `count`.
+// Returns how many were freed. The code is BB_OK even if that is less than `count`.
 //
 // Codes, in order: BB_UNINITIALIZED.
 bb_number bb_pool_party_deallocate_many(bb_pool_party *party, const bb_place *places, size_t count);
 
-// Frees each bucket whose flag says that this party holds it, cached or not. The party stays, with
-// nothing cached, and goes on caching what it frees from now on. The call's time is proportional to
-// the number of buckets.
+// Frees each bucket whose flag says that this party holds it, cached or not. The party stays
+// joined, with nothing cached, and goes on caching what it frees from now on. The call's time is
+// proportional to the number of buckets.
 //
 // Codes, in order: BB_UNINITIALIZED.
 uint32_t bb_pool_party_give_all_back(bb_pool_party *party);
@@ -1093,13 +1136,13 @@ bb_number bb_pool_party_holds(bb_pool_party *party, bb_address place);
 // Codes, in order: BB_UNINITIALIZED.
 uint32_t bb_pool_party_info(bb_pool_party *party, bb_shared_pool_figures *figures);
 
-// Returns where the bucket of this number begins, held or not. Buckets count from 0.
+// Returns where the bucket with this number begins, held or not. Buckets are numbered from 0.
 //
 // A process that maps the region at another address may read bucket n there: it begins n *
 // BB_STRIDE(bucket_size, bucket_align) bytes after bucket 0. If the alignment is greater than a
 // page, bucket 0 has the same offset from the mapping's start as in the process that has the pool.
 //
-// BB_NOT_A_BUCKET if the pool has no bucket of this number.
+// BB_NOT_A_BUCKET if no bucket has this number.
 //
 // Codes, in order: BB_UNINITIALIZED, BB_NOT_A_BUCKET.
 bb_chunk bb_pool_party_place_at(const bb_pool_party *party, uint32_t number);
@@ -1112,30 +1155,33 @@ bb_chunk bb_pool_party_place_at(const bb_pool_party *party, uint32_t number);
 bb_number bb_pool_party_number_at(const bb_pool_party *party, bb_address place);
 
 // Has the party cache at most `most` of the buckets that it frees from now on, and never more than
-// the pool has. The party allocates the one that it cached last without an atomic step. For other
-// parties a cached bucket is held, so give the pool more buckets than its parties may cache in all.
-// With 0 the party stops caching. What it cached before is freed first. The call's time is
-// proportional to the number of buckets.
+// the pool has. If `most` is 0, the party stops caching. What it cached before is freed first. The
+// call's time is proportional to the number of buckets.
+//
+// The party's next allocation gets the bucket that it cached last, without an atomic operation. To
+// other parties a cached bucket is held, so give the pool more buckets than its parties may cache
+// in all.
 //
 // Codes, in order: BB_UNINITIALIZED, BB_MALLOC_REFUSED.
 BB_MUST_USE uint32_t bb_pool_party_cache(bb_pool_party *party, uint32_t most);
 
-// Frees the buckets that the party caches. It goes on caching what it frees from now on.
+// Frees the buckets that the party caches. The party goes on caching what it frees from now on.
 //
 // Codes, in order: BB_UNINITIALIZED.
 uint32_t bb_pool_party_flush(bb_pool_party *party);
 
 // Makes a shared pool in an empty handle, over the region of `size` bytes at `start`, for this
 // number of parties, if the region has room for at least `buckets` buckets. None of the parties has
-// joined. The pool has as many buckets as there is room for. A start that isn't a multiple of
+// joined yet. The pool has as many buckets as there is room for. A start that isn't a multiple of
 // `bucket_align` may cost a bucket.
 //
 // Each bucket has `bucket_size` bytes and begins at a multiple of `bucket_align`.
 //
-// BB_INVALID_LAYOUT if these two are not a valid layout. BB_INVALID_ARGUMENT if `start` is 0, if
-// `start` plus `size`, or `start` rounded up to `bucket_align`, exceeds SIZE_MAX, if `bucket_size`
-// or `parties` is 0, or if there is room for UINT32_MAX buckets or more. BB_NO_BUCKET if there is
-// room for none, or for fewer than `buckets`. An empty handle stays empty if the call is refused.
+// BB_INVALID_LAYOUT if `bucket_size` and `bucket_align` are not a valid layout. BB_INVALID_ARGUMENT
+// if `start` is 0, if `start` plus `size`, or `start` rounded up to `bucket_align`, exceeds
+// SIZE_MAX, if `bucket_size` or `parties` is 0, or if there is room for UINT32_MAX buckets or more.
+// BB_NO_BUCKET if there is room for none, or for fewer than `buckets`. An empty handle stays empty
+// if the call is refused.
 //
 // Codes, in order: BB_ALREADY_INITIALIZED, BB_INVALID_LAYOUT, BB_INVALID_ARGUMENT, BB_NO_BUCKET (no
 // room for one), BB_MALLOC_REFUSED, BB_NO_BUCKET (fewer than `buckets`).
@@ -1146,6 +1192,7 @@ BB_MUST_USE static inline uint32_t bb_shared_pool_init_at_least(bb_shared_pool *
                                                                 uint32_t buckets) {
     bb_shared_pool_figures figures;
     uint32_t code = bb_shared_pool_init(pool, bucket_size, bucket_align, start, size, parties);
+
     if (code != BB_OK)
         return code;
 
@@ -1161,10 +1208,9 @@ BB_MUST_USE static inline uint32_t bb_shared_pool_init_at_least(bb_shared_pool *
 // Allocates a whole bucket, for hosts that want only a pointer: the bucket that the party cached
 // last, otherwise one that a search over all buckets finds, by next fit.
 //
-// Returns the place of the bucket, or NULL if the search found each bucket held, one after the
-// other, or if the handle is empty. `bb_pool_party_deallocate` frees the bucket. Compilers may
-// assume that no pointer is stored in the bucket yet: a host that reads what an earlier holder left
-// there calls `bb_pool_party_take`.
+// Returns the place of the bucket, or NULL if no bucket was found or if the handle is empty.
+// `bb_pool_party_deallocate` frees the bucket. Compilers may assume that no pointer is stored in
+// the bucket yet: a host that reads what an earlier holder left there calls `bb_pool_party_take`.
 BB_MUST_USE __attribute__((malloc)) static inline void *bb_pool_party_get(bb_pool_party *party) {
     return bb_pool_party_take(party).place;
 }
@@ -1177,15 +1223,18 @@ BB_MUST_USE __attribute__((malloc)) static inline void *bb_pool_party_get(bb_poo
 
 // In a pool of two parties or more, a party can detach a bucket that it holds. No party holds the
 // bucket then. Any party of the same pool, in any thread, can attach the bucket, and holds it from
-// then on. So the receiver of a message frees its bucket (examples/c/returns.c).
+// then on. So the receiver of a message can free the message's bucket (examples/c/returns.c).
 
-// A bucket goes either in a `bb_detached`, which is itself a handle, or by its number, which the
-// host may pass in any way. Several threads may read a detached bucket; the host counts them, and
-// the last one attaches or frees it (examples/c/pubsub.c). Of the calls below, only
-// `bb_detached_init` takes memory.
+// A bucket travels either in a `bb_detached`, which is itself a handle, or by its number, which the
+// host may pass in any way.
 
-// Makes a `bb_detached` in an empty handle, with no bucket in it. It serves one bucket after
-// another, of any pool.
+// Several threads may read a detached bucket; the host counts them, and the last one attaches or
+// frees it (examples/c/pubsub.c).
+
+// Of the calls below, only `bb_detached_init` requests memory.
+
+// Makes a `bb_detached` in an empty handle, with no bucket in it. It carries one bucket after
+// another, from any pool.
 //
 // Codes, in order: BB_ALREADY_INITIALIZED, BB_MALLOC_REFUSED.
 BB_MUST_USE uint32_t bb_detached_init(bb_detached *detached);
@@ -1219,22 +1268,22 @@ BB_MUST_USE uint32_t bb_pool_party_detach(bb_pool_party *party, bb_address place
 
 // Attaches the bucket that is in `detached`: this party holds it then, and `detached` has none.
 //
-// Returns the place of the chunk; `bb_detached_len` returns its length before the call.
+// Returns the place of the chunk. Its length is what `bb_detached_len` returns before this call.
 // BB_UNINITIALIZED if either handle is empty. BB_OTHER_POOL if the bucket belongs to another pool.
 //
 // Codes, in order: BB_UNINITIALIZED, BB_DETACHED_EMPTY, BB_OTHER_POOL.
 BB_MUST_USE bb_chunk bb_pool_party_attach(bb_pool_party *party, bb_detached *detached);
 
-// Frees the bucket that is in `detached`, which has none then. The call makes one store, and no
-// party holds the bucket in between.
+// Frees the bucket that is in `detached`, which has none then. No party holds the bucket in
+// between: the call frees it by one store.
 //
 // BB_UNINITIALIZED if either handle is empty. BB_OTHER_POOL if the bucket belongs to another pool.
 //
 // Codes, in order: BB_UNINITIALIZED, BB_DETACHED_EMPTY, BB_OTHER_POOL.
 uint32_t bb_pool_party_return_detached(bb_pool_party *party, bb_detached *detached);
 
-// Detaches the bucket at `place` by its number. The host passes the number to another party, with
-// the number of this party, and the other party attaches the bucket by these two numbers.
+// Detaches the bucket at `place`, to travel by its number. The host passes the bucket's number and
+// this party's number to another party, which attaches the bucket by these two numbers.
 //
 // Returns the bucket's number. BB_ONE_PARTY if the pool has no other party. BB_NOT_HELD if this
 // party doesn't hold a bucket at `place`, or caches it.
@@ -1242,12 +1291,13 @@ uint32_t bb_pool_party_return_detached(bb_pool_party *party, bb_detached *detach
 // Codes, in order: BB_UNINITIALIZED, BB_ONE_PARTY, BB_NOT_HELD.
 BB_MUST_USE bb_number bb_pool_party_detach_number(bb_pool_party *party, bb_address place);
 
-// Attaches the bucket of this number if the party of number `from` has detached it by its number:
-// this party holds it then. The call makes one exchange of the bucket's flag, so if several parties
-// call it, at most one gets the bucket. Any two numbers may be passed.
+// Attaches the bucket with this number if party `from` has detached it by
+// `bb_pool_party_detach_number`: this party holds it then. The call makes one compare-and-exchange
+// of the bucket's flag, so if several parties call it, at most one gets the bucket. Any two numbers
+// may be passed.
 //
-// Returns the place of the bucket. BB_NOT_A_BUCKET if the pool has no bucket of this number.
-// BB_NOT_HELD if the flag says anything else, as it does if the bucket is in a `bb_detached`.
+// Returns the place of the bucket. BB_NOT_A_BUCKET if no bucket has this number. BB_NOT_HELD if the
+// flag says anything else, as it does if the bucket is in a `bb_detached`.
 //
 // Codes, in order: BB_UNINITIALIZED, BB_NOT_A_BUCKET, BB_NOT_HELD.
 BB_MUST_USE bb_chunk bb_pool_party_attach_number(bb_pool_party *party, uint32_t number,

@@ -1,8 +1,10 @@
-// bb_memory for C++17, over bb_memory.h. Its rules and codes hold here too.
+// bb_memory for C++17, over bb_memory.h, whose terms, rules and codes hold here, too.
 
-// There are owners that destroy what they initialized, parties that leave when they end,
-// `std::unique_ptr` that gives its bucket back, and `std::pmr::memory_resource` over a bump, a pool
-// and a party. A refusal is a value: of an enum, or empty. Only a memory resource throws:
+// This header has owners that destroy what they initialized, parties that leave when they go out of
+// scope, a `std::unique_ptr` that frees its bucket, and a `std::pmr::memory_resource` over a bump,
+// a pool or a party.
+
+// A refusal is a value: an `error`, or an empty result. Only a memory resource throws:
 // `std::bad_alloc`, as containers require.
 
 //     alignas(64) static unsigned char region[BB_BYTES_FOR(64, 64, 16)];
@@ -22,11 +24,11 @@
 //     if (party.info()->held_buckets != 4)
 //         return;
 
-// `get()` is the handle, for each function of bb_memory.h.
+// `get()` returns the handle, for the functions of bb_memory.h.
 
-// Owners and parties neither move nor are copied, since resources and pointers keep the addresses
-// of their handles. A container that constructs them in place, as `std::deque` and
-// `std::optional` do, may have them. Only `bb::detached` moves: nothing keeps its address.
+// Owners and parties can be neither moved nor copied, since resources and pointers keep the
+// addresses of their handles. A container that constructs them in place, such as `std::deque` or
+// `std::optional`, can hold them. Only `bb::detached` can be moved: nothing keeps its address.
 
 #ifndef BB_MEMORY_HPP
 #define BB_MEMORY_HPP
@@ -49,9 +51,10 @@ namespace bb {
 // CODES
 //
 
-// The codes of bb_memory.h, which say what each means. (A formatter would drop the space before the
-// brace.)
+// clang-format would drop the space before the brace.
 // clang-format off
+
+// The codes of bb_memory.h, which says what each of them means.
 enum class [[nodiscard]] error : std::uint32_t {
     ok = BB_OK,
     size_is_zero = BB_SIZE_IS_ZERO,
@@ -81,12 +84,12 @@ enum class [[nodiscard]] error : std::uint32_t {
 
 // clang-format on
 
-// Returns a sentence on a code, for a log.
+// Returns a short text about a code, for a log.
 inline const char *text(error code) noexcept {
     return bb_text(static_cast<std::uint32_t>(code));
 }
 
-// Returns the name of a code in bb_memory.h, as "BB_NOT_HELD".
+// Returns the name of a code in bb_memory.h, such as "BB_NOT_HELD".
 inline const char *name(error code) noexcept {
     return bb_name(static_cast<std::uint32_t>(code));
 }
@@ -95,7 +98,7 @@ inline const char *name(error code) noexcept {
 // FIGURES
 //
 
-// Returns the figures of what the handle owns, or nothing if it is empty.
+// Returns the figures of what is in the handle, or nothing if the handle is empty.
 template<class Figures, class Handle>
 std::optional<Figures> figures(std::uint32_t (*info)(Handle *, Figures *),
                                std::remove_const_t<Handle> *of) noexcept {
@@ -108,12 +111,12 @@ inline std::optional<bb_bump_figures> info(bb_bump *of) noexcept {
     return figures(bb_bump_info, of);
 }
 
-// Returns the figures of the bump of a party, or nothing if the handle is empty.
+// Returns the figures of a party's bump, or nothing if the handle is empty.
 inline std::optional<bb_bump_figures> info(bb_bump_party *of) noexcept {
     return figures(bb_bump_party_info, of);
 }
 
-// Returns the figures of a one chunk, or nothing if the handle is empty.
+// Returns the figures of a one-chunk allocator, or nothing if the handle is empty.
 inline std::optional<bb_one_chunk_figures> info(bb_one_chunk *of) noexcept {
     return figures(bb_one_chunk_info, of);
 }
@@ -123,8 +126,8 @@ inline std::optional<bb_pool_figures> info(bb_pool *of) noexcept {
     return figures(bb_pool_info, of);
 }
 
-// Returns the figures of the pool of a party, with the buckets that the party holds, or nothing if
-// the handle is empty.
+// Returns the figures of a party's pool, or nothing if the handle is empty. Only the buckets that
+// the party holds and doesn't cache count as held.
 inline std::optional<bb_shared_pool_figures> info(bb_pool_party *of) noexcept {
     return figures(bb_pool_party_info, of);
 }
@@ -138,7 +141,7 @@ inline std::optional<bb_shared_pool_figures> info(bb_shared_pool *of) noexcept {
 // OWNERS
 //
 
-// Owns a handle, which is empty until an `init` and after a `destroy`. It doesn't move.
+// Owns a handle, which is empty before `init` and after `destroy`. An owner can't be moved.
 template<class Handle, auto Destroy>
 class owner {
 public:
@@ -148,7 +151,7 @@ public:
 
     ~owner() { static_cast<void>(destroy()); }
 
-    // Destroys what is owned now. It may be initialized again.
+    // Destroys what is in the handle. The owner can be initialized again.
     error destroy() noexcept { return static_cast<error>(Destroy(&handle_)); }
 
     // Returns the handle, for functions of bb_memory.h.
@@ -173,23 +176,23 @@ public:
     std::optional<bb_bump_figures> info() noexcept { return bb::info(get()); }
 };
 
-// Owns a one chunk.
+// Owns a one-chunk allocator.
 class one_chunk : public owner<bb_one_chunk, bb_one_chunk_destroy> {
 public:
-    // Makes a one chunk over the region of `size` bytes at `start`.
+    // Makes a one-chunk allocator over the region of `size` bytes at `start`.
     error init(void *start, std::size_t size) noexcept {
         return static_cast<error>(bb_one_chunk_init(get(), start, size));
     }
 
-    // Returns the figures of the one chunk, or nothing if there is none.
+    // Returns the figures of the allocator, or nothing if there is none.
     std::optional<bb_one_chunk_figures> info() noexcept { return bb::info(get()); }
 };
 
 // Owns a pool.
 class pool : public owner<bb_pool, bb_pool_destroy> {
 public:
-    // Makes a pool over the region of `size` bytes at `start`. Its buckets have `bucket_size` bytes
-    // at multiples of `bucket_align`.
+    // Makes a pool over the region of `size` bytes at `start`. Each bucket has `bucket_size` bytes
+    // and begins at a multiple of `bucket_align`.
     error init(std::size_t bucket_size, std::size_t bucket_align, void *start,
                std::size_t size) noexcept {
         return static_cast<error>(bb_pool_init(get(), bucket_size, bucket_align, start, size));
@@ -199,7 +202,7 @@ public:
     std::optional<bb_pool_figures> info() noexcept { return bb::info(get()); }
 };
 
-// Owns a `bb_detached`. It moves, and a bucket that is in it moves along.
+// Owns a `bb_detached`. It can be moved, together with the bucket that is in it.
 class detached {
 public:
     detached() noexcept = default;
@@ -218,7 +221,7 @@ public:
     // Makes a `bb_detached` with no bucket in it.
     error init() noexcept { return static_cast<error>(bb_detached_init(&handle_)); }
 
-    // Returns the bytes of the chunk that is in it, or nothing if there is none.
+    // Returns the length in bytes of the chunk that is in it, or nothing if there is none.
     std::optional<std::size_t> len() noexcept {
         bb_number result = bb_detached_len(&handle_);
         return result.code == BB_OK ? std::optional<std::size_t>(result.number) : std::nullopt;
@@ -235,15 +238,15 @@ private:
 };
 
 //
-// WHAT THREADS SHARE
+// SHARED BETWEEN THREADS
 //
 
-// Owns what threads share, and outlives its parties. Parties join and leave under its lock, in any
-// thread.
+// Owns a bump or a pool that threads share. It has to outlive its parties, which join and leave
+// under its lock, in any thread.
 template<class Handle, auto Destroy, auto Abandon, class PartyHandle, auto Join, auto Leave>
 class shared : public owner<Handle, Destroy> {
 public:
-    // Leaves when it ends. It doesn't move.
+    // A party, which leaves when it goes out of scope. It can't be moved.
     class party {
     public:
         party() noexcept = default;
@@ -252,8 +255,8 @@ public:
 
         ~party() { leave(); }
 
-        // Ends the party, which may join again. Each bucket that it holds is given back: none of
-        // them is used any more.
+        // Has the party leave. It can join again later. Each bucket that it holds is freed, and
+        // must not be used anymore.
         void leave() noexcept { end_by(Leave); }
 
         // Returns the handle, for functions of bb_memory.h.
@@ -263,7 +266,7 @@ public:
         const PartyHandle *get() const noexcept { return &handle_; }
 
     protected:
-        // Ends the party by `Leave`, or by another call that empties its handle.
+        // Has the party leave with `Leave`, or with another call that empties its handle.
         void end_by(std::uint32_t (*call)(Handle *, PartyHandle *)) noexcept {
             if (shared *of = std::exchange(of_, nullptr)) {
                 std::lock_guard<std::mutex> lock(of->lock_);
@@ -280,24 +283,25 @@ public:
 
     shared() noexcept = default;
 
-    // Abandons what is owned if it can't be destroyed, as a pool with a detached bucket. Until
-    // nobody uses that `bb_detached`, no other shared pool has the same start.
+    // Destroys the bump or the pool. Abandons it if it can't be destroyed, such as a pool with a
+    // detached bucket: as long as anybody uses the `bb_detached` with that bucket, no other shared
+    // pool may have the same start.
     ~shared() {
         if (this->destroy() != error::ok)
             Abandon(this->get());
     }
 
-    // Destroys what is owned now, if no party has joined and no bucket is detached.
+    // Destroys the bump or the pool, unless a party is joined or a bucket is detached.
     error destroy() noexcept {
         std::lock_guard<std::mutex> lock(lock_);
         return owner<Handle, Destroy>::destroy();
     }
 
-    // Has a party join that hasn't joined.
+    // Has the party `into` join. The call is refused if that party has joined already.
     error join(party &into) noexcept { return join_by(Join, into); }
 
 protected:
-    // Has the party join by `Join`, or by another call that fills its handle.
+    // Has the party join with `Join`, or with another call that fills its handle.
     template<class Call>
     error join_by(Call call, party &into) noexcept {
         std::lock_guard<std::mutex> lock(lock_);
@@ -336,7 +340,8 @@ public:
         return static_cast<error>(bb_shared_bump_init(get(), start, size, parties));
     }
 
-    // Starts again over the region if each party has left: nothing is used then.
+    // Frees all chunks, and starts again over the region, if every party has left. The chunks must
+    // not be used anymore.
     error reset() noexcept {
         std::lock_guard<std::mutex> lock(lock_);
         return static_cast<error>(bb_shared_bump_reset(get()));
@@ -346,8 +351,8 @@ public:
 // A party of a pool that threads share.
 class pool_party : public detail::shared_pool::party {
 public:
-    // Returns the figures of the pool, with the buckets that this party holds, or nothing if it
-    // hasn't joined.
+    // Returns the figures of the pool, or nothing if the party hasn't joined. Only the buckets that
+    // this party holds and doesn't cache count as held.
     std::optional<bb_shared_pool_figures> info() noexcept { return bb::info(get()); }
 
     // Returns the number by which flags name this party, or nothing if it hasn't joined.
@@ -358,25 +363,25 @@ public:
         return static_cast<std::uint32_t>(result.number);
     }
 
-    // Has the party cache at most `most` of the buckets that it returns from now on.
+    // Has the party cache at most `most` of the buckets that it frees from now on.
     error cache(std::uint32_t most) noexcept {
         return static_cast<error>(bb_pool_party_cache(get(), most));
     }
 
-    // Gives back the buckets that the party caches.
+    // Frees the buckets that the party caches.
     error flush() noexcept { return static_cast<error>(bb_pool_party_flush(get())); }
 
-    // Gives back the bucket that is in `from`, without attaching it.
+    // Frees the bucket that is in `from`, without attaching it.
     error return_detached(detached &from) noexcept {
         return static_cast<error>(bb_pool_party_return_detached(get(), from.get()));
     }
 
-    // Gives back each bucket that this party holds, cached ones too. The party stays.
+    // Frees each bucket that this party holds, cached or not. The party stays joined.
     error give_all_back() noexcept {
         return static_cast<error>(bb_pool_party_give_all_back(get()));
     }
 
-    // Ends the party without giving anything back: the next party that joins by its number holds
+    // Has the party leave without freeing anything: the next party that joins with its number holds
     // what this one held.
     void forget() noexcept { end_by(bb_shared_pool_forget); }
 };
@@ -386,8 +391,8 @@ class shared_pool : public detail::shared_pool {
 public:
     using party = pool_party;
 
-    // Makes a pool over the region of `size` bytes at `start`, for this number of parties. Its
-    // buckets have `bucket_size` bytes at multiples of `bucket_align`.
+    // Makes a pool over the region of `size` bytes at `start`, for this number of parties. Each
+    // bucket has `bucket_size` bytes and begins at a multiple of `bucket_align`.
     error init(std::size_t bucket_size, std::size_t bucket_align, void *start, std::size_t size,
                std::uint32_t parties) noexcept {
         return static_cast<error>(
@@ -397,7 +402,7 @@ public:
     // Returns the figures of the pool, or nothing if there is none.
     std::optional<bb_shared_pool_figures> info() noexcept { return bb::info(get()); }
 
-    // Has the party of this number join, as `number()` returns it.
+    // Has `into` join as the party with this number, which `number()` returns.
     error join_number(std::uint32_t number, party &into) noexcept {
         return join_by(
             [number](bb_shared_pool *of, bb_pool_party *handle) {
@@ -406,8 +411,8 @@ public:
             into);
     }
 
-    // Returns what the flag of this bucket says, for any thread, or nothing if no bucket has the
-    // number.
+    // Returns what the flag of the bucket with this number says, or nothing if no bucket has the
+    // number. Any thread may call this.
     std::optional<bb_holder> holder(std::uint32_t number) const noexcept {
         bb_holder result{};
         if (bb_shared_pool_holder(get(), number, &result) != BB_OK)
@@ -417,7 +422,7 @@ public:
 };
 
 //
-// CALLS that `take`, `make` and the resources choose by a handle's type.
+// CALLS: overloads by the handle's type, for `take`, `make` and the resources.
 //
 
 // Allocates `size` bytes at a multiple of `align` in a bump.
@@ -450,12 +455,12 @@ inline bb_chunk take_whole(bb_pool_party *of) {
     return bb_pool_party_take(of);
 }
 
-// Gives the bucket at this place back to a pool.
+// Frees the bucket of a pool at `place`.
 inline error deallocate(bb_pool *to, const void *place) {
     return static_cast<error>(bb_pool_deallocate(to, place));
 }
 
-// Gives the bucket at this place back to a party's pool.
+// Frees the bucket at `place`, which the party holds.
 inline error deallocate(bb_pool_party *to, const void *place) {
     return static_cast<error>(bb_pool_party_deallocate(to, place));
 }
@@ -466,18 +471,18 @@ inline std::size_t take_many(bb_pool_party *from, void **slots, std::size_t coun
     return bb_pool_party_take_many(from, slots, count).number;
 }
 
-// Gives the buckets at these places back to the pool, up to the first one that is refused. Returns
-// how many were given back.
+// Frees the buckets at these places, up to the first one that is refused. Returns how many were
+// freed.
 inline std::size_t deallocate_many(bb_pool_party *to, void *const *places, std::size_t count) {
     return bb_pool_party_deallocate_many(to, places, count).number;
 }
 
-// Detaches the bucket at this place, with a chunk of `len` bytes, into a `bb_detached`.
+// Detaches the bucket at `place`, with a chunk of `len` bytes, into a `bb_detached`.
 inline error detach(bb_pool_party *from, const void *place, std::size_t len, detached &into) {
     return static_cast<error>(bb_pool_party_detach(from, place, len, into.get()));
 }
 
-// Detaches the bucket at this place and returns its number, by which another party attaches it.
+// Detaches the bucket at `place` and returns its number, by which another party attaches it.
 // Returns nothing if `from` doesn't hold the bucket, or if its pool has no other party.
 inline std::optional<std::uint32_t> detach_number(bb_pool_party *from, const void *place) {
     bb_number number = bb_pool_party_detach_number(from, place);
@@ -487,11 +492,11 @@ inline std::optional<std::uint32_t> detach_number(bb_pool_party *from, const voi
 }
 
 //
-// VALUES in buckets
+// VALUES IN BUCKETS
 //
 
-// Destroys a T, and gives its bucket back. With `void` it only gives the bucket back. Until then
-// the handle doesn't move.
+// A deleter, which destroys a T and frees its bucket, or only frees the bucket if T is `void`. The
+// handle has to stay at its address until then.
 template<class T, class Handle>
 struct give_back {
     Handle *to;
@@ -507,13 +512,13 @@ struct give_back {
 template<class T, class Handle>
 using unique = std::unique_ptr<T, give_back<T, Handle>>;
 
-// Whether a handle is one of a pool or of a party of a pool.
+// True if a handle is that of a pool or of a pool's party.
 template<class Handle>
 inline constexpr bool has_buckets =
     std::is_same_v<Handle, bb_pool> || std::is_same_v<Handle, bb_pool_party>;
 
-// Allocates a whole bucket of a pool or of a party's pool, whose handle outlives the pointer. The
-// pointer is empty if each bucket is held.
+// Allocates a whole bucket of a pool or of a party's pool, whose handle has to outlive the pointer.
+// The pointer is empty if no bucket is free.
 template<class Handle, class = std::enable_if_t<has_buckets<Handle>>>
 unique<void, Handle> take(Handle *from) {
     bb_chunk given = bb::take_whole(from);
@@ -526,16 +531,16 @@ inline unique<void, bb_pool_party> attach(bb_pool_party *to, detached &from) {
     return unique<void, bb_pool_party>(given.code == BB_OK ? given.place : nullptr, {to});
 }
 
-// Attaches the bucket of this number if the party of number `from` has detached it by its number.
-// Of any number of callers at most one gets the bucket; the others get an empty pointer.
+// Attaches the bucket with this number if party `from` has detached it by `detach_number`. If
+// several parties call this, at most one gets the bucket; the others get an empty pointer.
 inline unique<void, bb_pool_party> attach_number(bb_pool_party *to, std::uint32_t number,
                                                  std::uint32_t from) {
     bb_chunk given = bb_pool_party_attach_number(to, number, from);
     return unique<void, bb_pool_party>(given.code == BB_OK ? given.place : nullptr, {to});
 }
 
-// Makes a T in a bucket of a pool or of a party's pool, whose handle outlives the pointer. The
-// pointer is empty if the pool refuses. If T's constructor throws, the bucket is given back.
+// Makes a T in a bucket of a pool or of a party's pool, whose handle has to outlive the pointer.
+// The pointer is empty if the pool refuses. If T's constructor throws, the bucket is freed.
 template<class T, class Handle, class... Arguments>
 std::enable_if_t<has_buckets<Handle>, unique<T, Handle>> make(Handle *from,
                                                               Arguments &&...arguments) {
@@ -552,12 +557,12 @@ std::enable_if_t<has_buckets<Handle>, unique<T, Handle>> make(Handle *from,
 // MEMORY RESOURCES
 //
 
-// A resource over a bump or a party's bump, whose handle outlives it. It takes no single chunk
-// back.
+// A resource over a bump or a party's bump, whose handle has to outlive it. Deallocating a chunk
+// does nothing.
 template<class Handle>
 class bump_resource final : public std::pmr::memory_resource {
 public:
-    // Makes a resource over what `from` owns.
+    // Makes a resource over the bump of `from`.
     explicit bump_resource(Handle *from) noexcept : from_(from) {}
 
 private:
@@ -579,13 +584,13 @@ private:
 template<class Handle>
 bump_resource(Handle *) -> bump_resource<Handle>;
 
-// A resource over a pool or a party's pool, whose handle outlives it. Upstream serves what the pool
-// refuses, and throws if it can't. A place in the pool's buckets is never passed upstream, even if
-// the pool refuses the return or the party has left.
+// A resource over a pool or a party's pool, whose handle has to outlive it. The upstream resource
+// serves what the pool refuses, and throws if it can't. A place in the pool's buckets is never
+// passed upstream, even if the pool refuses to free it or the party has left.
 template<class Handle>
 class pool_resource final : public std::pmr::memory_resource {
 public:
-    // Makes a resource over what `from` owns. Without `upstream` it throws what the pool refuses.
+    // Makes a resource over the pool of `from`. Without `upstream` it throws if the pool refuses.
     explicit pool_resource(Handle *from, std::pmr::memory_resource *upstream =
                                              std::pmr::null_memory_resource()) noexcept
         : from_(from), upstream_(upstream) {}

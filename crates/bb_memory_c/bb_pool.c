@@ -24,14 +24,14 @@ static const char USAGE[] =
     "usage: bb-pool [--reap [--detached]] [--watch] FILE\n"
     "\n"
     "Shows the shared pool in FILE: its figures, its parties, its full slots, and a map of its\n"
-    "buckets. A party is a letter, A for party 0, which is in lower case if the party is dead.\n"
+    "buckets. Each party is a letter, A for party 0, in lower case if the party is dead.\n"
     "\n"
-    "  --reap      first gives back what dead parties hold; messages in slots stay\n"
-    "  --detached  with --reap: also what dead parties have detached and is in no slot\n"
-    "  --watch     shows the pool each second, until it is interrupted\n"
+    "  --reap      first frees what dead parties hold; messages in slots stay\n"
+    "  --detached  with --reap: also frees what dead parties detached, if it is in no slot\n"
+    "  --watch     shows the pool every second, until it is interrupted\n"
     "  --help      shows this text\n"
     "\n"
-    "The status is 0, or 1 if the file can't be opened, or 2 if the words are wrong.\n";
+    "The status is 0, or 1 if the file can't be opened, or 2 if the arguments are wrong.\n";
 
 // What one look at the pool's parties has found.
 struct parties {
@@ -48,7 +48,7 @@ static int fail(const char *path, uint32_t code) {
     return REFUSED;
 }
 
-// Returns the letter of a party. From 26 parties on, several have one letter.
+// Returns the letter of a party. With more than 26 parties, several share a letter.
 static char letter_of(const struct parties *parties, uint32_t party) {
     return (char)((parties->alive[party] ? 'A' : 'a') + party % 26);
 }
@@ -166,7 +166,7 @@ static uint32_t show(bb_pool_file *file, const char *path) {
     return code;
 }
 
-// Shows the pool each second.
+// Shows the pool every second.
 static uint32_t watch(bb_pool_file *file, const char *path) {
     for (;;) {
         if (isatty(STDOUT_FILENO))
@@ -184,7 +184,7 @@ static uint32_t reap(bb_pool_file *file, bool detached) {
     uint32_t given_back = 0;
     const uint32_t code = bb_pool_file_reap(file, detached, &given_back);
     if (code == BB_OK)
-        printf("given back: %u\n", given_back);
+        printf("freed: %u\n", given_back);
     return code;
 }
 
@@ -214,7 +214,7 @@ int main(int argc, char **argv) {
         fputs(USAGE, stderr);
         return BAD_USAGE;
     }
-    // Whoever calls this may look at any file that the system lets open.
+    // The user may look at any file that the system lets this process open.
     const bb_pool_file_options options = {.buckets = 0, .mode = 0666};
     bb_pool_file *file;
     uint32_t code = bb_pool_file_open(&file, path, &options);

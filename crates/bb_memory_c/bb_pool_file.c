@@ -2,12 +2,12 @@
 //
 // The file has a header page, the pages of the flags' words, those of the slots, and those of the
 // region. Each process maps all but the header, at any address, and makes a shared pool of its own:
-// the library gets memory of this process's for the flags' words by a loan (memory.h), and then the
-// file's words are mapped over it. A process uses the party of a number while it has the lock of a
-// byte of the file.
+// the library is lent memory of this process for the flags' words (memory.h), and then the file's
+// words are mapped over that memory. A process uses a party as long as it holds the lock on the
+// party's byte of the file.
 //
 // A bucket's flag says who may touch the bucket, and a slot says that a bucket has a message. A
-// sender fills the slot first and detaches the bucket then. Whoever holds a bucket and finds it in
+// sender first fills the slot, and then detaches the bucket. Whoever holds a bucket and finds it in
 // a slot has that slot's message, since only a bucket's holder empties its slot.
 #define _GNU_SOURCE
 #include "bb_pool_file.h"
@@ -48,16 +48,16 @@ enum {
 };
 
 enum {
-    FORMAT = 1,
+    FORMAT = 2,
     MOST_PARTIES = 65535,
-    // The flags' words begin with this many that are no flag.
-    WORDS_BEFORE = 8,
+    // How many words come before the first flag.
+    WORDS_BEFORE = 16,
     // Of the requests for memory that `bb_shared_pool_init` makes, the second is for a list of
     // zeros, and the third for the flags' words, which are a copy of that list.
     ZEROS_REQUEST = 2,
     WORDS_REQUESTS = 2,
-    // If the flags' words take more bytes than this, they are at first that many bytes or more, which
-    // are mapped again and again, at most MOST_STAND_INS times.
+    // If the flags' words take more bytes than this, they are at first that many bytes or more,
+    // which are mapped again and again, at most MOST_STAND_INS times.
     STAND_IN = 1 << 18,
     MOST_STAND_INS = 64,
     // A sleep lasts at most this many milliseconds. So whoever was killed before it woke others
@@ -72,8 +72,9 @@ enum {
     READY = 2
 };
 
-// The bytes of the file that are locked: LOCK_MAKE by who makes the file, or looks whether it is
-// made; LOCK_USED by all that have it open; LOCK_PARTY plus the number by who uses a party.
+// The bytes of the file that are locked: LOCK_MAKE by the process that makes the file, or looks
+// whether it is made; LOCK_USED by all that have it open; LOCK_PARTY plus a party's number by the
+// process that uses the party.
 enum {
     LOCK_MAKE = 0,
     LOCK_USED = 1,
@@ -101,11 +102,11 @@ struct header {
     uint32_t parties;
     uint32_t slots;
     uint32_t mode;
-    // The machine's start in which the file was made. After another start, no party lives.
+    // The machine's boot identifier when the file was made. After another boot no party is alive.
     char boot[40];
 };
 
-// Who sleeps waits until a number changes. Bit 0 of it says that somebody may be asleep.
+// A sleeper waits until the value changes. Bit 0 of it says that somebody may be asleep.
 struct event {
     uint32_t value;
 };
@@ -139,9 +140,9 @@ struct bb_pool_file {
     char *region;
     bb_shared_pool pool;
     bb_pool_party *parties;
-    // Of each number, whether this `bb_pool_file` has its lock.
+    // For each party, whether this `bb_pool_file` holds its lock.
     bool *mine;
-    // Locked by what joins, leaves and reaps.
+    // Locked by calls that join, leave or reap.
     pthread_mutex_t mutex;
     bb_pool_file *next;
     // Whether this is a forked child's copy.
@@ -158,8 +159,8 @@ static size_t smaller(size_t one, size_t other) {
 
 // LOCKS
 
-// Locks a byte of the file, or unlocks it. Returns 0, or -1, with EAGAIN if another open file has
-// the lock. With F_OFD_GETLK it returns 1 if another open file has it.
+// Locks a byte of the file, or unlocks it. Returns 0, or -1, with EAGAIN if another open file holds
+// the lock. With F_OFD_GETLK it returns 1 if another open file holds it.
 static int lock(int fd, int command, short type, off_t byte) {
     struct flock flock = {.l_type = type, .l_whence = SEEK_SET, .l_start = byte, .l_len = 1};
     int result;
@@ -192,7 +193,7 @@ static size_t read_text(const char *path, char *text, size_t size) {
     return (size_t)length;
 }
 
-// Reads the identification of the machine's start, which is empty if it isn't known.
+// Reads the identifier of the machine's last boot, which is empty if it isn't known.
 static void read_boot(char boot[40]) {
     char text[40] = "";
     memset(boot, 0, 40);
@@ -200,7 +201,8 @@ static void read_boot(char boot[40]) {
         memcpy(boot, text, 36);
 }
 
-// Returns how many bytes of memory programs may still take, or SIZE_MAX if it isn't known.
+// Returns how many bytes of memory are still available to programs, or SIZE_MAX if that isn't
+// known.
 static size_t available_memory(void) {
     char text[1024];
     if (read_text("/proc/meminfo", text, sizeof text) == 0)
@@ -211,8 +213,8 @@ static size_t available_memory(void) {
     return (size_t)strtoull(found + strlen("MemAvailable:"), NULL, 10) * 1024;
 }
 
-// Returns whether the file system has room for `size` bytes more. A file of a tmpfs and a memfd
-// also take the machine's memory, which the system would give until processes are killed for it.
+// Returns whether the file system has room for `size` more bytes. A file in a tmpfs or a memfd also
+// uses the machine's memory, which the system would give until it had to kill processes.
 static bool has_room(int fd, size_t size) {
     struct statvfs space;
     struct statfs kind;
@@ -228,8 +230,8 @@ static bool has_room(int fd, size_t size) {
     return fits;
 }
 
-// Returns whether this process may make a file of that length. The system would send a signal if it
-// tried.
+// Returns whether this process may make a file of that length. If it tried to without being
+// allowed, the system would send a signal.
 static bool is_allowed(size_t size) {
     struct rlimit limit;
     if (getrlimit(RLIMIT_FSIZE, &limit) != 0)
@@ -275,7 +277,8 @@ static size_t lay_out(bb_pool_file *file) {
     return PAGE + file->words_size + file->slots_size + file->region_size;
 }
 
-// Makes the file. The last write says that it is ready: what a kill cuts off before is made anew.
+// Makes the file. The last write says that it is ready: a file whose maker is killed before that is
+// made anew.
 static uint32_t make(bb_pool_file *file, const char *boot) {
     const size_t size = lay_out(file);
     memcpy(file->head.magic, MAGIC, sizeof MAGIC);
@@ -320,7 +323,7 @@ static void take_figures(struct header *head, const bb_pool_file_options *option
     head->mode = options->mode == 0 ? 0600 : options->mode;
 }
 
-// Reads the header, and makes the file unless it is ready. The maker's lock is this process's.
+// Reads the header, and makes the file unless it is ready. This process holds LOCK_MAKE.
 static uint32_t read_or_make(bb_pool_file *file, const bb_pool_file_options *options) {
     struct header *head = &file->head;
     const ssize_t length = pread(file->fd, head, sizeof *head, 0);
@@ -347,7 +350,7 @@ static uint32_t read_or_make(bb_pool_file *file, const bb_pool_file_options *opt
         return BB_FILE_MISMATCH;
     if (is_ready && !is_old)
         return BB_OK;
-    // Nobody uses the file if its lock is available. An old file that is used is none.
+    // Nobody uses the file if LOCK_USED is available. A file in use isn't made anew, old or not.
     if (lock(file->fd, F_OFD_SETLK, F_WRLCK, LOCK_USED) != 0)
         return is_ready && errno == EAGAIN ? BB_OK : BB_FILE_SYSTEM;
     if (!says_figures(options))
@@ -369,9 +372,66 @@ static uint32_t enter(bb_pool_file *file, const bb_pool_file_options *options) {
     return BB_OK;
 }
 
-// Maps the same few pages over the words again and again: they stay in the cache, and no others have
-// to be cleared. Returns false if the system refuses, as valgrind does.
-static bool map_again_and_again(const bb_pool_file *file) {
+// Reserves addresses for words, slots and region side by side. The region begins at a multiple of
+// the buckets' alignment.
+static bool reserve(bb_pool_file *file) {
+    const size_t before = file->words_size + file->slots_size;
+    size_t align = file->head.bucket_align;
+    if (align < PAGE)
+        align = PAGE;
+    file->reserved_size = before + file->region_size + align;
+    char *reserved = mmap(NULL, file->reserved_size, PROT_NONE,
+                          MAP_PRIVATE | MAP_ANONYMOUS | MAP_NORESERVE, -1, 0);
+    if (reserved == MAP_FAILED)
+        return false;
+    file->reserved = reserved;
+    const uintptr_t start = (uintptr_t)reserved;
+    file->region = reserved + (round_up(start + before, align) - start);
+    char *slots = file->region - file->slots_size;
+    file->events = (struct events *)(void *)slots;
+    file->slots = (struct slot *)(void *)(slots + sizeof(struct events));
+    file->words = (uint64_t *)(void *)(slots - file->words_size);
+    return true;
+}
+
+// Gives up the reservation after the system failed to map `size` bytes over it at `at`. The system
+// may have unmapped these first, and another thread may have mapped something there since: so what
+// is there is left as it is.
+static void give_up_reservation(bb_pool_file *file, char *at, size_t size) {
+    char *after = at + size;
+    char *end = file->reserved + file->reserved_size;
+    if (at > file->reserved)
+        munmap(file->reserved, (size_t)(at - file->reserved));
+    if (end > after)
+        munmap(after, (size_t)(end - after));
+    file->reserved = NULL;
+}
+
+// Maps `size` bytes over the reservation, from the words on. If the system refuses, the reservation
+// is given up, unless the system said EAGAIN, which it does before it unmaps anything.
+static bool map_over(bb_pool_file *file, size_t size, int flags, int fd, off_t offset) {
+    char *words = (char *)file->words;
+    if (mmap(words, size, PROT_READ | PROT_WRITE, flags | MAP_FIXED, fd, offset) == words)
+        return true;
+    if (errno != EAGAIN)
+        give_up_reservation(file, words, size);
+    return false;
+}
+
+// Returns whether the system maps the same pages twice. Valgrind doesn't.
+static bool maps_twice(char *pages, size_t size) {
+    // The old size of 0 says to keep what is mapped, here and below.
+    char *second = mremap(pages, 0, size, MREMAP_MAYMOVE);
+    if (second == MAP_FAILED)
+        return false;
+    munmap(second, size);
+    return true;
+}
+
+// Maps the same few pages over the words again and again: they stay in the cache, and no others
+// have to be cleared. Returns false if the system refuses. If it refused only halfway, the
+// reservation is given up.
+static bool map_again_and_again(bb_pool_file *file) {
     char *words = (char *)file->words;
     size_t part = round_up(file->words_size / MOST_STAND_INS + 1, PAGE);
     if (part < STAND_IN)
@@ -379,29 +439,32 @@ static bool map_again_and_again(const bb_pool_file *file) {
     char *pages = mmap(NULL, part, PROT_READ | PROT_WRITE, MAP_SHARED | MAP_ANONYMOUS, -1, 0);
     if (pages == MAP_FAILED)
         return false;
-    const char *mapped = words;
-    for (size_t at = 0; at < file->words_size && mapped != MAP_FAILED; at += part) {
+    bool is_mapped = maps_twice(pages, part);
+    for (size_t at = 0; at < file->words_size && is_mapped; at += part) {
         const size_t length = smaller(part, file->words_size - at);
-        // The old size of 0 says to keep what is mapped.
-        mapped = mremap(pages, 0, length, MREMAP_MAYMOVE | MREMAP_FIXED, words + at);
+        const int flags = MREMAP_MAYMOVE | MREMAP_FIXED;
+        is_mapped = mremap(pages, 0, length, flags, words + at) != MAP_FAILED;
+        if (!is_mapped)
+            give_up_reservation(file, words + at, length);
     }
     munmap(pages, part);
     // This saves a page fault for each page. Linux before 5.14 refuses it.
-    madvise(words, file->words_size, MADV_POPULATE_READ);
-    return mapped != MAP_FAILED;
+    if (is_mapped)
+        madvise(words, file->words_size, MADV_POPULATE_READ);
+    return is_mapped;
 }
 
 // Maps memory for the words while the library makes its pool, which fills them with zeros.
-static bool map_stand_ins(const bb_pool_file *file) {
-    const int private = MAP_PRIVATE | MAP_ANONYMOUS | MAP_FIXED;
+static bool map_stand_ins(bb_pool_file *file) {
     if (file->words_size > STAND_IN && map_again_and_again(file))
         return true;
-    return mmap(file->words, file->words_size, PROT_READ | PROT_WRITE, private, -1, 0) ==
-           file->words;
+    if (file->reserved == NULL && !reserve(file))
+        return false;
+    return map_over(file, file->words_size, MAP_PRIVATE | MAP_ANONYMOUS, -1, 0);
 }
 
-// Makes this process's pool over the words, which are the stand-ins so far. The library has them
-// for its list of zeros and for the copy of it: it writes nothing but zeros by either.
+// Makes this process's pool over the words, which so far are the stand-ins. The library uses them
+// for its list of zeros and for the copy of that list: it writes nothing but zeros to either.
 static uint32_t make_pool(bb_pool_file *file) {
     const struct header *head = &file->head;
     const size_t words_size = (WORDS_BEFORE + (size_t)head->buckets) * sizeof(uint64_t);
@@ -415,53 +478,36 @@ static uint32_t make_pool(bb_pool_file *file) {
     return is_kept ? BB_OK : BB_FILE_VERSION;
 }
 
-// Maps words, slots and region side by side, so that the region is a multiple of the buckets'
-// alignment, and makes the pool. A forked child has nothing of it: its copy of the mapping would
-// keep the locks.
+// Maps words, slots and region, and makes the pool. A forked child has nothing of it: its copy of
+// the mapping would keep the locks.
 static uint32_t map_all(bb_pool_file *file) {
-    const size_t before = file->words_size + file->slots_size;
-    const size_t size = before + file->region_size;
-    size_t align = file->head.bucket_align;
-    if (align < PAGE)
-        align = PAGE;
-    file->reserved_size = size + align;
-    char *reserved = mmap(NULL, file->reserved_size, PROT_NONE,
-                          MAP_PRIVATE | MAP_ANONYMOUS | MAP_NORESERVE, -1, 0);
-    if (reserved == MAP_FAILED)
-        return BB_FILE_SYSTEM;
-    file->reserved = reserved;
-    const uintptr_t start = (uintptr_t)reserved;
-    file->region = reserved + (round_up(start + before, align) - start);
-    char *slots = file->region - file->slots_size;
-    char *words = slots - file->words_size;
-    file->events = (struct events *)(void *)slots;
-    file->slots = (struct slot *)(void *)(slots + sizeof(struct events));
-    file->words = (uint64_t *)(void *)words;
-    if (!map_stand_ins(file))
+    const size_t size = file->words_size + file->slots_size + file->region_size;
+    if (!reserve(file) || !map_stand_ins(file))
         return BB_FILE_SYSTEM;
     const uint32_t code = make_pool(file);
     if (code != BB_OK)
         return code;
-    const int shared = MAP_SHARED | MAP_FIXED;
-    if (mmap(words, size, PROT_READ | PROT_WRITE, shared, file->fd, PAGE) != words)
+    if (!map_over(file, size, MAP_SHARED, file->fd, PAGE))
         return BB_FILE_SYSTEM;
-    return madvise(words, size, MADV_DONTFORK) == 0 ? BB_OK : BB_FILE_SYSTEM;
+    return madvise(file->words, size, MADV_DONTFORK) == 0 ? BB_OK : BB_FILE_SYSTEM;
 }
 
-// Frees the pool of this process. Nothing of the file changes: private memory is mapped over the
-// words before, in which no bucket is in use.
+// Frees the pool of this process. Nothing in the file changes: before that, private memory is
+// mapped over the words, in which no bucket is in use. If the reservation was given up, the words
+// may be another thread's. The library doesn't touch them here, as `cases` shows.
 static void free_pool(bb_pool_file *file) {
-    const int private = MAP_PRIVATE | MAP_ANONYMOUS | MAP_FIXED;
     if (file->words == NULL)
         return;
-    if (mmap(file->words, file->words_size, PROT_READ | PROT_WRITE, private, -1, 0) == MAP_FAILED)
+    if (file->reserved != NULL &&
+        !map_over(file, file->words_size, MAP_PRIVATE | MAP_ANONYMOUS, -1, 0))
         return;
     memory_lend(file->words, 0, 1, 0);
     bb_shared_pool_abandon(&file->pool);
     memory_end_loan();
 }
 
-// Frees all of a `bb_pool_file` whose parties have left. The locks go last. `errno` stays.
+// Frees all of a `bb_pool_file` whose parties have left. The locks are released last. `errno`
+// stays.
 static void drop(bb_pool_file *file) {
     const int error = errno;
     if (!file->is_copy) {
@@ -505,8 +551,8 @@ static void begin(void) {
     pthread_atfork(lock_all, unlock_all, in_child);
 }
 
-// Returns whether the file may be trusted that has this path: others can't write it, but for those
-// whom `mode` lets.
+// Returns whether a file that was opened by a path may be trusted: only those whom `mode` lets can
+// write it.
 static bool is_safe(const struct stat *stat, mode_t mode) {
     const mode_t others = S_IWGRP | S_IWOTH;
     if ((stat->st_mode & ~mode & others) != 0)
@@ -543,7 +589,7 @@ static uint32_t try_file(bb_pool_file *file, const char *path, const bb_pool_fil
     return map_all(file);
 }
 
-// Opens the pool in the open file `fd`, which goes with it.
+// Opens the pool in the open file `fd`, which the `bb_pool_file` owns from then on.
 static uint32_t try_open(bb_pool_file **to, int fd, const char *path,
                          const bb_pool_file_options *options, mode_t mode) {
     bb_pool_file *file = calloc(1, sizeof *file);
@@ -589,7 +635,7 @@ static int open_again(int fd) {
 }
 
 // Opens a file by its path, or by its descriptor if the path is NULL. It tries again while another
-// process makes the file. No lock is waited for: no fork would happen meanwhile.
+// process makes the file. It doesn't wait for a lock, which would block every fork meanwhile.
 static uint32_t open_any(bb_pool_file **to, const char *path, int fd,
                          const bb_pool_file_options *options) {
     mode_t mode = options == NULL ? 0 : options->mode;
@@ -628,7 +674,8 @@ uint32_t bb_pool_file_open_fd(bb_pool_file **to, int fd, const bb_pool_file_opti
 // WAITING
 
 // Wakes all that wait for the event. If nobody waits, this is one load. Bit 0 is cleared after the
-// others are awake, and only if nobody has come since: so a process that is killed here leaves it.
+// others are awake, and only if nobody has come since: so a process that is killed here leaves it
+// set.
 static void wake(struct event *event) {
     if (__atomic_load_n(&event->value, __ATOMIC_SEQ_CST) % 2 == 0)
         return;
@@ -687,14 +734,13 @@ static uint64_t load_slot(const bb_pool_file *file, uint32_t slot) {
     return __atomic_load_n(&file->slots[slot].word, __ATOMIC_SEQ_CST);
 }
 
-// Returns the number of the bucket in a slot, which is greater than each bucket's if the slot is
-// empty, and may be anything if others write wrong words.
+// Returns the number of the bucket in a slot. It is greater than any bucket's number if the slot is
+// empty, and may be anything if others write wrong values.
 static uint32_t number_in(uint64_t word) {
     return (uint32_t)word - 1;
 }
 
-// Returns what a bucket's flag says. There is no bucket of a greater number than the last one: it
-// is said to be free.
+// Returns what a bucket's flag says. If no bucket has the number, it says that the bucket is free.
 static bb_holder holder_of(const bb_pool_file *file, uint32_t number) {
     bb_holder holder = {BB_FREE, 0};
     bb_shared_pool_holder(&file->pool, number, &holder);
@@ -710,9 +756,9 @@ static bb_place place_of(const bb_pool_file *file, uint32_t number) {
     return file->region + number * BB_STRIDE(file->head.bucket_size, file->head.bucket_align);
 }
 
-// Has a bucket in a slot be detached by the number after the parties', which nobody joins, if it is
-// detached by this party. So a later party of this party's number never attaches what it would have
-// detached itself.
+// If the flag of a bucket in a slot says that this party has detached it, has the flag name the
+// number after the parties' instead, with which nobody joins. So a later party with this party's
+// number never attaches the bucket as one that it detached itself.
 static void address(bb_pool_file *file, uint32_t number, uint32_t party) {
     uint64_t from = 2 * (uint64_t)party + 2;
     const uint64_t to = 2 * (uint64_t)file->head.parties + 2;
@@ -737,12 +783,12 @@ static bb_chunk attach(bb_pool_file *file, bb_pool_party *handle, uint32_t numbe
 
 // PARTIES
 
-// Gives back what the party holds, and counts it; its messages in slots stay there, detached. With
-// `detached`, what the party has detached and is in no slot is given back, too.
+// Frees what the party holds, and counts it; its messages in slots stay there, detached. If
+// `detached` is true, also frees what the party has detached and is in no slot.
 //
-// The party's lock is this process's, and nobody else uses the party: so no flag comes to name it
-// meanwhile, and no slot with such a bucket changes. Each step leaves a state in which another
-// process may begin this again.
+// This process holds the party's lock, and nobody else uses the party: so no other flag comes to
+// name it meanwhile, and no slot with such a bucket changes. Each step leaves a state in which
+// another process may begin this again.
 static void settle(bb_pool_file *file, bb_pool_party *handle, uint32_t party, bool detached,
                    uint32_t *count) {
     for (uint32_t slot = 0; slot < file->head.slots; slot++) {
@@ -781,7 +827,7 @@ static uint32_t number_of(const bb_pool_file *file, const bb_pool_party *handle)
     return file->mine[number] ? (uint32_t)number : NO_NUMBER;
 }
 
-// Makes the party of this number join, whose lock is this process's.
+// Joins as the party with this number, whose lock this process holds.
 static uint32_t join_number(bb_pool_file *file, uint32_t party) {
     uint32_t count = 0;
     bb_pool_party *handle = &file->parties[party];
@@ -872,12 +918,12 @@ static uint32_t reap_party(bb_pool_file *file, uint32_t party, bool detached, ui
     return code;
 }
 
-uint32_t bb_pool_file_reap(bb_pool_file *file, bool detached, uint32_t *given_back) {
+uint32_t bb_pool_file_reap(bb_pool_file *file, bool detached, uint32_t *freed) {
     uint32_t code = BB_OK;
     uint32_t count = 0;
     if (file->is_copy)
         return BB_UNINITIALIZED;
-    // Of each party, whether a flag names it.
+    // For each party, whether a flag names it.
     bool *named = calloc(file->head.parties, sizeof *named);
     if (named == NULL)
         return BB_MALLOC_REFUSED;
@@ -893,8 +939,8 @@ uint32_t bb_pool_file_reap(bb_pool_file *file, bool detached, uint32_t *given_ba
             code = reap_party(file, party, detached, &count);
     pthread_mutex_unlock(&file->mutex);
     free(named);
-    if (given_back != NULL)
-        *given_back = count;
+    if (freed != NULL)
+        *freed = count;
     return code;
 }
 

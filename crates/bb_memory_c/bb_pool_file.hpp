@@ -1,6 +1,8 @@
-// Pools in files for C++17, over bb_pool_file.h. Its rules and codes hold here too. A file is
-// closed, a party leaves, and a message gives its bucket back, when it ends.
-//
+// Pools in files for C++17, over bb_pool_file.h, whose terms, rules and codes hold here, too.
+
+// When they go out of scope, a file is closed, a party leaves, and a message frees its bucket or is
+// put back.
+
 //     struct order { int number; double price; };
 //
 //     bb::pool_file file;
@@ -16,8 +18,9 @@
 //     if (const order *got = message.as<order>())
 //         printf("order %d\n", got->number);
 //     message.done();
-//
-// A refusal is a code. Nothing is copied: files, parties and messages move.
+
+// A refusal is a code. Files, parties and messages can be moved, but not copied.
+
 #ifndef BB_POOL_FILE_HPP
 #define BB_POOL_FILE_HPP
 
@@ -32,7 +35,7 @@
 
 namespace bb {
 
-// A pool's file, which is closed when this ends.
+// A pool in a file, which is closed when this goes out of scope.
 class pool_file {
 public:
     pool_file() = default;
@@ -46,15 +49,15 @@ public:
 
     ~pool_file() { close(); }
 
-    // Opens the pool in the file at the path, and makes it if there is none, as
-    // `bb_pool_file_open` does. BB_ALREADY_INITIALIZED if this has a file already.
+    // Opens the pool in the file at `path`, and makes it if there is none, as `bb_pool_file_open`
+    // does. BB_ALREADY_INITIALIZED if this has a file already.
     [[nodiscard]] std::uint32_t open(const char *path,
                                      const bb_pool_file_options &options) noexcept {
         return file_ == nullptr ? bb_pool_file_open(&file_, path, &options)
                                 : std::uint32_t{BB_ALREADY_INITIALIZED};
     }
 
-    // Opens the pool in a file that exists, as it is.
+    // Opens the pool in a file that exists, whatever its figures.
     [[nodiscard]] std::uint32_t open(const char *path) noexcept {
         return file_ == nullptr ? bb_pool_file_open(&file_, path, nullptr)
                                 : std::uint32_t{BB_ALREADY_INITIALIZED};
@@ -66,7 +69,7 @@ public:
                                 : std::uint32_t{BB_ALREADY_INITIALIZED};
     }
 
-    // Closes the file, if there is one. Its parties have ended.
+    // Closes the file, if there is one. Its parties have to leave before that.
     void close() noexcept {
         if (file_ != nullptr)
             bb_pool_file_close(std::exchange(file_, nullptr));
@@ -80,15 +83,15 @@ public:
         return figures;
     }
 
-    // For the functions of bb_pool_file.h. It is null if there is no file.
+    // Returns the pointer for the functions of bb_pool_file.h, or null if there is no file.
     bb_pool_file *get() const noexcept { return file_; }
 
 private:
     bb_pool_file *file_ = nullptr;
 };
 
-// A message that a party has taken, or the code of a refusal. When it ends, its bucket is given
-// back if it is done with, and otherwise the message is put back: another party can take it.
+// A message that a party has taken, or the code of a refusal. When it goes out of scope after
+// `done`, its bucket is freed. Without `done` the message is put back, and can be taken again.
 class pool_file_message {
 public:
     pool_file_message(bb_pool_file *file, bb_pool_party *party, std::uint32_t slot) noexcept
@@ -117,26 +120,27 @@ public:
             static_cast<void>(bb_pool_file_detach(file_, party_, message_.place).code);
     }
 
-    // Returns BB_OK if there is a message.
+    // Returns BB_OK if there is a message, otherwise why there is none.
     std::uint32_t code() const noexcept { return message_.code; }
 
     // Returns whether there is a message.
     explicit operator bool() const noexcept { return message_.code == BB_OK; }
 
-    // The bytes of the message, or null if there is none.
+    // Returns the bytes of the message, or null if there is none.
     const void *data() const noexcept { return message_.place; }
 
-    // Their number.
+    // Returns how many bytes the message has, or 0 if there is none.
     std::size_t size() const noexcept { return message_.len; }
 
-    // Returns the message as a T, or null if there is none or it has another size.
+    // Returns the message as a T, or null if there is none or if it has another size.
     template<class T>
     const T *as() const noexcept {
         static_assert(std::is_trivially_copyable_v<T>);
         return message_.len == sizeof(T) ? static_cast<const T *>(data()) : nullptr;
     }
 
-    // Empties the slot: the message doesn't come again. Its bytes stay until this ends.
+    // Empties the slot, so that nobody takes the message again. The message's bytes stay until this
+    // goes out of scope.
     std::uint32_t done() noexcept {
         if (message_.code != BB_OK)
             return message_.code;
@@ -155,7 +159,7 @@ private:
     bool is_done_ = false;
 };
 
-// A party of a file, which leaves when it ends: what it holds is given back.
+// A party of a file, which leaves when it goes out of scope: what it holds is freed.
 class pool_file_party {
 public:
     pool_file_party() = default;
@@ -172,8 +176,8 @@ public:
 
     ~pool_file_party() { leave(); }
 
-    // Joins as a party of the file. BB_ALREADY_INITIALIZED if it has joined, BB_UNINITIALIZED if
-    // `file` isn't open; then as `bb_pool_file_join`.
+    // Joins as a party of the file. BB_ALREADY_INITIALIZED if it has joined already,
+    // BB_UNINITIALIZED if `file` isn't open; then the codes of `bb_pool_file_join`.
     [[nodiscard]] std::uint32_t join(const pool_file &file) noexcept {
         if (party_ != nullptr)
             return BB_ALREADY_INITIALIZED;
@@ -183,14 +187,15 @@ public:
         return bb_pool_file_join(file_, &party_);
     }
 
-    // Leaves, if it has joined. Its messages have ended.
+    // Leaves, if it has joined. Its messages have to go out of scope before that.
     void leave() noexcept {
         if (party_ != nullptr)
             bb_pool_file_leave(file_, std::exchange(party_, nullptr));
     }
 
-    // Posts these bytes in a bucket of their own. BB_UNINITIALIZED; BB_SIZE_TOO_LARGE;
-    // BB_OUT_OF_MEMORY; then as `bb_pool_file_post`.
+    // Posts a copy of these bytes, in a bucket of their own. BB_UNINITIALIZED if the party hasn't
+    // joined, BB_SIZE_TOO_LARGE if a bucket has fewer bytes, BB_OUT_OF_MEMORY if no bucket is free;
+    // then the codes of `bb_pool_file_post`.
     [[nodiscard]] std::uint32_t post(std::uint32_t slot, const void *bytes,
                                      std::size_t size) noexcept {
         if (party_ == nullptr)
@@ -205,19 +210,20 @@ public:
         return code;
     }
 
-    // Posts a copy of the value, as `post` of its bytes does.
+    // Posts a copy of the value, as `post` does with its bytes.
     template<class T>
     [[nodiscard]] std::uint32_t post(std::uint32_t slot, const T &value) noexcept {
         static_assert(std::is_trivially_copyable_v<T>);
         return post(slot, &value, sizeof value);
     }
 
-    // Takes the message in the slot. The party has joined.
+    // Takes the message in the slot. The party has to have joined.
     [[nodiscard]] pool_file_message take(std::uint32_t slot) noexcept {
         return pool_file_message(file_, party_, slot);
     }
 
-    // For the functions of bb_memory.h and of bb_pool_file.h. It is null if it hasn't joined.
+    // Returns the handle for the functions of bb_memory.h and of bb_pool_file.h, or null if the
+    // party hasn't joined.
     bb_pool_party *get() const noexcept { return party_; }
 
 private:
@@ -226,4 +232,5 @@ private:
 };
 
 }  // namespace bb
+
 #endif

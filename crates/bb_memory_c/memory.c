@@ -1,6 +1,10 @@
 // The source of the library's own memory. This file is outside the proofs: all that a contract says
 // of a request for memory is that it may fail. The Makefile has the library call `memory_*` in
 // place of `malloc`, `realloc` and `free`.
+
+// For `posix_memalign` in C99.
+#define _POSIX_C_SOURCE 200112L
+
 #include <stdlib.h>
 
 #include "bb_memory.h"
@@ -11,10 +15,20 @@ enum {
     BLOCK_ALIGN = 16
 };
 
+// The bytes of two cache lines, which processors fetch together: threads slow each other down if
+// each of them writes one of the two. So each block of at least that size begins at a multiple of
+// it. The blocks of two parties of a shared pool share no such pair then.
+enum {
+    LINE_PAIR = 128
+};
+
 static void *allocate_by_malloc(void *context, size_t size, size_t align) {
+    void *block = NULL;
     (void)context;
     (void)align;
-    return malloc(size);
+    if (size < LINE_PAIR)
+        return malloc(size);
+    return posix_memalign(&block, LINE_PAIR, size) == 0 ? block : NULL;
 }
 
 static void release_by_free(void *context, void *block) {
@@ -95,8 +109,11 @@ void *memory_resize(void *block, size_t size) {
     return NULL;
 }
 
+// Does nothing for NULL, as `free` does: the host's function never gets it.
 void memory_release(void *block) {
-    if (block != NULL && block == loan.block) {
+    if (block == NULL)
+        return;
+    if (block == loan.block) {
         loan.given--;
         return;
     }

@@ -1,6 +1,6 @@
-// An arena for each thread: a bump over a chunk of the bump that threads share. A request in it
-// makes no step that other threads see. A thread whose arena is full takes a further chunk for the
-// next one.
+// An arena for each thread: a bump over a chunk of the bump that all threads share. A request to an
+// arena makes no step that other threads see. A thread whose arena is full allocates another chunk
+// of the shared bump, and begins a new arena in it.
 #define _POSIX_C_SOURCE 200809L
 #include <pthread.h>
 #include <stdint.h>
@@ -37,8 +37,7 @@ static size_t length_of(size_t number) {
     return 1 + number * 31 % MOST;
 }
 
-// Takes a chunk of the shared bump, over which the thread's arena starts again. The chunks of the
-// arena before it stay.
+// Begins a new arena over a chunk of the shared bump. The chunks of the old arena stay in use.
 static void begin_arena(worker *self) {
     bb_chunk chunk = bb_bump_party_allocate(&self->party, ARENA, 64);
     expect(chunk.code == BB_OK, "the shared bump has room for each arena");

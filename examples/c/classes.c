@@ -1,6 +1,6 @@
-// Size classes: three pools over one region, which a bump cuts. A request goes to the smallest
-// class whose buckets are large enough, and to the next if that is full; a return finds its pool by
-// the place. Each class has figures.
+// Size classes: three pools over one region, which a bump cuts into three parts. A request goes to
+// the smallest class whose buckets are large enough, and to the next one if that is full. A free
+// finds its pool by the place. Each class has figures.
 #include <stdint.h>
 #include <stdio.h>
 #include <stdlib.h>
@@ -41,7 +41,7 @@ static void expect(int holds, const char *what) {
     }
 }
 
-// Returns the bytes of all classes, wherever the region starts.
+// Returns how many bytes a region for all classes needs, wherever it starts.
 static size_t region_size(void) {
     size_t sum = 0;
     for (size_t at = 0; at < CLASSES; at++) {
@@ -52,7 +52,8 @@ static size_t region_size(void) {
     return sum;
 }
 
-// The chunks of the bump stay the pools': destroying a bump takes nothing back.
+// Makes a pool for each class, over a chunk of a bump. The chunks stay in use when the bump is
+// destroyed.
 static void make(size_class classes[CLASSES], void *region, size_t size) {
     bb_bump cuts = BB_EMPTY;
     expect(bb_bump_init(&cuts, region, size) == BB_OK, "a bump is there");
@@ -123,8 +124,8 @@ static size_t random_length(uint64_t random) {
     return 1 + (random >> 32) % most;
 }
 
-// Makes requests of mostly small sizes, and returns in no order. Each chunk keeps what was written
-// into it.
+// Allocates chunks of mostly small sizes, and frees them in random order. Each chunk keeps what was
+// written into it.
 static void churn(size_class classes[CLASSES]) {
     static struct {
         unsigned char *place;
@@ -140,7 +141,7 @@ static void churn(size_class classes[CLASSES]) {
             const size_t len = random_length(random);
             bb_chunk given = allocate(classes, len, 8);
             expect(given.code == BB_OK || given.code == BB_OUT_OF_MEMORY,
-                   "a chunk is given, or all that fit are full");
+                   "a chunk is allocated, or all that fit are full");
             if (given.code != BB_OK)
                 continue;
             live[at].place = (unsigned char *)given.place;
@@ -151,14 +152,14 @@ static void churn(size_class classes[CLASSES]) {
             expect(live[at].place[0] == live[at].filled,
                    "a chunk's first byte is as it was written");
             expect(live[at].place[live[at].len - 1] == live[at].filled, "and so is its last one");
-            expect(deallocate(classes, live[at].place) == BB_OK, "a chunk is given back");
+            expect(deallocate(classes, live[at].place) == BB_OK, "a chunk is freed");
             expect(deallocate(classes, live[at].place) == BB_NOT_HELD, "and only once");
             live[at].place = NULL;
         }
     }
     for (size_t at = 0; at < LIVE; at++) {
         if (live[at].place != NULL)
-            expect(deallocate(classes, live[at].place) == BB_OK, "all are given back");
+            expect(deallocate(classes, live[at].place) == BB_OK, "all are freed");
     }
 }
 
@@ -169,7 +170,8 @@ int main(void) {
     expect(region != NULL, "a region is there");
     make(classes, region, size);
     expect(allocate(classes, 4097, 8).code == BB_SIZE_TOO_LARGE, "no class has as much");
-    expect(deallocate(classes, classes) == BB_NOT_HELD, "an address that is no chunk is refused");
+    expect(deallocate(classes, classes) == BB_NOT_HELD,
+           "an address that is not a chunk is refused");
     churn(classes);
     for (size_t at = 0; at < CLASSES; at++) {
         size_class *of = &classes[at];

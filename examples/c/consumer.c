@@ -1,5 +1,6 @@
-// Prints the messages of producer.c: `consumer FILE`. It may be killed like a producer. A message
-// is finished only after the work, so it is printed again if its consumer is killed before that.
+// Prints the messages of producer.c: `consumer FILE`. Like a producer, a consumer may be killed at
+// any time. It is done with a message only after it has printed it: if it is killed before that,
+// the message is printed again.
 #include <stdio.h>
 
 #include "bb_pool_file.h"
@@ -22,18 +23,24 @@ static uint32_t receive(bb_pool_file *file, bb_pool_party *mine, uint32_t slot) 
 int main(int argc, char **argv) {
     bb_pool_file *file;
     bb_pool_party *mine;
-    if (argc != 2)
+    if (argc != 2) {
+        fputs("usage: consumer FILE\n", stderr);
         return 2;
+    }
     uint32_t code = bb_pool_file_open(&file, argv[1], &OPTIONS);
     if (code == BB_OK)
         code = bb_pool_file_join(file, &mine);
     while (code == BB_OK) {
-        // A message that a dead consumer had taken comes again after a reap.
-        if (bb_pool_file_wait_full(file, BB_ANY_SLOT, 1000) == BB_FILE_TIMED_OUT)
+        code = bb_pool_file_wait_full(file, BB_ANY_SLOT, 1000);
+        // After a reap, a message that a dead consumer had taken can be taken again.
+        if (code == BB_FILE_TIMED_OUT)
             code = bb_pool_file_reap(file, false, NULL);
         for (uint32_t slot = 0; code == BB_OK && slot < OPTIONS.slots; slot++)
             code = receive(file, mine, slot);
     }
-    fprintf(stderr, "consumer: %s\n", bb_pool_file_text(code));
+    if (code == BB_FILE_SYSTEM)
+        perror("consumer");
+    else
+        fprintf(stderr, "consumer: %s\n", bb_pool_file_text(code));
     return 1;
 }

@@ -1,6 +1,6 @@
 // Containers of the standard library that live in a bump, in a pool and in a pool that threads
-// share, by std::pmr; values that give their buckets back when they end; and parties that leave
-// when their threads end.
+// share, by std::pmr; values that free their buckets when they are destroyed; and parties that
+// leave when their threads end.
 #include <atomic>
 #include <cstdio>
 #include <cstdlib>
@@ -86,7 +86,7 @@ void nodes_in_a_pool() {
     for (int number = 0; number < 1000; number++)
         grows.push_back(number);
     expect(grows[999] == 999 && pool.info()->held_buckets == 0,
-           "a vector that outgrew its bucket gave it back");
+           "a vector that outgrew its bucket freed it");
 }
 
 // Keeping the address of a handle is right, since owners and parties don't move.
@@ -142,9 +142,9 @@ void values_in_a_pool() {
         expect(first && first->number == 7 && !second && message::alive == 1,
                "the pool has one bucket");
     }
-    expect(message::alive == 0 && pool.info()->held_buckets == 0, "a value gives its bucket back");
+    expect(message::alive == 0 && pool.info()->held_buckets == 0, "a value frees its bucket");
     if (auto whole = bb::take(pool.get()))
-        expect(!bb::take(pool.get()), "a bucket that is taken whole is held");
+        expect(!bb::take(pool.get()), "a bucket that is allocated whole is held");
     expect(pool.info()->held_buckets == 0, "and goes back with its owner");
     auto read = bb::make<const message>(pool.get(), 7);
     expect(read->number == 7 && pool.info()->held_buckets == 1, "a value may be constant");
@@ -159,7 +159,7 @@ void values_in_a_pool() {
 }
 
 // Threads come and go: each has a party, which leaves when the thread ends, even with buckets that
-// it didn't give back.
+// it didn't free.
 void lists_in_threads() {
     bb::shared_pool pool;
     expect_ok(pool.init(bucket, bucket, region, sizeof region, 2));
@@ -175,7 +175,7 @@ void lists_in_threads() {
                     expect(each == number, "a node has what its thread wrote");
                 expect(party.info()->held_buckets == 30, "each node has a bucket");
                 auto left_behind = bb::make<int>(party.get(), number);
-                expect(left_behind.release() != nullptr, "a value isn't given back");
+                expect(left_behind.release() != nullptr, "a value isn't freed");
             });
         for (auto &thread : threads)
             thread.join();
@@ -189,10 +189,10 @@ void lists_in_threads() {
     expect(pool.destroy() == bb::error::parties_joined, "a pool stays while a party is joined");
 }
 
-// Two threads take turns: they make a value in the only bucket and give it back, by calls for one
-// or for many buckets. Once one of them gives everything back instead, and in the end it leaves
-// with the bucket. The turns don't order memory, so the checker of threads would see a race if it
-// didn't learn of a taking or a return.
+// Two threads take turns: they make a value in the only bucket and free it, by calls for one or for
+// many buckets. One of them once calls `give_all_back` instead, and in the end it leaves with the
+// bucket. The turns don't order memory, so ThreadSanitizer would report a race if it didn't learn
+// of an allocation or a free.
 void values_in_threads() {
     constexpr int turns = 1000;
     bb::shared_pool pool;
@@ -213,11 +213,11 @@ void values_in_threads() {
                 auto value = bb::make<int>(party.get(), at);
                 expect(value && *value == at, "the bucket is there");
                 if (at == 2) {
-                    expect(value.release() != nullptr, "a value isn't given back");
+                    expect(value.release() != nullptr, "a value isn't freed");
                     expect_ok(party.give_all_back());
                 }
                 if (at == turns - 2) {
-                    expect(value.release() != nullptr, "a value isn't given back");
+                    expect(value.release() != nullptr, "a value isn't freed");
                     party.leave();
                 }
             }
@@ -231,7 +231,7 @@ void values_in_threads() {
     expect(pool.info()->held_buckets == 0, "each bucket is back");
 }
 
-// The heap, which counts the chunks that come back.
+// The heap, which counts the chunks that are freed.
 struct counting : std::pmr::memory_resource {
     int returned = 0;
 
@@ -249,8 +249,8 @@ struct counting : std::pmr::memory_resource {
     }
 };
 
-// A chunk of the pool never goes upstream: not if another party holds it, and not if the party has
-// left.
+// A chunk of the pool is never freed upstream: not if another party holds it, and not if the party
+// has left.
 void places_of_the_pool() {
     bb::shared_pool pool;
     expect_ok(pool.init(bucket, bucket, region, sizeof region, 2));
@@ -274,7 +274,7 @@ void places_of_the_pool() {
     expect(heap.returned == 1 && *value == 7, "upstream gets what it gave");
 }
 
-// A reader gives back a detached bucket without attaching it, and the writer takes it again.
+// A reader frees a detached bucket without attaching it, and the writer allocates it again.
 void detached_buckets_come_back() {
     bb::shared_pool pool;
     expect_ok(pool.init(bucket, bucket, region, bucket, 2));
@@ -383,11 +383,11 @@ void parties_are_forgotten() {
     expect_ok(pool.join_number(1, next));
     expect(bb_pool_party_holds(next.get(), kept).number == 1 && *kept == 7, "by the next party");
     expect_ok(next.give_all_back());
-    expect(next.number() == 1u && pool.info()->held_buckets == 0, "which gives it back");
+    expect(next.number() == 1u && pool.info()->held_buckets == 0, "which frees it");
     expect(first.give_all_back() == bb::error::uninitialized, "and the first has nothing");
 }
 
-// A caching party takes the bucket again that it returned last.
+// A caching party allocates the bucket that it freed last.
 void buckets_in_a_cache() {
     bb::shared_pool pool;
     expect_ok(pool.init(bucket, bucket, region, 4 * bucket, 2));
@@ -399,7 +399,7 @@ void buckets_in_a_cache() {
     void *place = one.get();
     one.reset();
     expect(pool.info()->held_buckets == 1 && party.info()->held_buckets == 0, "it is cached");
-    expect(bb::take(party.get()).get() == place, "it is taken first");
+    expect(bb::take(party.get()).get() == place, "it is allocated first");
     expect_ok(party.flush());
     expect(pool.info()->held_buckets == 0, "it is back");
 }

@@ -1,4 +1,4 @@
-// A pool from Rust without the crate: the declarations are those of bb_memory.h.
+// A pool in Rust without the crate `bb_memory`: the declarations are those of bb_memory.h.
 #[repr(C)]
 pub struct Pool {
     at: *mut core::ffi::c_void,

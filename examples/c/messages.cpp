@@ -1,5 +1,6 @@
-// Sends COUNT messages as producer.c does, in C++17: `messages FILE COUNT`. Receives them as
-// consumer.c does: `messages FILE`. Programs in C, C++ and Rust may use one file, and be killed.
+// `messages FILE COUNT` sends COUNT messages, as producer.c does, and `messages FILE` receives
+// them, as consumer.c does. Programs in C, C++ and Rust may use one file at the same time, and any
+// of them may be killed.
 #include <cstdio>
 #include <string>
 #include <unistd.h>
@@ -8,19 +9,21 @@
 
 static const bb_pool_file_options options = {256, 64, 1000, 16, 8, 0600};
 
-// Posts the text. Waits for an empty slot and a free bucket, which dead processes may still hold.
+// Posts the text. Waits for an empty slot and a free bucket. Frees what dead processes hold if a
+// wait times out.
 static std::uint32_t send(bb::pool_file &file, bb::pool_file_party &mine, const std::string &text) {
     for (std::uint32_t slot = 0;; slot = (slot + 1) % options.slots) {
-        const std::uint32_t code = mine.post(slot, text.c_str(), text.size() + 1);
-        std::uint32_t waited = BB_OK;
+        std::uint32_t code = mine.post(slot, text.c_str(), text.size() + 1);
         if (code == BB_OUT_OF_MEMORY)
-            waited = bb_pool_file_wait_bucket(file.get(), 1000);
+            code = bb_pool_file_wait_bucket(file.get(), 1000);
         else if (code == BB_DETACHED_FULL)
-            waited = bb_pool_file_wait_empty(file.get(), BB_ANY_SLOT, 1000);
+            code = bb_pool_file_wait_empty(file.get(), BB_ANY_SLOT, 1000);
         else
             return code;
-        if (waited != BB_OK)
-            bb_pool_file_reap(file.get(), false, nullptr);
+        if (code == BB_FILE_TIMED_OUT)
+            code = bb_pool_file_reap(file.get(), false, nullptr);
+        if (code != BB_OK)
+            return code;
     }
 }
 
@@ -40,20 +43,25 @@ static std::uint32_t receive(bb::pool_file_party &mine, std::uint32_t slot) {
 int main(int argc, char **argv) {
     bb::pool_file file;
     bb::pool_file_party mine;
-    if (argc < 2)
+    if (argc < 2) {
+        std::fputs("usage: messages FILE [COUNT]\n", stderr);
         return 2;
+    }
     std::uint32_t code = file.open(argv[1], options);
     if (code == BB_OK)
         code = mine.join(file);
     for (int number = 0; code == BB_OK && argc > 2 && number < std::stoi(argv[2]); number++)
         code = send(file, mine, std::to_string(getpid()) + " " + std::to_string(number));
     while (code == BB_OK && argc == 2) {
-        if (bb_pool_file_wait_full(file.get(), BB_ANY_SLOT, 1000) == BB_FILE_TIMED_OUT)
+        code = bb_pool_file_wait_full(file.get(), BB_ANY_SLOT, 1000);
+        if (code == BB_FILE_TIMED_OUT)
             code = bb_pool_file_reap(file.get(), false, nullptr);
         for (std::uint32_t slot = 0; code == BB_OK && slot < options.slots; slot++)
             code = receive(mine, slot);
     }
-    if (code != BB_OK)
+    if (code == BB_FILE_SYSTEM)
+        std::perror("messages");
+    else if (code != BB_OK)
         std::fprintf(stderr, "messages: %s\n", bb_pool_file_text(code));
     return code != BB_OK;
 }

@@ -1,6 +1,6 @@
-// A thread that finds buckets by their numbers beside one that allocates, with the same handles and
-// without a lock: `place_at` and `number_at` read only what `init` or `join` set, which no call
-// except `destroy` and `leave` writes.
+// One thread looks up places and numbers of buckets while another thread allocates and frees, with
+// the same handles and without a lock. `place_at` and `number_at` read only what `init` or `join`
+// set, which no call except `destroy` and `leave` writes.
 #define _POSIX_C_SOURCE 200809L
 #include <pthread.h>
 #include <stdint.h>
@@ -37,10 +37,10 @@ static void *allocate(void *argument) {
     for (int round = 0; round < ROUNDS; round++) {
         bb_chunk of_pool = bb_pool_allocate(&pool, BUCKET_SIZE, 8);
         bb_chunk of_party = bb_pool_party_allocate(&party, BUCKET_SIZE, 8);
-        expect(of_pool.code == BB_OK && of_party.code == BB_OK, "a bucket is given");
-        expect(bb_pool_deallocate(&pool, of_pool.place) == BB_OK, "a bucket is given back");
+        expect(of_pool.code == BB_OK && of_party.code == BB_OK, "a bucket is allocated");
+        expect(bb_pool_deallocate(&pool, of_pool.place) == BB_OK, "a bucket is freed");
         expect(bb_pool_party_deallocate(&party, of_party.place) == BB_OK,
-               "a party's bucket is given back");
+               "a party's bucket is freed");
     }
     return argument;
 }
@@ -85,6 +85,6 @@ int main(void) {
     expect(bb_shared_pool_leave(&shared, &party) == BB_OK, "the party leaves");
     expect(bb_shared_pool_destroy(&shared) == BB_OK, "a pool is destroyed");
     expect(bb_pool_destroy(&pool) == BB_OK, "and the other one");
-    printf("places: %d rounds of numbers beside %d of requests\n", ROUNDS, ROUNDS);
+    printf("places: %d rounds of numbers during %d of requests\n", ROUNDS, ROUNDS);
     return 0;
 }

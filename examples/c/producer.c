@@ -10,38 +10,51 @@
 // Buckets of 256 bytes at multiples of 64: 1,000 of them, for 16 parties, with 8 slots.
 static const bb_pool_file_options OPTIONS = {256, 64, 1000, 16, 8, 0600};
 
-// Takes a bucket. Other processes may have all of them, and some may be dead.
-static bb_chunk take_bucket(bb_pool_file *file, bb_pool_party *mine) {
+// Frees what dead processes hold if a wait timed out. Returns the code of the reap, or of the wait.
+static uint32_t reap_if_timed_out(bb_pool_file *file, uint32_t waited) {
+    return waited == BB_FILE_TIMED_OUT ? bb_pool_file_reap(file, false, NULL) : waited;
+}
+
+// Allocates a bucket. Waits while other processes hold all of them, some of which may be dead.
+static bb_chunk allocate_bucket(bb_pool_file *file, bb_pool_party *mine) {
     bb_chunk chunk = bb_pool_party_take(mine);
     while (chunk.code == BB_OUT_OF_MEMORY) {
-        if (bb_pool_file_wait_bucket(file, 1000) != BB_OK)
-            bb_pool_file_reap(file, false, NULL);
+        const uint32_t code = reap_if_timed_out(file, bb_pool_file_wait_bucket(file, 1000));
+        if (code != BB_OK) {
+            chunk.code = code;
+            return chunk;
+        }
         chunk = bb_pool_party_take(mine);
     }
     return chunk;
 }
 
-// Posts the bucket into the next empty slot.
+// Posts the bucket into the first empty slot. Waits while all of them are full.
 static uint32_t post(bb_pool_file *file, bb_pool_party *mine, bb_place place, size_t len) {
-    for (uint32_t slot = 0;; slot = (slot + 1) % OPTIONS.slots) {
-        const uint32_t code = bb_pool_file_post(file, mine, slot, place, len);
-        if (code != BB_DETACHED_FULL)
-            return code;
-        if (slot == OPTIONS.slots - 1 && bb_pool_file_wait_empty(file, BB_ANY_SLOT, 1000) != BB_OK)
-            bb_pool_file_reap(file, false, NULL);
+    uint32_t code = BB_OK;
+    while (code == BB_OK) {
+        for (uint32_t slot = 0; slot < OPTIONS.slots; slot++) {
+            code = bb_pool_file_post(file, mine, slot, place, len);
+            if (code != BB_DETACHED_FULL)
+                return code;
+        }
+        code = reap_if_timed_out(file, bb_pool_file_wait_empty(file, BB_ANY_SLOT, 1000));
     }
+    return code;
 }
 
 int main(int argc, char **argv) {
     bb_pool_file *file;
     bb_pool_party *mine;
-    if (argc != 3)
+    if (argc != 3) {
+        fputs("usage: producer FILE COUNT\n", stderr);
         return 2;
+    }
     uint32_t code = bb_pool_file_open(&file, argv[1], &OPTIONS);
     if (code == BB_OK)
         code = bb_pool_file_join(file, &mine);
     for (int number = 0; code == BB_OK && number < atoi(argv[2]); number++) {
-        const bb_chunk chunk = take_bucket(file, mine);
+        const bb_chunk chunk = allocate_bucket(file, mine);
         code = chunk.code;
         if (code != BB_OK)
             break;
@@ -50,7 +63,9 @@ int main(int argc, char **argv) {
     }
     if (code == BB_OK)
         code = bb_pool_file_close(file);
-    if (code != BB_OK)
+    if (code == BB_FILE_SYSTEM)
+        perror("producer");
+    else if (code != BB_OK)
         fprintf(stderr, "producer: %s\n", bb_pool_file_text(code));
     return code != BB_OK;
 }

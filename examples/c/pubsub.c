@@ -1,9 +1,8 @@
-// Publish and subscribe over one pool, without a copy: each message goes to each of several
-// readers, who read it in its bucket. An atomic number in the message counts the readers that are
-// left. The one that decrements it to 0 is the last, and gives the bucket back by a party of its
-// own. A publisher that finds no bucket waits for a return. A thread of statistics reads the pool's
-// figures meanwhile. One lock protects everything else that the host counts; the pool's calls need
-// none.
+// Publish and subscribe over one pool, without a copy: several readers get each message, and read
+// it in its bucket. An atomic counter in the message counts the readers that are left. The reader
+// that decrements it to 0 is the last, and frees the bucket through its own party. A publisher that
+// finds no free bucket waits until one is freed. Meanwhile another thread reads the pool's figures.
+// One lock protects the queues and the program's other counts; the pool's calls need no lock.
 #define _POSIX_C_SOURCE 200809L
 #include <pthread.h>
 #include <stdint.h>
@@ -98,13 +97,13 @@ static unsigned char byte_of(uint32_t publisher, uint32_t number) {
     return (unsigned char)(publisher * 61 + number * 7 + 1);
 }
 
-// Takes a bucket for a message, and counts it under the lock. A return that comes after the refusal
-// ends the wait.
+// Allocates a bucket for a message, and counts it under the lock. If the request is refused, waits
+// while all buckets are held: a free that comes after the refusal ends the wait.
 static message *take(bb_pool_party *party) {
     while (true) {
         bb_chunk given = bb_pool_party_allocate(party, BB_OF(message));
         expect(given.code == BB_OK || given.code == BB_OUT_OF_MEMORY,
-               "a bucket is given, or none is free");
+               "a bucket is allocated, or none is free");
         lock();
         if (given.code == BB_OK) {
             hub.count.held++;
@@ -117,7 +116,8 @@ static message *take(bb_pool_party *party) {
     }
 }
 
-// From here on no party holds the bucket, and each subscriber may read it.
+// Detaches the message's bucket, and queues it for each subscriber. From here on no party holds the
+// bucket, and each subscriber may read it.
 static void publish(bb_pool_party *party, message *written) {
     lock();
     slot *on_its_way = hub.idle;
@@ -149,7 +149,8 @@ static void *publisher(void *argument) {
 }
 
 // Releases a message for one reader, which doesn't read it any more. The last reader attaches the
-// bucket, and gives it back. The order of the atomic step makes the others' reads come before that.
+// bucket, and frees it. The memory order of the decrement makes the other readers' reads happen
+// before that.
 static void release(bb_pool_party *party, slot *been_read) {
     uint32_t left = __atomic_sub_fetch(&been_read->read->readers, 1, __ATOMIC_ACQ_REL);
     expect(left < SUBSCRIBERS, "a reader releases a message once");
@@ -159,7 +160,7 @@ static void release(bb_pool_party *party, slot *been_read) {
         bb_chunk mine = bb_pool_party_attach(party, &been_read->detached);
         expect(mine.code == BB_OK, "the last reader attaches the bucket");
         expect(mine.place == (const void *)been_read->read, "it is the one that was read");
-        expect(bb_pool_party_deallocate(party, mine.place) == BB_OK, "a bucket is given back");
+        expect(bb_pool_party_deallocate(party, mine.place) == BB_OK, "a bucket is freed");
         been_read->next = hub.idle;
         hub.idle = been_read;
         hub.count.held--;

@@ -1,6 +1,6 @@
 // A queue of messages over one buffer, which a pool cuts into buckets: four threads send and one
-// receives. Each message is filled by its sender and checked by the receiver, and then its bucket
-// is given back. A bump over the buffer's last 1024 bytes gives the queue's slots.
+// receives. A sender fills a bucket with a message. The receiver checks the message, and frees its
+// bucket. The queue's slots are in a chunk of a bump over the buffer's last 1024 bytes.
 #include <pthread.h>
 #include <stdint.h>
 #include <stdio.h>
@@ -52,7 +52,7 @@ static unsigned char byte_of(size_t sender, size_t number) {
     return (unsigned char)(sender * 61 + number * 7 + 1);
 }
 
-// Takes a bucket for a message, fills it while no lock is held, and puts it into the queue.
+// Allocates a bucket for each message, fills it while no lock is held, and puts it into the queue.
 static void *send_all(void *argument) {
     size_t sender = (size_t)(uintptr_t)argument;
     for (size_t number = 0; number < MESSAGES; number++) {
@@ -63,7 +63,7 @@ static void *send_all(void *argument) {
             pthread_cond_wait(&shared.changed, &shared.lock);
             given = bb_pool_allocate(&shared.pool, len, 8);
         }
-        expect(given.code == BB_OK, "a bucket is given");
+        expect(given.code == BB_OK, "a bucket is allocated");
         pthread_mutex_unlock(&shared.lock);
 
         slot next = {(unsigned char *)given.place, len};
@@ -94,7 +94,7 @@ static void receive_all(void) {
         pthread_mutex_lock(&shared.lock);
         uint32_t code = bb_pool_deallocate(&shared.pool, next.message + 1);
         expect(code == BB_NOT_HELD, "an address inside a bucket is refused");
-        expect(bb_pool_deallocate(&shared.pool, next.message) == BB_OK, "a bucket is given back");
+        expect(bb_pool_deallocate(&shared.pool, next.message) == BB_OK, "a bucket is freed");
         pthread_cond_broadcast(&shared.changed);
         pthread_mutex_unlock(&shared.lock);
     }
@@ -140,19 +140,20 @@ static void run_refusals(void) {
     bb_pool pool = BB_EMPTY;
     expect(bb_pool_allocate(&pool, 1, 1).code == BB_UNINITIALIZED, "nothing is made");
     expect(bb_pool_init(&pool, 128, 3, region.place, 1024) == BB_INVALID_LAYOUT,
-           "3 is no power of two");
+           "3 is not a power of two");
     expect(bb_pool_init(&pool, 128, 8, NULL, 1024) == BB_INVALID_ARGUMENT,
-           "a region doesn't start at 0");
+           "a region that starts at 0 is refused");
     expect(bb_pool_init(&pool, 128, 8, region.place, 1024) == BB_OK, "eight buckets");
     bb_pool_figures info;
     expect(bb_pool_info(&pool, &info) == BB_OK && info.number_of_buckets == 8, "eight buckets");
     expect(bb_pool_allocate(&pool, 129, 8).code == BB_SIZE_TOO_LARGE, "129 bytes are too many");
-    expect(bb_pool_allocate(&pool, 128, 16).code == BB_ALIGNMENT_FAILURE, "16 is too wide");
+    expect(bb_pool_allocate(&pool, 128, 16).code == BB_ALIGNMENT_FAILURE,
+           "an alignment of 16 is too great");
     bb_chunk given = bb_pool_allocate(&pool, 48, 4);
-    expect(given.code == BB_OK && (size_t)given.place % 8 == 0, "48 bytes are given");
+    expect(given.code == BB_OK && (size_t)given.place % 8 == 0, "48 bytes are allocated");
     expect(bb_pool_holds(&pool, given.place).number == 1, "the bucket is held");
-    expect(bb_pool_deallocate(&pool, given.place) == BB_OK, "the bucket is given back");
-    expect(bb_pool_deallocate(&pool, given.place) == BB_NOT_HELD, "a second return is refused");
+    expect(bb_pool_deallocate(&pool, given.place) == BB_OK, "the bucket is freed");
+    expect(bb_pool_deallocate(&pool, given.place) == BB_NOT_HELD, "a second free is refused");
     expect(bb_pool_destroy(&pool) == BB_OK && bb_bump_destroy(&bump) == BB_OK, "both are freed");
 }
 

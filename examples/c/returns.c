@@ -1,15 +1,15 @@
-// A queue whose receivers return the buckets that they received: two threads send, two receive, and
-// all share one pool, each by a party of its own. A sender takes a bucket, fills it, and detaches
-// it into a `bb_detached`. The receiver that gets the `bb_detached` attaches the bucket, reads the
-// message, and gives the bucket back by its own party, without contacting the sender.
+// A queue whose receivers free the buckets that they receive: two threads send, two receive, and
+// all share one pool, each through a party of its own. A sender allocates a bucket, fills it, and
+// detaches it into a `bb_detached`. The receiver that gets the `bb_detached` attaches the bucket,
+// reads the message, and frees the bucket through its own party, without contacting the sender.
 //
-// A sender takes and detaches up to `GROUP` buckets at a time, and then sends them one by one. That
-// is faster than taking and detaching one for each message: flags of neighbours share a cache line,
-// and the sender makes its steps on them while it has the line.
+// A sender allocates and detaches up to `GROUP` buckets at a time, and then sends them one by one.
+// That is faster than allocating and detaching one bucket for each message: the flags of
+// neighboring buckets share a cache line, and the sender changes them while it has the line.
 //
 // Each slot of the queue has a `bb_detached`, which is made with the queue. A sender puts its full
-// one into a slot, and takes the slot's empty one in exchange. So no message takes memory, and no
-// call of a party is made under the lock.
+// one into a slot, and takes the slot's empty one in exchange. So no message requests memory, and
+// no call of a party is made under the lock.
 #define _POSIX_C_SOURCE 200809L
 #include <pthread.h>
 #include <sched.h>
@@ -83,7 +83,7 @@ static int byte_of(size_t sender, size_t number) {
     return (int)((sender * 61 + number * 7 + 1) % 256);
 }
 
-// Puts a full `bb_detached` into a slot, and takes the slot's empty one.
+// Puts a full `bb_detached` into a slot, and takes the slot's empty one in exchange.
 static void put(bb_detached *full) {
     pthread_mutex_lock(&shared.lock);
     while (shared.count == SLOTS)
@@ -94,8 +94,8 @@ static void put(bb_detached *full) {
     pthread_mutex_unlock(&shared.lock);
 }
 
-// Puts an empty `bb_detached` into the oldest full slot, and takes the full one. Returns 0 if each
-// message was taken.
+// Puts an empty `bb_detached` into the oldest full slot, and takes the full one in exchange.
+// Returns 0 if no message is left.
 static int get(bb_detached *empty) {
     pthread_mutex_lock(&shared.lock);
     while (shared.count == 0 && shared.taken < SENDERS * MESSAGES)
@@ -133,7 +133,7 @@ static void *send_all(void *argument) {
         void *places[GROUP];
         bb_number taken =
             bb_pool_party_take_many(&self->party, places, left < GROUP ? left : (size_t)GROUP);
-        expect(taken.code == BB_OK, "buckets are given");
+        expect(taken.code == BB_OK, "buckets are allocated");
         if (taken.number == 0)
             sched_yield();
         for (size_t i = 0; i < taken.number; i++) {
@@ -165,7 +165,7 @@ static void *receive_all(void *argument) {
                    "it has what its sender wrote");
         self->seen[begins.sender][begins.number]++;
         uint32_t code = bb_pool_party_deallocate(&self->party, taken.place);
-        expect(code == BB_OK, "its receiver gives it back");
+        expect(code == BB_OK, "its receiver frees it");
     }
     return NULL;
 }
@@ -196,7 +196,7 @@ static void take_back(worker *workers, size_t count, bb_shared_pool *pool) {
     }
 }
 
-// Expects that each message was received once, and that each bucket can be taken again.
+// Expects that each message was received once, and that each bucket can be allocated again.
 static void expect_all(bb_shared_pool *pool) {
     for (size_t sender = 0; sender < SENDERS; sender++)
         for (size_t number = 0; number < MESSAGES; number++) {
@@ -245,6 +245,6 @@ int main(void) {
     for (size_t slot = 0; slot < SLOTS; slot++)
         expect(bb_detached_destroy(&shared.slots[slot]) == BB_OK, "a slot's bb_detached is freed");
     expect(bb_shared_pool_destroy(&pool) == BB_OK, "the pool is freed");
-    puts("returns: every message came once, and its receiver returned it");
+    puts("returns: every message came once, and its receiver freed its bucket");
     return 0;
 }

@@ -1,6 +1,6 @@
-// Four threads over one shared pool and one shared bump. Each thread has a party of each, fills
-// each chunk with a pattern of its own, checks that nobody else wrote there, and gives the bucket
-// back. A thread can't return a bucket that another thread holds.
+// Four threads share one pool and one bump, and each thread has a party of each. It fills each
+// chunk with a pattern of its own, checks that nobody else wrote there, and frees the bucket. A
+// thread can't free a bucket that another thread holds.
 #define _POSIX_C_SOURCE 200809L
 #include <pthread.h>
 #include <sched.h>
@@ -46,8 +46,8 @@ static uint64_t pattern_of(const worker *self, size_t chunk) {
     return chunk * THREADS + self->number + 1;
 }
 
-// A chunk's length is a multiple of a word's. The checker of threads keeps few accesses of each
-// word, so the chunk is written in whole words.
+// A chunk's length is a multiple of a word's. ThreadSanitizer keeps few accesses of each word, so
+// the chunk is written in whole words.
 static void fill(void *place, size_t len, uint64_t pattern) {
     uint64_t *words = (uint64_t *)place;
     for (size_t at = 0; at < len / sizeof *words; at++)
@@ -60,8 +60,8 @@ static void expect_filled(const void *place, size_t len, uint64_t pattern) {
         expect(words[at] == pattern, "a chunk has what its own thread wrote");
 }
 
-// Takes ROUNDS buckets, and holds up to two at a time. If none is free, the thread lets others run
-// and tries again.
+// Allocates ROUNDS buckets, and holds up to two at a time. If none is free, the thread lets others
+// run and tries again.
 static void use_pool(worker *self) {
     void *places[HELD];
     size_t held = 0;
@@ -69,11 +69,11 @@ static void use_pool(worker *self) {
     while (self->taken < ROUNDS) {
         bb_chunk given = bb_pool_party_allocate(&self->pool, SHARE, 8);
         expect(given.code == BB_OK || given.code == BB_OUT_OF_MEMORY,
-               "a bucket is given, or none is free");
+               "a bucket is allocated, or none is free");
         if (given.code == BB_OK) {
-            expect((size_t)given.place % 8 == 0, "a chunk is as it was asked for");
+            expect((size_t)given.place % 8 == 0, "a chunk is aligned as requested");
             expect(bb_pool_party_holds(&self->pool, given.place).number == 1,
-                   "a party holds what it took");
+                   "a party holds what it allocated");
             places[held] = given.place;
             patterns[held] = pattern_of(self, self->taken);
             fill(places[held], SHARE, patterns[held]);
@@ -88,16 +88,15 @@ static void use_pool(worker *self) {
             expect(bb_pool_party_deallocate(&self->pool, (char *)places[held] + 1) == BB_NOT_HELD,
                    "an address inside a bucket is refused");
             expect(bb_pool_party_deallocate(&self->pool, places[held]) == BB_OK,
-                   "a bucket is given back");
+                   "a bucket is freed");
             expect(bb_pool_party_deallocate(&self->pool, places[held]) == BB_NOT_HELD,
-                   "a second return is refused");
+                   "a second free is refused");
         }
     }
     while (held > 0) {
         held--;
         expect_filled(places[held], SHARE, patterns[held]);
-        expect(bb_pool_party_deallocate(&self->pool, places[held]) == BB_OK,
-               "a bucket is given back");
+        expect(bb_pool_party_deallocate(&self->pool, places[held]) == BB_OK, "a bucket is freed");
     }
 }
 
@@ -130,18 +129,18 @@ static void *work(void *argument) {
 
 static void make(bb_shared_pool *pool, bb_shared_bump *bump) {
     expect(bb_shared_pool_init(pool, BUCKET_SIZE, 8, pool_words, 64, 0) == BB_INVALID_ARGUMENT,
-           "a party is there");
+           "0 parties are refused");
     expect(bb_shared_pool_init(pool, BUCKET_SIZE, 3, pool_words, 64, 1) == BB_INVALID_LAYOUT,
-           "3 is no power of two");
+           "3 is not a power of two");
     expect(bb_shared_pool_init(pool, 0, 8, pool_words, 64, 1) == BB_INVALID_ARGUMENT,
-           "a bucket has a byte");
+           "buckets of 0 bytes are refused");
     expect(bb_shared_pool_init(pool, BUCKET_SIZE, 8, pool_words, sizeof pool_words, THREADS) ==
                BB_OK,
            "a pool is made");
     expect(bb_shared_pool_init(pool, BUCKET_SIZE, 8, pool_words, 64, 1) == BB_ALREADY_INITIALIZED,
            "a handle holds one");
     expect(bb_shared_bump_init(bump, NULL, 64, 1) == BB_INVALID_ARGUMENT,
-           "a region doesn't start at 0");
+           "a region that starts at 0 is refused");
     expect(bb_shared_bump_init(bump, bump_words, sizeof bump_words, THREADS) == BB_OK,
            "a bump is made");
 
@@ -177,24 +176,25 @@ static void one_by_one(void) {
            "over the region");
     expect(bb_pool_party_allocate(mine, BUCKET_SIZE + 1, 16).code == BB_SIZE_TOO_LARGE,
            "65 bytes are too many");
-    expect(bb_pool_party_allocate(mine, 1, 16).code == BB_ALIGNMENT_FAILURE, "16 is too wide");
-    expect(bb_pool_party_allocate(mine, 1, 3).code == BB_INVALID_LAYOUT, "3 is no power of two");
+    expect(bb_pool_party_allocate(mine, 1, 16).code == BB_ALIGNMENT_FAILURE,
+           "an alignment of 16 is too great");
+    expect(bb_pool_party_allocate(mine, 1, 3).code == BB_INVALID_LAYOUT, "3 is not a power of two");
     void *places[BUCKETS];
     for (size_t bucket = 0; bucket < BUCKETS; bucket++) {
         bb_chunk given = bb_pool_party_allocate(mine, SHARE, 8);
-        expect(given.code == BB_OK, "a bucket is given");
+        expect(given.code == BB_OK, "a bucket is allocated");
         places[bucket] = given.place;
         for (size_t before = 0; before < bucket; before++)
-            expect(places[before] != given.place, "each bucket is given once");
+            expect(places[before] != given.place, "each bucket is allocated once");
     }
     expect(bb_pool_party_allocate(other, 1, 1).code == BB_OUT_OF_MEMORY, "no bucket is free");
     expect(bb_pool_party_deallocate(other, places[0]) == BB_NOT_HELD,
-           "another party's bucket isn't given back");
+           "another party's bucket isn't freed");
     expect(bb_pool_party_holds(other, places[0]).number == 0, "another party's bucket isn't held");
     for (size_t bucket = 0; bucket < BUCKETS; bucket++)
-        expect(bb_pool_party_deallocate(mine, places[bucket]) == BB_OK, "a bucket is given back");
+        expect(bb_pool_party_deallocate(mine, places[bucket]) == BB_OK, "a bucket is freed");
     bb_bump_party *bump = &workers[0].bump;
-    expect(bb_bump_party_allocate(bump, 0, 1).code == BB_SIZE_IS_ZERO, "no chunk has no byte");
+    expect(bb_bump_party_allocate(bump, 0, 1).code == BB_SIZE_IS_ZERO, "0 bytes are refused");
     bb_bump_figures bytes;
     expect(bb_bump_party_info(bump, &bytes) == BB_OK && bytes.used_space == 0, "nothing is used");
     expect(bytes.free_space == sizeof bump_words && bytes.total_space == sizeof bump_words,

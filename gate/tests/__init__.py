@@ -1,1 +1,1 @@
-"""Tests of the gate, which run in it first. Each plants a fault that the gate has to find."""
+"""Tests of the gate, which it runs first. Each one plants a fault that the gate has to find."""

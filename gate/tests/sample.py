@@ -1,4 +1,4 @@
-"""A small checkout for tests, in which the page checks find no fault."""
+"""A small checkout for tests, in which `.ci/pages` finds nothing."""
 
 import tempfile
 from collections.abc import Iterator, Mapping
@@ -141,7 +141,7 @@ TEXTS = {
 
 @contextmanager
 def checkout(changes: Mapping[str, str] | None = None, name: str = "tree") -> Iterator[Path]:
-    """Makes the checkout in a folder of this name, with some files of other texts."""
+    """Makes the checkout in a folder with this name, with other texts in some files."""
     with tempfile.TemporaryDirectory() as folder:
         top = Path(folder) / name
         for path, text in {**TEXTS, **(changes or {})}.items():
@@ -152,7 +152,7 @@ def checkout(changes: Mapping[str, str] | None = None, name: str = "tree") -> It
 
 
 def changed(path: str, old: str, new: str) -> dict[str, str]:
-    """Returns a file of the checkout with a text that it has once replaced."""
+    """Returns a file of the checkout, in which a text that it has once is replaced."""
     text = TEXTS[path]
     if text.count(old) != 1:
         raise ValueError(f"{path}: has {text.count(old)} times: {old}")

@@ -1,4 +1,4 @@
-"""Tests that comments, clauses, ghost items and layout are no code, and that everything else is."""
+"""Tests that comments, clauses, ghost items and layout aren't code, and everything else is."""
 
 import unittest
 
@@ -44,7 +44,7 @@ trait Words {
 
 
 class Code(unittest.TestCase):
-    """Tests of the code that runs."""
+    """The code of a source."""
 
     def test_comments_clauses_and_ghost_items_are_left_out(self) -> None:
         code = code_of(SOURCE)
@@ -85,10 +85,10 @@ class Code(unittest.TestCase):
 
 
 class Sums(unittest.TestCase):
-    """Tests of the changes that change the sum of a source."""
+    """Which changes of a source change its sum."""
 
     def changed(self, old: str, new: str) -> bool:
-        """Returns whether the sum changes if a text of the source is replaced."""
+        """Returns whether replacing a text of the source changes the sum."""
         self.assertEqual(SOURCE.count(old), 1)
         return sum_of(SOURCE) != sum_of(SOURCE.replace(old, new))
 

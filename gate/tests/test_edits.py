@@ -1,4 +1,4 @@
-"""Edits: their form, and texts that are not found."""
+"""Tests of the form of edits, and of texts that aren't found."""
 
 import unittest
 from pathlib import Path
@@ -10,7 +10,7 @@ EDIT = "# function: a::f\n# promise: Pool::f: answer\nfile: src/a.rt\nold:     x
 
 
 class EditTest(unittest.TestCase):
-    """Reads and applies edits."""
+    """Edits that are read and applied."""
 
     def test_form(self) -> None:
         edit = parse_edit(PATH, EDIT)
@@ -25,17 +25,17 @@ class EditTest(unittest.TestCase):
 
     def test_text_that_is_not_found(self) -> None:
         edit = parse_edit(PATH, EDIT)
-        with self.assertRaisesRegex(BadEdit, r"has 0 times, and not once: x \+ 1"):
+        with self.assertRaisesRegex(BadEdit, r"found 0 times, not once: x \+ 1"):
             apply(edit, {"src/a.rt": "fn f {\n    x + 2\n}\n"}.__getitem__)
 
     def test_text_that_is_found_twice(self) -> None:
         edit = parse_edit(PATH, EDIT)
-        with self.assertRaisesRegex(BadEdit, r"has 2 times, and not once: x \+ 1"):
+        with self.assertRaisesRegex(BadEdit, r"found 2 times, not once: x \+ 1"):
             apply(edit, {"src/a.rt": "    x + 1\n    x + 1\n"}.__getitem__)
 
     def test_file_that_is_not_there(self) -> None:
         edit = parse_edit(PATH, EDIT)
-        with self.assertRaisesRegex(BadEdit, "src/a.rt: isn't a file of the crate"):
+        with self.assertRaisesRegex(BadEdit, "src/a.rt: the crate has no such file"):
             apply(edit, {"src/b.rt": ""}.__getitem__)
 
     def test_other_forms_are_refused(self) -> None:
@@ -44,9 +44,9 @@ class EditTest(unittest.TestCase):
             ("# function: f\nfile: a\n", "are missing"),
             ("# function: f\nfile: a\nold: x\n", "are missing"),
             ("# function: f\nold: x\nnew: y\n", "have to come before"),
-            ("# function: f\nfile: a\nold: x\nold: y\n", "has to follow"),
-            ("# function: f\nfile: a\nold: x\nnew: y\nmore: z\n", "isn't a line of an edit"),
-            ("# function: f\n# promise: answer\n", "isn't `# promise: CALL: LABEL`"),
+            ("# function: f\nfile: a\nold: x\nold: y\n", "has to be followed"),
+            ("# function: f\nfile: a\nold: x\nnew: y\nmore: z\n", "not a line of an edit"),
+            ("# function: f\n# promise: answer\n", "not of the form `# promise: CALL: LABEL`"),
         ):
             with self.assertRaisesRegex(BadEdit, message):
                 parse_edit(PATH, text)

@@ -1,4 +1,4 @@
-"""Walks, temporary folders and crates, in a checkout below odd folders."""
+"""Tests of walks, temporary folders and crates, in a checkout below folders with odd names."""
 
 import os
 import shutil
@@ -63,7 +63,7 @@ class TemporaryTest(unittest.TestCase):
                 self.fail("a folder is made in another place")
 
     def test_commands_end(self) -> None:
-        """Each command ends before it runs a tool; tools that would be run next fail."""
+        """Each command ends before it runs a tool: the tools that it would run next fail."""
         with temporary_folder() as work:
             write(work, {name: "#!/bin/sh\nexit 7\n" for name in ("rt", "make", "cc", "cargo")})
             path = f"{work}:{os.environ['PATH']}"

@@ -1,4 +1,4 @@
-"""Tests that imports are laid out, and that nothing else is changed or lost."""
+"""Tests that imports are laid out, and that nothing else changes or is lost."""
 
 import unittest
 

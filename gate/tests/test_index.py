@@ -9,7 +9,7 @@ from gate.index import Call, Index
 from gate.process import Failed
 from gate.tests.sample import changed, checkout
 
-# Names that users write: the file of the body, and the trait that has the contract, if any.
+# Names that users write, each with the file of the body, and the trait with the contract, if any.
 NAMES = {
     "SharedPoolAllocator::allocate": ("shared_pool/buckets.rt", ""),
     "SharedFixedSizePoolAllocator::allocate": ("shared_pool/buckets.rt", ""),
@@ -24,7 +24,7 @@ NAMES = {
     "OneChunkAllocator::allocate": ("one_chunk_allocator.rt", "BaseAllocator"),
     "BumpAllocator::allocate": ("bump_allocator.rt", "BaseAllocator"),
 }
-# Words of the pages that are definitions, and the file of each.
+# Definitions that pages name, each with its file.
 DEFINITIONS = {
     "Takes": "bb_memory_owned/specs/Pool.antt",
     "Frees": "bb_memory_owned/specs/Pool.antt",
@@ -39,7 +39,7 @@ DEFINITIONS = {
 
 
 def only(calls: list[Call]) -> Call:
-    """Returns the only call of a list."""
+    """Returns the only call in a list."""
     if len(calls) != 1:
         raise ValueError(f"{len(calls)} calls: {[call.title for call in calls]}")
     return calls[0]
@@ -66,7 +66,7 @@ class RealNames(unittest.TestCase):
 
 
 class SampleNames(unittest.TestCase):
-    """Whole words count, and labels are those of clauses."""
+    """Only whole words match, and labels are those of clauses."""
 
     def lines(self, *words: str) -> list[str]:
         with checkout() as top:
@@ -149,7 +149,7 @@ class SampleNames(unittest.TestCase):
 
 
 class Clauses(unittest.TestCase):
-    """How an edit may name a clause that has no label."""
+    """The names by which an edit may call a clause without a label."""
 
     SHOWN = """\
 ghost use Rattle.low.specs.Words.{Fits};

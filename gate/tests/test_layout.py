@@ -1,4 +1,4 @@
-"""Layout checks, on small files."""
+"""Tests of the layout checks, on small files."""
 
 import io
 import os
@@ -12,7 +12,7 @@ from gate.crates import TOP
 from gate.process import Failed
 from gate.tests.places import CheckoutTest
 
-# For each tool a file in which it finds something. Those of Python take seconds to begin.
+# For each tool, a file in which it finds something. The tools for Python take seconds to start.
 WRONG = {
     "clang-format": ("one.c", "int  one(void);\n"),
     "shellcheck": ("one", "#!/bin/sh\necho $1\n"),
@@ -79,7 +79,7 @@ class LayoutTest(CheckoutTest):
         self.assertEqual(
             printed.getvalue(),
             "clang-format: not installed, skipped\n"
-            "clang-format: clang-format version 99.1 lays files out in another way, skipped\n",
+            "clang-format: clang-format version 99.1 lays out files in another way, skipped\n",
         )
 
     def test_install_asks_only_for_what_is_missing(self) -> None:

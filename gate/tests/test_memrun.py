@@ -1,4 +1,4 @@
-"""The reader of memrun's lines."""
+"""Tests of how the lines of memrun are read."""
 
 import unittest
 
@@ -9,7 +9,7 @@ POOL = Script("pool 4096 256 128 8\nalloc 1 1\nalloc 1 1\n", ["chunk P 1", "chun
 
 
 class MemrunTest(unittest.TestCase):
-    """Compares lines with those that a script wants."""
+    """Lines compared with those that a script wants."""
 
     def test_places(self) -> None:
         self.assertEqual(places("pool 4097 64 12 8\n"), {"4104", "4120", "4136"})
@@ -32,7 +32,7 @@ class MemrunTest(unittest.TestCase):
             Ended(0, "chunk 4224 1\nchunk 4096 1\n", "more"),
             Ended(0, "chunk 4224 1\nchunk 4097 1\n", ""),
         ):
-            with self.assertRaisesRegex(Failed, "or other lines"):
+            with self.assertRaisesRegex(Failed, "or wrong lines"):
                 must_end(POOL, ended)
 
     def test_worked_script(self) -> None:

@@ -1,4 +1,4 @@
-"""The judge of mutants."""
+"""Tests of how mutants are judged."""
 
 import unittest
 from unittest.mock import patch
@@ -13,14 +13,14 @@ ROUND_UP = "# function: layout::round_up\nfile: src/layout.rt\nold: v & !mask\nn
 WITHIN = "# function: layout::Layout::within\nfile: src/layout.rt\nold: a > b\nnew: a - a > b\n"
 NOT_FOUND = WITHIN.replace("old: a > b", "old: a >= b")
 NO_PROGRAM = ROUND_UP.replace("v - mask", "v & !masque")
-# An edit of another function than the one that it names.
+# An edit that changes a function other than the one that it names.
 MISNAMED = ROUND_UP.replace("layout::round_up", "layout::Layout::within")
 
 CRATE = "bb_memory_traits"
 
 
 class JudgeTest(CheckoutTest):
-    """Judges edits by the output of `rt check` for the same edits."""
+    """Edits judged by the stored output of `rt check` for the same edits."""
 
     def setUp(self) -> None:
         super().setUp()
@@ -88,7 +88,7 @@ class JudgeTest(CheckoutTest):
         self.assertIs(found.outcome, Outcome.NOT_JUDGED)
 
     def test_lanes(self) -> None:
-        """Judges in lanes, with a program `rt` that fails on each text but the edited one."""
+        """Edits judged in lanes, with an `rt` that fails on each text except the edited one."""
         self.add(round_up=ROUND_UP, within=WITHIN)
         stored = self.work / "log"
         stored.write_text(log("round"), encoding="utf-8")

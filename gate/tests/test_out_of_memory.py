@@ -1,4 +1,4 @@
-"""The runs of OOM tests, with a script instead of the tests' program."""
+"""Tests of how OOM tests are run, with a script instead of their program."""
 
 import unittest
 from pathlib import Path
@@ -18,7 +18,7 @@ WELL = (
 
 
 class OutOfMemoryTest(CheckoutTest):
-    """Runs tests whose requests for memory fail."""
+    """OOM tests whose requests for memory fail."""
 
     def program(self, text: str) -> Path:
         """Returns a program that lists its tests, and otherwise does what the text says."""
@@ -37,7 +37,7 @@ class OutOfMemoryTest(CheckoutTest):
         self.assertEqual(run_tests(Workspace(self.top), self.top, self.work / "library"), 1)
 
     def test_a_refused_request_fails_the_test(self) -> None:
-        with self.assertRaisesRegex(Failed, "failed with request 2 refused"):
+        with self.assertRaisesRegex(Failed, "failed when its request 2 failed"):
             self.run_in_turn(WELL.replace("exit 0", 'test "$REFUSE_AT" -ne 2'))
 
     def test_requests_never_end(self) -> None:
@@ -47,13 +47,13 @@ class OutOfMemoryTest(CheckoutTest):
 
     def test_the_marks_are_not_met(self) -> None:
         test = OomTest(self.program(WELL.replace("exit 98", "exit 0")), AFTER_MAKING)
-        with self.assertRaisesRegex(Failed, "failed with memory refused after the making"):
+        with self.assertRaisesRegex(Failed, "failed without memory after the making"):
             refuse_after_making(test, self.work / "library")
 
     def test_no_oom_test(self) -> None:
         program = self.program(WELL)
         program.write_text("#!/bin/sh\necho tests::other: test\n", encoding="utf-8")
-        with self.assertRaisesRegex(Failed, "low_tests: no OOM test"):
+        with self.assertRaisesRegex(Failed, "low_tests: has no OOM tests"):
             tests_of(program)
 
 

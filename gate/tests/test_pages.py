@@ -1,4 +1,4 @@
-"""Tests that each fault of a page, a comment or an edit is found, and nothing else."""
+"""Tests that each fault in a page, a comment or an edit is found, and nothing else."""
 
 import os
 import shutil
@@ -38,14 +38,14 @@ CHECKS: dict[str, Check] = {
 
 
 def found_in(changes: dict[str, str], name: str = "tree") -> list[str]:
-    """Returns the findings of the checks in the sample with some changes."""
+    """Returns the findings in the sample with some changes."""
     with checkout(changes, name) as top:
         tree = pages.read_tree(top)
         return [line for check in CHECKS.values() for line in check(tree)]
 
 
 class Faults(unittest.TestCase):
-    """Each fault is the only finding."""
+    """Each fault is the only finding in the sample."""
 
     def finds(self, changes: dict[str, str], *parts: str) -> None:
         found = found_in(changes)
@@ -57,7 +57,7 @@ class Faults(unittest.TestCase):
         self.assertEqual(found_in({}), [])
 
     def test_line_count(self) -> None:
-        self.finds(changed("PROMISES.md", "| 5 |", "| 6 |"), "5 lines and not 6")
+        self.finds(changed("PROMISES.md", "| 5 |", "| 6 |"), "5 lines, not 6")
 
     def test_file_to_read(self) -> None:
         self.finds(changed("PROMISES.md", "`Words`", "`traits`"), "crates/low/specs/traits.antt")
@@ -99,11 +99,11 @@ class Faults(unittest.TestCase):
 
     def test_version_of_a_copy(self) -> None:
         changes = changed("bindings/rust/Cargo.toml", "1.2.3", "1.2.4")
-        self.finds(changes, "bindings/rust/Cargo.toml: version 1.2.4 and not 1.2.3")
+        self.finds(changes, "bindings/rust/Cargo.toml: version 1.2.4, not 1.2.3")
 
     def test_version_of_the_header(self) -> None:
         found = found_in(changed("crates/bb_memory_c/bb_memory.h", '"1.2.3"', '"1.3.0"'))
-        self.assertIn("bindings/rust/Cargo.lock: version 1.2.3 and not 1.3.0", "\n".join(found))
+        self.assertIn("bindings/rust/Cargo.lock: version 1.2.3, not 1.3.0", "\n".join(found))
         self.assertIn("CHANGELOG.md: the newest version isn't 1.3.0", found)
 
     def test_version_on_a_page(self) -> None:
@@ -117,7 +117,7 @@ class Faults(unittest.TestCase):
 
     def test_edit_in_a_folder_that_nobody_reads(self) -> None:
         edit = TEXTS["crates/high/must-fail/counts_one.edit"]
-        self.finds({"crates/high/mutants/counts_two.edit": edit}, "is in no folder")
+        self.finds({"crates/high/mutants/counts_two.edit": edit}, "no check reads edits")
 
     def test_edit_names_no_call(self) -> None:
         changes = changed("crates/high/must-fail/counts_one.edit", "Pool::count", "Pool::cont")
@@ -234,7 +234,7 @@ def vanishing(walk: Iterable[Step], folder: Path) -> Iterable[Step]:
 
 
 class Shown(unittest.TestCase):
-    """The script of what a page shows from C."""
+    """The script with the programs that a page shows."""
 
     def test_script(self) -> None:
         page = "The whole `a.c`:\n\n```c\nint a;\n```\n\n```rust\nfn a() {}\n```\n\n```sh\ncc a.c\n```\n"
@@ -245,7 +245,7 @@ class Shown(unittest.TestCase):
         self.assertEqual(list(pages.hosts(page)), ["cat > a.cpp <<'END'\nint a;\nEND\n"])
 
     def test_a_program_without_a_name(self) -> None:
-        with self.assertRaisesRegex(process.Failed, "isn't named:\nint a;"):
+        with self.assertRaisesRegex(process.Failed, "without the name of its file above:\nint a;"):
             list(pages.hosts("A program:\n\n```c\nint a;\n```\n"))
 
 

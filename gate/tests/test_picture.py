@@ -1,4 +1,4 @@
-"""The pictures of scripts."""
+"""Tests of the pictures of scripts."""
 
 import unittest
 from pathlib import Path
@@ -22,7 +22,7 @@ from gate.process import Failed
 from gate.temporary import temporary_folder
 
 BUMP = Region("bump", 4096, 64)
-# The picture of each list of live chunks of the bump: a column is a byte.
+# The picture of the bump for each list of live chunks. A column is a byte.
 BUMP_ROWS: list[tuple[list[Chunk], str]] = [
     ([], "." * 64),
     ([Chunk(4096, 10)], "0" * 10 + "." * 54),
@@ -51,7 +51,7 @@ class PictureTest(unittest.TestCase):
         for line in ("steps-bump 4096 64", "loan-pool 4096 64 8 8"):
             with self.assertRaisesRegex(Failed, "has no region to draw"):
                 region_of(line)
-        with self.assertRaisesRegex(Failed, "room for 1024 buckets, and not 1025"):
+        with self.assertRaisesRegex(Failed, "room for 1024 buckets, not 1025"):
             region_of("pool 4096 1025 1 1")
 
     def test_a_bump(self) -> None:
@@ -70,7 +70,7 @@ class PictureTest(unittest.TestCase):
         held = "-" * 7 + "." * 12 + "----" + "0" * 5 + "-" * 11 + "1" * 12 + "-" * 13
         live = [Chunk(4120, 5), Chunk(4136, 12)]
         self.assertEqual(row_of(POOL, live), f"4097 |{held}| 4161")
-        # A chunk without a byte holds its bucket, too.
+        # A chunk of size 0 holds its bucket, too.
         self.assertIn((4104, 4116), list(kept_bytes(POOL, [Chunk(4104, 0)])))
 
     def test_a_column_shows_the_first_chunk_that_has_a_byte_of_it(self) -> None:

@@ -1,4 +1,4 @@
-"""Tests that the table of places refuses each wrong body, and that one that passes is reported."""
+"""Tests that the table of places refuses wrong bodies, and reports one that passes."""
 
 import re
 import unittest
@@ -16,7 +16,7 @@ new: {new}
 
 
 class RealTree(unittest.TestCase):
-    """The edits of the crates, and edits of its sources that are made here."""
+    """The edits of the crates, and further edits that are made here."""
 
     texts = texts_below(TOP / "crates")
     texts = {f"crates/{path}": text for path, text in texts.items()}
@@ -38,7 +38,7 @@ class RealTree(unittest.TestCase):
         line = self.first_line("fn probe(")
         found = self.with_edit(line, line + " // waits for nothing")
         self.assertEqual(len(found), 1)
-        self.assertIn("made_here.edit: not refused by the table of places", found[0])
+        self.assertIn("made_here.edit: isn't refused by the table of places", found[0])
 
     def test_edit_that_waits_is_refused(self) -> None:
         line = self.first_line("fn probe(")
@@ -46,7 +46,7 @@ class RealTree(unittest.TestCase):
 
     def test_edit_of_a_text_that_is_not_there_is_reported(self) -> None:
         found = self.with_edit("no such text", "loop {}")
-        self.assertIn("isn't an edit of these sources", found[0])
+        self.assertIn("can't be applied to these sources", found[0])
 
     def test_edit_without_a_function_is_reported(self) -> None:
         path = "crates/bb_memory_shared_pools/refused-by-text/made_here.edit"
@@ -59,12 +59,12 @@ class RealTree(unittest.TestCase):
         text = self.texts[path].replace("impl TableRule<", "impl OtherRule<")
         found = places.findings({**self.texts, path: text})
         self.assertIn(f"{path}: ", found[0])
-        self.assertIn("`TableRule` 0 times, and not 1 (shares a word", found[0])
+        self.assertIn("`TableRule` 0 times, not 1 (shares a word", found[0])
 
     def test_file_of_the_table_that_is_gone_is_found(self) -> None:
         path = "crates/bb_memory_shared_pools/src/shared_pool/flags.rt"
         sources = places.sources_of({k: v for k, v in self.texts.items() if k != path})
-        self.assertIn(f"{path}: `Table` 0 times, and not 2", "\n".join(places.misplaced(sources)))
+        self.assertIn(f"{path}: `Table` 0 times, not 2", "\n".join(places.misplaced(sources)))
 
     def test_right_changes_are_not_refused(self) -> None:
         for name, old, new in (
@@ -90,27 +90,27 @@ class RealTree(unittest.TestCase):
             ("let _ = std::sync::Mutex::new(1);", "std::sync::Mutex::new"),
             ("let _ = ::std::thread::sleep;", "std::thread::sleep"),
             ("let _: atomic_table::Perch<u8, View>;", "atomic_table::Perch"),
-            ("let word = self.table.shared.peek(0);", "`peek` 2 times, and not 1"),
-            ("let word = Shared::load::<Finds>(seat, 0);", "`load` 5 times, and not 4"),
-            ("let free = flags.map(Flags::found);", "`found` 1 times, and not 0"),
-            ("self.flags.swap(1, SEQ);", "`swap` 1 times, and not 0"),
-            ("let _: AtomicU64;", "`AtomicU64` 1 times, and not 0"),
-            ("let _ = Arc::strong_count(&a);", "`Arc::strong_count` 1 times, and not 0"),
+            ("let word = self.table.shared.peek(0);", "`peek` 2 times, not 1"),
+            ("let word = Shared::load::<Finds>(seat, 0);", "`load` 5 times, not 4"),
+            ("let free = flags.map(Flags::found);", "`found` 1 times, not 0"),
+            ("self.flags.swap(1, SEQ);", "`swap` 1 times, not 0"),
+            ("let _: AtomicU64;", "`AtomicU64` 1 times, not 0"),
+            ("let _ = Arc::strong_count(&a);", "`Arc::strong_count` 1 times, not 0"),
             ("let one = all.get_mut();", "isn't in CALLED: get_mut"),
-            ("while self.is_free() {}", "`while` 1 times, and not 0"),
-            ("for _ in all {}", "`for` 1 times, and not 0"),
-            ("let all = (0..);", "`..` 2 times, and not 1"),
-            ("let all = 0..=(9);", "`..=` 1 times, and not 0"),
-            ("let all = slots.iter();", "`iter` 1 times, and not 0"),
-            ("let f = |x| x;", "`|` 2 times, and not 1"),
-            ("let f = move || 1;", "`|` 2 times, and not 1"),
+            ("while self.is_free() {}", "`while` 1 times, not 0"),
+            ("for _ in all {}", "`for` 1 times, not 0"),
+            ("let all = (0..);", "`..` 2 times, not 1"),
+            ("let all = 0..=(9);", "`..=` 1 times, not 0"),
+            ("let all = slots.iter();", "`iter` 1 times, not 0"),
+            ("let f = |x| x;", "`|` 2 times, not 1"),
+            ("let f = move || 1;", "`|` 2 times, not 1"),
             ("let all = repeat_with(f);", "isn't in CALLED: repeat_with"),
             ("let all = successors::<fn(u8) -> u8>(f);", "isn't in CALLED: successors"),
-            ("self.probe(party, seat, bucket);", "`probe` 1 times, and not 0 (calls itself)"),
+            ("self.probe(party, seat, bucket);", "`probe` 1 times, not 0 (calls itself)"),
             ("spin!(9);", "isn't in CALLED: spin"),
-            ('let _ = r"//"; loop {}', "a macro, a raw text or a comment in stars"),
-            ('let _ = "//"; loop {}', "`loop` 1 times, and not 0"),
-            ("#[cycle(turn)] fn turn() {}", "`cycle` 1 times, and not 0"),
+            ('let _ = r"//"; loop {}', "a macro, a raw string or a block comment"),
+            ('let _ = "//"; loop {}', "`loop` 1 times, not 0"),
+            ("#[cycle(turn)] fn turn() {}", "`cycle` 1 times, not 0"),
         ):
             with self.subTest(waits):
                 self.assertIn(found, "\n".join(self.after_probe(waits)))
@@ -148,7 +148,7 @@ class RealTree(unittest.TestCase):
         self.assertEqual(len(places.recursions(texts)), 2)
 
     def after_probe(self, code: str) -> list[str]:
-        """Returns the misplaced texts if `probe` of flags.rt begins with this code."""
+        """Returns the misplaced texts if the body of `probe` in flags.rt begins with this code."""
         sources = places.sources_of(self.texts)
         path = f"{places.POOL}flags"
         first = "        let seen = self.table.shared.load::<LooksAt>(seat, word_of(bucket));"
@@ -156,7 +156,7 @@ class RealTree(unittest.TestCase):
         return places.misplaced({**sources, path: sources[path].replace(first, code + first)})
 
     def first_line(self, text: str) -> str:
-        """Returns the line of flags.rt that has this text."""
+        """Returns the line of flags.rt with this text."""
         source = self.texts["crates/bb_memory_shared_pools/src/shared_pool/flags.rt"]
         lines = [line for line in source.split("\n") if text in line]
         self.assertEqual(len(lines), 1)

@@ -12,7 +12,7 @@ MUTANTS = sorted((CRATE / "tests/pool_file/mutants").glob("*.mutant"))
 
 
 class Mutants(unittest.TestCase):
-    """The files of mutants can be read without a compiler."""
+    """The mutants, which can be read without a compiler."""
 
     def test_refused_by(self) -> None:
         text = "# function: f\n# refused by: kills pause 31\nfile: f.c\nold: a\nnew: b\n"

@@ -10,13 +10,13 @@ from gate import pool_messages
 from gate.pool_messages import Messages, Program, Started
 from gate.process import Failed
 
-# A program in place of one that sends, whose last word is the number of messages, or receives.
+# A program instead of a sender, whose last argument is the number of messages, or a receiver.
 SLEEPS = [sys.executable, "-c", "import time; time.sleep(60)"]
 FAILS = [sys.executable, "-c", "raise SystemExit(1)"]
 
 
 class Faults(unittest.TestCase):
-    """What is said of lines that receivers have printed."""
+    """Faults in the lines that receivers have printed."""
 
     def test_all_came(self) -> None:
         lines = ["7 0", "8 0", "7 1", "8 1"]
@@ -30,25 +30,25 @@ class Faults(unittest.TestCase):
 
     def test_missing(self) -> None:
         found = pool_messages.faults(["7 0"], {7: 2}, 0)
-        self.assertEqual(found, ["process 7: 1 of 2 messages never came, or others did"])
+        self.assertEqual(found, ["process 7: 1 of 2 messages are missing, or there are others"])
 
     def test_missing_of_a_killed_sender(self) -> None:
         found = pool_messages.faults(["7 0", "7 2"], {7: None}, 0)
-        self.assertEqual(found, ["process 7: 1 of 2 messages never came, or others did"])
+        self.assertEqual(found, ["process 7: 1 of 2 messages are missing, or there are others"])
 
     def test_more_than_were_sent(self) -> None:
         found = pool_messages.faults(["7 0", "7 1"], {7: 1}, 0)
-        self.assertEqual(found, ["process 7: 0 of 1 messages never came, or others did"])
+        self.assertEqual(found, ["process 7: 0 of 1 messages are missing, or there are others"])
 
     def test_again(self) -> None:
         lines = ["7 0", "7 0", "7 0"]
         self.assertEqual(pool_messages.faults(lines, {7: 1}, 2), [])
         found = pool_messages.faults(lines, {7: 1}, 1)
-        self.assertEqual(found, ["2 messages came again, but 1 receivers were killed"])
+        self.assertEqual(found, ["2 messages came twice, but only 1 receivers were killed"])
 
 
 class Processes(unittest.TestCase):
-    """How processes are started and killed, with programs that do nothing."""
+    """Processes that are started and killed, of programs that do nothing."""
 
     def messages(self, words: list[str]) -> Messages:
         return Messages([Program(words, words)], Path("file"), Path("bb-pool"))
@@ -74,7 +74,7 @@ class Processes(unittest.TestCase):
     def test_a_last_sender_fails(self) -> None:
         messages = self.messages(FAILS)
         with tempfile.TemporaryFile() as output:
-            with self.assertRaisesRegex(Failed, "has status 1"):
+            with self.assertRaisesRegex(Failed, "ended with status 1"):
                 messages.finish(output)
         for started in messages.alive:
             started.process.wait()

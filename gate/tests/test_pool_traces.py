@@ -20,7 +20,7 @@ def write_program(path: Path, body: str) -> Path:
 
 
 class TracesOfPrograms(unittest.TestCase):
-    """Programs in the places of `trace` and `file_replay` write, and end, as they are to."""
+    """Traces, with scripts instead of the programs `trace` and `file_replay`."""
 
     def setUp(self) -> None:
         made = tempfile.TemporaryDirectory()
@@ -28,12 +28,12 @@ class TracesOfPrograms(unittest.TestCase):
         self.folder = Path(made.name)
 
     def traces(self, replay: str) -> Traces:
-        """Returns traces that a program of this body replays."""
+        """Returns traces that a script with this body replays."""
         write_program(self.folder / pool_traces.REPLAY, replay)
         return Traces(self.folder, self.folder)
 
     def trace(self, body: str) -> Path:
-        """Returns a program of this body that writes traces."""
+        """Returns a script with this body that writes traces."""
         return write_program(self.folder / "trace", body)
 
     def test_reason_for_no_step(self) -> None:

@@ -1,4 +1,4 @@
-"""Tests that the page of public names has what users write, and that no loss goes unseen."""
+"""Tests that the page of public names has what users write, and that each loss is found."""
 
 import unittest
 from collections.abc import Mapping
@@ -78,20 +78,20 @@ low::Words::Fits
 
 
 def index_with(changes: Mapping[str, str]) -> Index:
-    """Returns the index of the sample with the crate, its page, and these changes."""
+    """Returns the index of the sample with the crate, the page, and these changes."""
     with checkout({**CRATE, public.PAGE: PAGE, **changes}) as top:
         return Index(texts_below(top))
 
 
 class PublicNames(unittest.TestCase):
-    """The page has each name as users write it, and a change of the sources is found."""
+    """The page has each name as users write it, and changes of the sources are found."""
 
     def found(self, changes: Mapping[str, str]) -> list[str]:
         return list(public.wrong(index_with(changes)))
 
     def lost(self, changes: Mapping[str, str]) -> set[str]:
-        """Returns the items that the page has and the sources lack after these changes."""
-        begin = f"{public.PAGE}: is no longer so: "
+        """Returns the items of the page that the sources lack after these changes."""
+        begin = f"{public.PAGE}: the sources no longer have: "
         return {line.removeprefix(begin) for line in self.found(changes) if line.startswith(begin)}
 
     def test_page(self) -> None:
@@ -137,7 +137,7 @@ class PublicNames(unittest.TestCase):
         page = PAGE.replace("    ensures: answer kept\n", "    ensures: kept answer\n")
         self.assertEqual(
             self.found({public.PAGE: page}),
-            [f"{public.PAGE}: has another order (tools/contracts --fix)"],
+            [f"{public.PAGE}: isn't in order (tools/contracts --fix)"],
         )
 
     def test_changed_signature(self) -> None:

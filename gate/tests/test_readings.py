@@ -1,4 +1,4 @@
-"""Tests that a change of code in a file that a person has to read is found, and no other change."""
+"""Tests that changes of code in files that a person has to read are found, and no others."""
 
 import unittest
 
@@ -11,14 +11,14 @@ POSITION = "crates/bb_memory_bump/src/shared_bump/position.rt"
 
 
 class RealTree(unittest.TestCase):
-    """The files of this checkout, and changes of them that are made here."""
+    """The files of this checkout, and changes to them that are made here."""
 
     texts = {
         file: (TOP / file).read_text(encoding="utf-8") for file in (*readings.READ, readings.LIST)
     }
 
     def after(self, file: str, old: str, new: str) -> list[str]:
-        """Returns the findings after a text of a file is replaced."""
+        """Returns the findings after a text in a file is replaced."""
         text = self.texts[file]
         self.assertIn(old, text)
         return list(readings.findings({**self.texts, file: text.replace(old, new, 1)}))
@@ -72,17 +72,17 @@ class RealTree(unittest.TestCase):
     def test_file_that_is_gone_is_found(self) -> None:
         texts = {file: text for file, text in self.texts.items() if file != POSITION}
         self.assertEqual(
-            list(readings.findings(texts)), [f"{POSITION}: is to be read, and isn't there"]
+            list(readings.findings(texts)), [f"{POSITION}: has to be read, but is missing"]
         )
 
     def test_line_that_is_no_sum_is_found(self) -> None:
         found = list(readings.findings({**self.texts, readings.LIST: "no sum\n"}))
-        self.assertEqual(found, ["gate/readings.txt: isn't a line `SUM  FILE`: no sum"])
+        self.assertEqual(found, ["gate/readings.txt: not of the form `SUM  FILE`: no sum"])
 
     def test_comment_in_stars_is_found(self) -> None:
         found = self.after(POSITION, "let shared =", "/* a */ let shared =")
         self.assertEqual(len(found), 1)
-        self.assertIn("a comment in stars, of which no sum is made", found[0])
+        self.assertIn("a block comment, so its sum can't be made", found[0])
 
 
 if __name__ == "__main__":

@@ -70,12 +70,12 @@ class Rows(unittest.TestCase):
 
     def test_mark_of_no_row(self) -> None:
         path = "crates/some_tests/src/tests/all.rt"
-        self.finds(path, "marked, also-marked", "marked, also-marked, lost", "lost is no row")
+        self.finds(path, "marked, also-marked", "marked, also-marked, lost", "lost isn't a row")
 
     def test_mark_without_a_test(self) -> None:
         path = "crates/some_tests/src/tests/all.rt"
         found = wrong_of({path: TEST.replace("#[test]\nfn a_test", "fn a_test")})
-        self.assertIn("no test is below the row marked, also-marked", found[0])
+        self.assertIn("no test comes after the row marked, also-marked", found[0])
 
     def test_table_that_no_test_checks(self) -> None:
         path = "crates/some_tests/src/tests/all.rt"

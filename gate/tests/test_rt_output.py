@@ -1,4 +1,4 @@
-"""The reader of `rt`'s output, on stored output of real runs."""
+"""Tests of how the output of `rt` is read, on stored output of real runs."""
 
 import unittest
 
@@ -58,7 +58,7 @@ class GoalsTest(unittest.TestCase):
 
 
 class CompileErrorsTest(unittest.TestCase):
-    """Errors of texts that are no programs."""
+    """Errors in texts that aren't programs."""
 
     def test_each_kind(self) -> None:
         for name, beginning in (

@@ -1,4 +1,4 @@
-"""The merge gate, on a checkout whose commands only succeed or fail."""
+"""Tests of the merge gate, on a checkout whose commands only succeed or fail."""
 
 import io
 import os
@@ -15,7 +15,7 @@ from gate.tests.places import CheckoutTest, log
 
 WELL = "#!/bin/sh\nexit 0\n"
 BADLY = "#!/bin/sh\necho planted\nexit 3\n"
-# Fails when there is such a file.
+# Fails if there is such a file.
 WAIT_AND_FAIL = '#!/bin/sh\nuntil test -s "{}"; do sleep 0.01; done\nexit 3\n'
 CHECKOUT = {
     "HANDLES": "Handles allowed: none.\n",
@@ -33,7 +33,7 @@ CHECKOUT = {
 
 
 def is_running(number: int) -> bool:
-    """Returns whether there is a process of this number that hasn't ended."""
+    """Returns whether there is a process with this id that hasn't ended."""
     try:
         stat = Path(f"/proc/{number}/stat").read_text(encoding="utf-8")
     except (FileNotFoundError, ProcessLookupError):
@@ -71,7 +71,7 @@ class GateTest(CheckoutTest):
         self.ran_oom_tests.assert_called_once()
 
     def test_it_starts_by_path_and_by_shell(self) -> None:
-        """A word that the gate doesn't know ends it at once, so nothing else is run here."""
+        """An unknown argument ends the gate at once, so nothing else runs here."""
         for shell in ("", "sh", "bash"):
             ended = process.run([*shell.split(), TOP / ".ci/run", "word"], self.work)
             self.assertEqual(ended.status, 1, shell)
@@ -117,7 +117,7 @@ class GateTest(CheckoutTest):
             self.write({command: WELL})
 
     def test_a_failure_ends_what_runs_beside(self) -> None:
-        """The sleep below the mutants gets the signal that ends them."""
+        """The sleep that the mutants have started gets the signal that ends them."""
         started = self.work / "started"
         began = time.monotonic()
         sleep = f'#!/bin/sh\nsleep 600 &\necho $! >"{started}"\nwait\n'

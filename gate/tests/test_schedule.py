@@ -10,7 +10,7 @@ BELOW: dict[str, list[str]] = {"low": [], "other": [], "middle": ["low"], "high"
 
 
 class ScheduleTest(unittest.TestCase):
-    """Proves crates that are only names, of which some fail."""
+    """Work on crates that are only names, some of which fail."""
 
     def setUp(self) -> None:
         self.lock = threading.Lock()
@@ -32,11 +32,11 @@ class ScheduleTest(unittest.TestCase):
         return Scheduler(plan, prove, lambda name: [True, name != "tests"])
 
     def run_all(self, scheduler: Scheduler) -> dict[str, list[bool]]:
-        """Runs a scheduler that never waits long."""
+        """Runs a scheduler, which never waits long."""
         return scheduler.run(lambda names: self.fail(f"{names} are late"))
 
     def test_order(self) -> None:
-        """The first in crates.txt of those that are ready is proved first."""
+        """Of the crates that are ready, the first one in crates.txt is proved first."""
         results = self.run_all(self.scheduler(1))
         self.assertEqual(self.began[0], "low")
         self.assertEqual(self.began.index("middle") + 1, self.began.index("high"))
@@ -54,7 +54,7 @@ class ScheduleTest(unittest.TestCase):
         self.assertEqual(scheduler.ready(), ["other", "high"])
 
     def test_jobs_of_a_large_crate(self) -> None:
-        """A large crate gets the processors that no running and no ready crate takes."""
+        """A large crate gets the processors that neither running nor ready crates take."""
         scheduler = self.scheduler(4, large=["low"])
         self.assertEqual(scheduler.jobs_for("other"), 1)
         self.assertEqual(scheduler.jobs_for("low"), 3)
@@ -65,7 +65,7 @@ class ScheduleTest(unittest.TestCase):
         self.assertEqual(self.jobs["other"], 1)
 
     def test_above_a_failed_one(self) -> None:
-        """A crate above a failed one is not started, and counts as failed."""
+        """A crate above a failed one isn't started, and counts as failed."""
         results = self.run_all(self.scheduler(4, failing=["low"]))
         self.assertEqual(sorted(self.began), ["low", "other"])
         self.assertEqual(results["middle"], [False])

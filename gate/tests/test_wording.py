@@ -1,11 +1,11 @@
-"""Tests that words that crept in are found where users read them, and that right uses pass."""
+"""Tests that words that crept in are found in what users read, and that right uses pass."""
 
 import unittest
 
 from gate import wording
 from gate.tests.sample import TEXTS, changed
 
-# A sentence with each word, and the word as it is found.
+# A sentence for each word, and the word as it is found.
 WRONG = {
     "The next chunk begins behind it.": "behind",
     "It is refused with OutOfMemory alone.": "alone",
@@ -86,7 +86,7 @@ class Sentences(unittest.TestCase):
 
 
 class Places(unittest.TestCase):
-    """Words are looked at in pages, headers and doc comments, on the right line."""
+    """Words are found in pages, headers and doc comments, with the right line."""
 
     def one(self, path: str, text: str) -> str:
         lines = list(wording.wrong({path: text}, ()))
@@ -125,7 +125,7 @@ class Places(unittest.TestCase):
 
 
 class Allowed(unittest.TestCase):
-    """A use is allowed by its phrase, and each phrase is needed."""
+    """A phrase allows a use, and each phrase is needed."""
 
     PHRASE = "Where a peer is quicker"
     TEXTS = {"README.md": "Where a peer\nis quicker, and where a peer is slower by far.\n"}
@@ -141,7 +141,7 @@ class Allowed(unittest.TestCase):
     def test_phrase_that_no_text_has(self) -> None:
         lines = list(wording.unused({"README.md": "A page.\n"}, [self.PHRASE]))
         self.assertEqual(len(lines), 1, lines)
-        self.assertIn("no text has", lines[0])
+        self.assertIn("is in no text", lines[0])
 
     def test_phrase_that_needs_no_allowance(self) -> None:
         lines = list(wording.unused(self.TEXTS, ["slower by far"]))

@@ -1,5 +1,5 @@
-//! Sends COUNT messages as producer.c does: `messages FILE COUNT`. Receives them as consumer.c does:
-//! `messages FILE`. Programs in C, C++ and Rust may use one file, and be killed.
+//! Sends COUNT messages as producer.c does: `messages FILE COUNT`. Receives them as consumer.c
+//! does: `messages FILE`. Programs in C, C++ and Rust may use one file, and be killed.
 use bb_memory::{PoolFile, PoolFileError, PoolFileOptions, PoolFileParty};
 use std::{env, error, process, time::Duration};
 

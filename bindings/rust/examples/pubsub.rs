@@ -1,9 +1,10 @@
-//! Publish and subscribe over one pool, without a copy: each message goes to several readers, who read
-//! it in its bucket. The message counts its readers, and the last one attaches its bucket and returns
-//! it. A publisher that finds no bucket waits for a return. Another thread reads the pool's figures.
+//! Publish and subscribe over one pool, without a copy: each message goes to several readers, who
+//! read it in its bucket. The message counts its readers, and the last one attaches its bucket and
+//! frees it. A publisher that finds no free bucket waits for one. Another thread reads the pool's
+//! figures.
 //!
-//! A message with one reader needs no `unsafe`: `DetachedBox` is one, and an `Arc` of it has several
-//! readers, for an allocation of each message.
+//! A message with one reader needs no `unsafe`: `DetachedBox` is one, and an `Arc` of it has
+//! several readers, for an allocation of each message.
 use bb_memory::{AllocationError, BaseAllocator, Pool, PoolParty, SharedPoolAllocator};
 use std::alloc::Layout;
 use std::ops::Deref;
@@ -55,8 +56,8 @@ impl Deref for Sample {
     type Target = Message;
 
     fn deref(&self) -> &Message {
-        // SAFETY: the message was written before its bucket was detached, and the bucket is returned
-        // after its last share is released, of which this is one.
+        // SAFETY: the message was written before its bucket was detached, and the bucket is
+        // returned after its last share is released, of which this is one.
         unsafe { self.message.as_ref() }
     }
 }

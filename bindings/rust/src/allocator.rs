@@ -6,11 +6,11 @@ use crate::ffi::PoolInfo;
 use core::alloc::Layout;
 use core::ptr::NonNull;
 
-/// Allocates chunks of a region, and takes them back.
+/// Allocates chunks of a region, and frees them.
 ///
 /// A type of yours may implement this trait, for example one that counts the requests to the
-/// allocator in it. Implementing it is `unsafe`, as for `core::alloc::Allocator`, since other code
-/// writes into the chunks that it returns without a check:
+/// allocator that it wraps. Implementing it is `unsafe`, as for `core::alloc::Allocator`, since
+/// other code writes, without a check, into the chunks that `allocate` returns:
 /// [`allocate_zeroed`](BaseAllocator::allocate_zeroed) does, and [`PoolBox`](crate::PoolBox) for a
 /// [`Pool`].
 ///
@@ -39,7 +39,7 @@ use core::ptr::NonNull;
 /// the allocator changes nothing.
 pub unsafe trait BaseAllocator {
     /// Allocates a chunk of at least `layout.size()` bytes at a multiple of `layout.align()`. Its
-    /// bytes are those that the region had there.
+    /// bytes have the values that the region had there.
     ///
     /// # Errors
     ///
@@ -60,7 +60,7 @@ pub unsafe trait BaseAllocator {
     }
 
     /// Frees the chunk that begins at `ptr`; a bump frees all its chunks. Does nothing if no
-    /// allocated chunk begins there. The layout may be any.
+    /// allocated chunk begins there. Any layout may be passed.
     ///
     /// # Safety
     ///
@@ -72,8 +72,8 @@ pub unsafe trait BaseAllocator {
 ///
 /// # Safety
 ///
-/// A resized chunk is as [`BaseAllocator`] requires of an allocated one. It begins where the chunk
-/// began, and has the chunk's bytes up to the smaller of the two lengths.
+/// A resized chunk meets what [`BaseAllocator`] requires of an allocated one. It begins where the
+/// chunk began, and keeps the chunk's bytes up to the smaller of the two lengths.
 pub unsafe trait Allocator: BaseAllocator {
     /// Grows the chunk at `ptr` to at least `new_layout.size()` bytes.
     ///
@@ -152,26 +152,26 @@ macro_rules! getters {
 ///
 /// # Safety
 ///
-/// A bucket that `take` returns is as [`BaseAllocator`] requires of a chunk of the layout that
+/// A bucket that `take` returns meets what [`BaseAllocator`] requires of a chunk of the layout that
 /// `bucket` returns.
 pub unsafe trait Pool: BaseAllocator {
     /// Returns all figures. A party looks at each bucket for them.
     #[must_use]
     fn info(&self) -> PoolInfo;
 
-    /// Takes a whole bucket, as [`allocate`](BaseAllocator::allocate) does for the layout of a
+    /// Allocates a whole bucket, as [`allocate`](BaseAllocator::allocate) does for the layout of a
     /// bucket.
     ///
     /// # Errors
     ///
-    /// [`OutOfMemory`](AllocationError::OutOfMemory) if each bucket is held.
+    /// [`OutOfMemory`](AllocationError::OutOfMemory) if no bucket is free.
     fn take(&self) -> Result<NonNull<[u8]>, AllocationError>;
 
     /// Returns whether a held bucket begins at `ptr`; for a party, one that it holds.
     #[must_use]
     fn holds(&self, ptr: NonNull<u8>) -> bool;
 
-    /// Returns the held bucket that begins at `ptr` to the pool; a party, one that it holds.
+    /// Frees the held bucket that begins at `ptr`; for a party, one that it holds.
     ///
     /// # Errors
     ///
@@ -182,8 +182,8 @@ pub unsafe trait Pool: BaseAllocator {
     /// Nothing reads or writes its bytes from now on.
     unsafe fn try_deallocate(&self, ptr: NonNull<u8>) -> Result<(), DeallocationError>;
 
-    /// Returns where the bucket of this number begins, held or not, or `None` if no bucket has the
-    /// number. Numbers begin at 0.
+    /// Returns where the bucket with this number begins, held or not, or `None` if no bucket has
+    /// the number. Buckets are numbered from 0.
     #[must_use]
     fn place_at(&self, number: u32) -> Option<NonNull<u8>>;
 
@@ -196,8 +196,8 @@ pub unsafe trait Pool: BaseAllocator {
     #[must_use]
     fn bucket(&self) -> Layout;
 
-    /// Returns how far a bucket begins after the one before it: its size, rounded up to its
-    /// alignment.
+    /// Returns the distance from the start of a bucket to the start of the next one: the size,
+    /// rounded up to the alignment.
     #[must_use]
     fn stride(&self) -> usize {
         self.bucket().pad_to_align().size()

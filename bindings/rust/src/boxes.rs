@@ -35,7 +35,7 @@ impl<T> fmt::Display for TryNewError<T> {
 
 impl<T> Error for TryNewError<T> {}
 
-/// A bucket that is returned to its pool when it is dropped.
+/// A bucket that is freed when it is dropped.
 struct Bucket<'pool, P: Pool> {
     pool: &'pool P,
     place: NonNull<u8>,
@@ -43,13 +43,13 @@ struct Bucket<'pool, P: Pool> {
 
 impl<P: Pool> Drop for Bucket<'_, P> {
     fn drop(&mut self) {
-        // SAFETY: the owner of this bucket doesn't use it any more.
+        // SAFETY: the owner of this bucket doesn't use it anymore.
         unsafe { self.pool.deallocate(self.place, self.pool.bucket()) };
     }
 }
 
 /// Owns a value in a bucket of a pool, as `Box` owns one on the heap. When it is dropped, it drops
-/// the value and returns the bucket.
+/// the value and frees the bucket.
 ///
 /// ```
 /// use bb_memory::{AllocationError, Pool, PoolAllocator, PoolBox};
@@ -70,8 +70,8 @@ impl<P: Pool> Drop for Bucket<'_, P> {
 /// # Ok::<(), Box<dyn std::error::Error>>(())
 /// ```
 ///
-/// It isn't `Send`, since its pool is used by one thread: a value that goes to another thread is in a
-/// [`PartyBox`], and detached from its party by [`PartyBox::detach`].
+/// It isn't `Send`, since its pool is used by one thread. To send a value to another thread, put it
+/// into a [`PartyBox`], and call [`PartyBox::detach`].
 ///
 /// ```compile_fail,E0277
 /// # use bb_memory::{PoolAllocator, PoolBox};
@@ -97,9 +97,9 @@ pub struct PoolBox<'pool, T: ?Sized, P: Pool = PoolAllocator<'pool>> {
     owned: PhantomData<T>,
 }
 
-/// Owns a value in a bucket of a party, as [`PoolBox`] does for a pool with one owner. Like its party
-/// it stays in one thread. [`detach`](PartyBox::detach) makes a [`DetachedBox`] of it, which goes to
-/// any thread.
+/// Owns a value in a bucket of a party, as [`PoolBox`] does for a pool with one owner. It stays in
+/// the thread that uses its party. [`detach`](PartyBox::detach) turns it into a [`DetachedBox`],
+/// which may go to any thread.
 pub type PartyBox<'party, 'region, T> = PoolBox<'party, T, PoolParty<'region>>;
 
 // SAFETY: a shared reference to a box gives shared references to its value, and does nothing else.
@@ -111,7 +111,7 @@ impl<'pool, T, P: Pool> PoolBox<'pool, T, P> {
     /// # Errors
     ///
     /// The pool's [`AllocationError`], with the value: `SizeTooLarge` or `AlignmentFailure` if no
-    /// bucket of the pool has room for a `T`, `OutOfMemory` if each bucket is held.
+    /// bucket of the pool has room for a `T`, `OutOfMemory` if no bucket is free.
     pub fn try_new(pool: &'pool P, value: T) -> Result<Self, TryNewError<T>> {
         let place = match pool.allocate(Layout::new::<T>()) {
             Ok(chunk) => chunk.cast::<u8>(),
@@ -123,7 +123,7 @@ impl<'pool, T, P: Pool> PoolBox<'pool, T, P> {
         Ok(PoolBox { value: place.cast(), bucket, owned: PhantomData })
     }
 
-    /// Moves the value out, and returns the bucket to the pool.
+    /// Moves the value out, and frees the bucket.
     #[must_use]
     pub fn into_inner(this: Self) -> T {
         let this = ManuallyDrop::new(this);
@@ -135,7 +135,7 @@ impl<'pool, T, P: Pool> PoolBox<'pool, T, P> {
 }
 
 impl<'pool, P: Pool> PoolBox<'pool, [u8], P> {
-    /// Takes a bucket for `len` bytes, each of which is zero.
+    /// Allocates a bucket for `len` bytes, each of which is set to zero.
     ///
     /// ```
     /// use bb_memory::{PoolAllocator, PoolBox};
@@ -151,7 +151,7 @@ impl<'pool, P: Pool> PoolBox<'pool, [u8], P> {
     /// # Errors
     ///
     /// [`SizeTooLarge`](AllocationError::SizeTooLarge) if a bucket has fewer bytes,
-    /// [`OutOfMemory`](AllocationError::OutOfMemory) if each bucket is held.
+    /// [`OutOfMemory`](AllocationError::OutOfMemory) if no bucket is free.
     pub fn try_zeroed(pool: &'pool P, len: usize) -> Result<Self, AllocationError> {
         let layout = Layout::array::<u8>(len).map_err(|_| AllocationError::SizeTooLarge)?;
         let place = pool.allocate_zeroed(layout)?.cast::<u8>();
@@ -219,8 +219,7 @@ impl<'region, T: ?Sized> PartyBox<'_, 'region, T> {
     }
 }
 
-/// A bucket that the party of number `from` has detached by its number. It is returned to its pool
-/// when it is dropped.
+/// A bucket that party `from` has detached by its number. It is freed when it is dropped.
 struct Detached<'region> {
     pool: Shared<'region>,
     number: u32,
@@ -232,7 +231,7 @@ impl Drop for Detached<'_> {
         let common = lock(&self.pool);
         let Some(keeper) = &common.keeper else { return };
         // SAFETY: the functions are of this kind, no other call has the handle, and the owner of
-        // this bucket doesn't use it any more.
+        // this bucket doesn't use it anymore.
         unsafe {
             let attached =
                 ffi::bb_pool_party_attach_number(keeper.handle(), self.number, self.from);
@@ -243,10 +242,11 @@ impl Drop for Detached<'_> {
     }
 }
 
-/// Owns a value in a bucket that no party holds: a message in transit from one thread to another. It
-/// is `Send` if `T` is. Whoever gets it reads and writes the value, and may [attach](Self::attach)
-/// it to a party. When it is dropped, it drops the value and returns the bucket, under the lock by
-/// which parties join; a [`PartyBox`] returns it without a lock.
+/// Owns a value in a bucket that no party holds: a message in transit from one thread to another.
+/// It is `Send` if `T` is. Whoever gets it reads and writes the value, and may
+/// [attach](Self::attach) it to a party. When it is dropped, it drops the value and frees the
+/// bucket, under the lock that parties take to join; a [`PartyBox`] frees its bucket without a
+/// lock.
 ///
 /// ```
 /// use bb_memory::{DetachedBox, PartyBox, SharedPoolAllocator};
@@ -270,7 +270,7 @@ impl Drop for Detached<'_> {
 /// # Ok::<(), Box<dyn std::error::Error>>(())
 /// ```
 ///
-/// In an `Arc` several threads read it, and the last one returns it by `Arc::into_inner`.
+/// In an `Arc` several threads can read it, and the last one takes it out by `Arc::into_inner`.
 #[must_use = "dropping it drops the value"]
 pub struct DetachedBox<'region, T: ?Sized> {
     value: NonNull<T>,
@@ -289,7 +289,7 @@ impl<'region, T: ?Sized> DetachedBox<'region, T> {
     ///
     /// # Panics
     ///
-    /// If the party is another pool's. The value is dropped, and its bucket is returned.
+    /// Panics if the party belongs to another pool. The value is dropped, and its bucket is freed.
     pub fn attach<'party>(
         this: Self,
         party: &'party PoolParty<'region>,
@@ -308,7 +308,7 @@ impl<'region, T: ?Sized> DetachedBox<'region, T> {
 }
 
 impl<T> DetachedBox<'_, T> {
-    /// Moves the value out, and returns the bucket to the pool.
+    /// Moves the value out, and frees the bucket.
     #[must_use]
     pub fn into_inner(this: Self) -> T {
         let this = ManuallyDrop::new(this);

@@ -1,5 +1,5 @@
-//! `core::alloc::Allocator`, so that `Box`, `Vec` and others keep their values in a region. A
-//! collection that frees a chunk of a bump changes nothing.
+//! `core::alloc::Allocator`, so that `Box`, `Vec` and others keep their values in a region. If a
+//! collection frees a chunk of a bump, nothing changes.
 use crate::{BaseAllocator, BumpAllocator, BumpParty, PoolAllocator, PoolParty, ffi};
 use core::alloc::{AllocError, Allocator, Layout};
 use core::ptr::{self, NonNull};
@@ -9,7 +9,7 @@ type Chunk = Result<NonNull<[u8]>, AllocError>;
 /// Implements the trait for types that allocate buckets. A chunk is resized only in its bucket.
 macro_rules! in_buckets {
     ($name:ident) => {
-        // SAFETY: a bucket is the caller's until it is returned, and its bytes stay as long as the
+        // SAFETY: a bucket is the caller's until it is freed, and its bytes stay as long as the
         // allocator lives.
         unsafe impl Allocator for $name<'_> {
             fn allocate(&self, layout: Layout) -> Chunk {
@@ -17,7 +17,7 @@ macro_rules! in_buckets {
             }
 
             unsafe fn deallocate(&self, ptr: NonNull<u8>, layout: Layout) {
-                // SAFETY: the caller doesn't use the chunk any more.
+                // SAFETY: the caller doesn't use the chunk anymore.
                 unsafe { BaseAllocator::deallocate(self, ptr, layout) }
             }
 

@@ -57,7 +57,7 @@ error! {
         SizeTooLarge = SIZE_TOO_LARGE: "the size is greater than a bucket's",
         /// The alignment is greater than that of the pool's buckets.
         AlignmentFailure = ALIGNMENT_FAILURE: "the alignment is greater than a bucket's",
-        /// The region has no room left. Each bucket of a pool is held.
+        /// The region has no room left; in a pool, no bucket is free.
         OutOfMemory = OUT_OF_MEMORY: "no room is left in the region",
     }
 }
@@ -73,7 +73,7 @@ error! {
         /// the bucket.
         OutOfMemory = MORE_THAN_RESERVED: "the new size is greater than what is reserved",
         /// No allocated chunk begins at the place.
-        NotHeld = NOT_HELD: "nothing is held at the place",
+        NotHeld = NOT_HELD: "the caller holds nothing at the place",
         /// The place isn't a multiple of the old alignment.
         LayoutMismatch = LAYOUT_MISMATCH: "the chunk cannot have the old layout",
     }
@@ -87,7 +87,7 @@ error! {
         /// The new alignment is greater than the old one, or than that of a pool's buckets.
         AlignmentFailure = ALIGNMENT_FAILURE: "the alignment is too great",
         /// No allocated chunk begins at the place.
-        NotHeld = NOT_HELD: "nothing is held at the place",
+        NotHeld = NOT_HELD: "the caller holds nothing at the place",
         /// The place isn't a multiple of the old alignment, or the old size is greater than what is
         /// reserved.
         LayoutMismatch = LAYOUT_MISMATCH: "the chunk cannot have the old layout",
@@ -98,15 +98,15 @@ error! {
     /// The reason why no chunk was freed.
     DeallocationError {
         /// No allocated chunk begins at the place; for a party, no bucket that it holds.
-        NotHeld = NOT_HELD: "nothing is held at the place",
+        NotHeld = NOT_HELD: "the caller holds nothing at the place",
     }
 }
 
 error! {
-    /// The reason why nothing was made.
+    /// The reason why an allocator or a `DetachedBucket` wasn't made.
     InitError {
-        /// The region ends after the last address, a bucket has no byte, there are `u32::MAX`
-        /// buckets or more, or no party.
+        /// The region would end after the last address, a bucket would have no bytes, or there
+        /// would be `u32::MAX` buckets or more, or no party.
         InvalidArgument = INVALID_ARGUMENT: "the region, the buckets or the parties are invalid",
         /// The region has no room for one bucket.
         NoBucket = NO_BUCKET: "the region has no room for one bucket",
@@ -118,7 +118,8 @@ error! {
 error! {
     /// The reason why no party joined.
     JoinError {
-        /// Each party has joined. For a number: its party has joined, or there is none.
+        /// Every party has joined. For a number: the party with this number has joined, or no party
+        /// has the number.
         NoParty = NO_PARTY: "no party is left to join",
         /// `malloc` failed.
         MallocRefused = MALLOC_REFUSED: "malloc failed",
@@ -129,7 +130,7 @@ error! {
     /// The reason why a bucket wasn't detached. Nothing changed.
     DetachError {
         /// The party holds no bucket at the place.
-        NotHeld = NOT_HELD: "nothing is held at the place",
+        NotHeld = NOT_HELD: "the caller holds nothing at the place",
         /// The length is greater than the bucket's size.
         SizeTooLarge = SIZE_TOO_LARGE: "the size is greater than a bucket's",
         /// The `DetachedBucket` has a bucket already.
@@ -140,7 +141,8 @@ error! {
 error! {
     /// The reason why a bucket wasn't attached by its number. Nothing changed.
     AttachError {
-        /// The bucket isn't detached by its number, or another party than the named one detached it.
+        /// The bucket isn't detached by its number, or a party other than the named one detached
+        /// it.
         NotHeld = NOT_HELD: "the bucket is not detached by its number and by that party",
         /// No bucket has the number.
         NotABucket = NOT_A_BUCKET: "no bucket has the number",
@@ -148,7 +150,7 @@ error! {
 }
 
 error! {
-    /// Why a bump that threads share wasn't reset. It is unchanged.
+    /// The reason why a bump that threads share wasn't reset. It is unchanged.
     ResetError {
         /// A party is joined.
         PartiesJoined = PARTIES_JOINED: "a party is joined",

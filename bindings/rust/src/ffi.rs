@@ -45,7 +45,7 @@ pub struct BumpInfo {
     pub total_space: usize,
 }
 
-/// The figures of one chunk.
+/// The figures of a one-chunk allocator.
 #[non_exhaustive]
 #[repr(C)]
 #[derive(Clone, Copy, Debug, Default, PartialEq, Eq)]
@@ -58,15 +58,15 @@ pub struct OneChunkInfo {
     pub has_chunk_available: bool,
 }
 
-/// The figures of a pool. Those of a shared pool and of a party look at each bucket, one after the
-/// other, while other parties may take and return buckets.
+/// The figures of a pool. Those of a shared pool or of a party come from a look at one bucket after
+/// another, while other parties may allocate and free buckets.
 #[non_exhaustive]
 #[repr(C)]
 #[derive(Clone, Copy, Debug, Default, PartialEq, Eq)]
 pub struct PoolInfo {
     /// The address of bucket 0: the region's start, rounded up to the bucket's alignment.
     pub start_address: usize,
-    /// The bytes of the region, with the padding before bucket 0.
+    /// The bytes of the region, including the padding before bucket 0.
     pub size: usize,
     /// The bytes of a bucket, as requested.
     pub bucket_size: usize,
@@ -123,7 +123,7 @@ pub const NOT_A_BUCKET: u32 = 22;
 pub type Destroy = unsafe extern "C" fn(*mut Handle) -> u32;
 /// Allocates a chunk of this size at a multiple of this alignment.
 pub type Allocate = unsafe extern "C" fn(*mut Handle, usize, usize) -> Chunk;
-/// Takes a whole bucket.
+/// Allocates a whole bucket.
 pub type Take = unsafe extern "C" fn(*mut Handle) -> Chunk;
 /// Resizes the chunk at this place, of this old size and alignment, to these new ones.
 pub type Resize =

@@ -1,5 +1,5 @@
-//! Handles that this crate owns, and the objects of the library in them. The rules that `bb_memory.h`
-//! has for a caller are kept here.
+//! Handles that this crate owns, and the objects of the library in them. The rules that
+//! `bb_memory.h` has for a caller are kept here.
 use crate::error::{AllocationError, InitError, JoinError, no_such_answer};
 use crate::ffi::{self, Handle};
 use core::alloc::Layout;
@@ -15,15 +15,16 @@ use std::sync::{Arc, Mutex, MutexGuard, PoisonError};
 /// Makes the library call `allocate` instead of `malloc`, and `release` instead of `free`. Each of
 /// them gets `context` as its first parameter.
 ///
-/// `allocate` also gets a size and an alignment, and returns a null pointer if it has no such block.
-/// `release` also gets a block that `allocate` returned.
+/// `allocate` also gets a size and an alignment, and returns a null pointer if it has no such
+/// block. `release` also gets a block that `allocate` returned.
 ///
 /// # Safety
 ///
-/// Nothing of this crate was made before in this process. Any thread that uses this crate may call
-/// the functions with `context`, several at once, until the process ends. A block has at least the
-/// requested size, begins at a multiple of the alignment, overlaps no other one, and is nobody
-/// else's until it is released. The functions don't use this crate, and don't unwind.
+/// Call this before anything of this crate is made in this process. Any thread that uses this crate
+/// may call the two functions with `context`, several threads at the same time, until the process
+/// ends. A block has at least the requested size, begins at a multiple of the alignment, overlaps
+/// no other one, and is nobody else's until it is released. The functions don't use this crate, and
+/// don't unwind.
 pub unsafe fn use_memory(
     allocate: ffi::AllocateMemory,
     release: ffi::ReleaseMemory,
@@ -33,9 +34,9 @@ pub unsafe fn use_memory(
     unsafe { ffi::bb_use_memory(allocate, release, context) };
 }
 
-/// A handle that isn't empty, where its region starts, and how it is emptied. A call writes what the
-/// handle owns, so no two threads may call at once: the cell makes it `!Sync`. What it owns belongs
-/// to no thread.
+/// A handle that isn't empty, where its region starts, and how it is emptied. A call writes what
+/// the handle owns, so no two threads may call at once: the cell makes it `!Sync`. What it owns
+/// belongs to no thread.
 pub struct Owned<'region> {
     handle: UnsafeCell<Handle>,
     start: NonNull<u8>,
@@ -123,7 +124,7 @@ impl Owned<'_> {
         Ok(NonNull::slice_from_raw_parts(place, layout.size()))
     }
 
-    /// Takes a whole bucket of this layout.
+    /// Allocates a whole bucket of this layout.
     ///
     /// # Safety
     ///
@@ -158,8 +159,8 @@ pub struct Memory {
 unsafe impl Send for Memory {}
 
 impl Memory {
-    /// Returns memory for exactly this number of buckets, or `InvalidArgument` if no region has that
-    /// size.
+    /// Returns memory for exactly this number of buckets, or `InvalidArgument` if no region has
+    /// that size.
     pub fn of_buckets(bucket: Layout, buckets: u32) -> Result<Memory, InitError> {
         let bytes = bucket.pad_to_align().size().checked_mul(buckets as usize);
         Memory::of_bytes(bytes.unwrap_or(0), bucket.align())
@@ -192,7 +193,7 @@ pub struct Joining {
     pub destroy: ffi::Destroy,
 }
 
-/// A bump or a pool that threads share. A pool has a party of its own, which returns buckets that
+/// A bump or a pool that threads share. A pool has a party of its own, which frees buckets that
 /// nobody attached.
 ///
 /// Each party and each detached bucket has a share of this value. So none of them is left when the

@@ -144,7 +144,8 @@ impl OneChunkAllocator<'_> {
         new: Layout,
     ) -> Result<NonNull<u8>, u32> {
         let (handle, place) = (self.owned.handle(), place.as_ptr().cast());
-        // SAFETY: `grow` and `shrink` pass functions of this kind, and no other call has the handle.
+        // SAFETY: `grow` and `shrink` pass functions of this kind, and no other call has the
+        // handle.
         self.owned.place(unsafe {
             resize(handle, place, old.size(), old.align(), new.size(), new.align())
         })
@@ -201,13 +202,14 @@ pub struct PoolAllocator<'region> {
 }
 
 impl PoolAllocator<'static> {
-    /// Makes a pool of exactly this number of buckets in memory of its own. The memory is freed when
-    /// the pool is dropped: no chunk is used then.
+    /// Makes a pool of exactly this number of buckets in memory of its own. The memory is freed
+    /// when the pool is dropped. No chunk may be used after that.
     ///
     /// # Errors
     ///
     /// [`InvalidArgument`](InitError::InvalidArgument) if the number or the bucket's size is 0, or
-    /// if no memory has room for them. [`MallocRefused`](InitError::MallocRefused).
+    /// if the buckets have more bytes than memory can have.
+    /// [`MallocRefused`](InitError::MallocRefused) if memory runs out.
     pub fn with_buckets(bucket: Layout, buckets: u32) -> Result<Self, InitError> {
         let memory = Memory::of_buckets(bucket, buckets)?;
         let (start, size) = (memory.start, memory.layout.size());
@@ -241,7 +243,7 @@ impl PoolAllocator<'_> {
         self.all_figures().info
     }
 
-    /// Returns the greatest number of buckets that were held at one time.
+    /// Returns the greatest number of buckets that have been held at one time.
     #[must_use]
     pub fn greatest_held(&self) -> usize {
         self.all_figures().greatest_held

@@ -1,4 +1,5 @@
-//! A pool in a file, by `bb_pool_file.h`. Its rules hold here, and types keep those that they can.
+//! A pool in a file, over `bb_pool_file.h`. Its rules hold here, and types enforce those that they
+//! can.
 use crate::ffi::{self, Chunk, Handle, Number};
 use core::cell::Cell;
 use core::ffi::{c_char, c_int, c_void};
@@ -65,12 +66,13 @@ unsafe extern "C" {
     fn bb_pool_file_wait_empty(file: *mut File, slot: u32, milliseconds: u32) -> u32;
     fn bb_pool_file_wait_bucket(file: *mut File, milliseconds: u32) -> u32;
     fn bb_pool_file_detach(file: *mut File, party: *mut Handle, place: *const c_void) -> Number;
-    fn bb_pool_file_reap(file: *mut File, detached: bool, given_back: *mut u32) -> u32;
+    fn bb_pool_file_reap(file: *mut File, detached: bool, freed: *mut u32) -> u32;
     fn bb_pool_file_info(file: *mut File, to: *mut PoolFileInfo) -> u32;
     fn bb_pool_party_allocate(party: *mut Handle, size: usize, align: usize) -> Chunk;
 }
 
-/// What a file is made with, and what one that exists has to have.
+/// The figures that a file is made with. A file that exists has to have the same ones, except for
+/// `mode`.
 #[repr(C)]
 #[derive(Clone, Copy, Debug, Default, PartialEq, Eq)]
 pub struct PoolFileOptions {
@@ -84,7 +86,7 @@ pub struct PoolFileOptions {
     pub parties: u32,
     /// The number of slots for messages.
     pub slots: u32,
-    /// The permissions of a file that is made, less the umask; 0 stands for 0o600.
+    /// The permissions of a new file, less the umask; 0 stands for 0o600.
     pub mode: u32,
 }
 
@@ -93,45 +95,45 @@ pub struct PoolFileOptions {
 #[repr(C)]
 #[derive(Clone, Copy, Debug)]
 pub struct PoolFileInfo {
-    /// What the file was made with.
+    /// The figures that the file was made with.
     pub options: PoolFileOptions,
-    /// Where bucket 0 lies in this process.
+    /// Where bucket 0 is in this process.
     pub start: *mut c_void,
     /// The parties that have joined, over all processes.
     pub alive: u32,
     /// The buckets that parties hold.
     pub held: u32,
-    /// The buckets that are detached, those of messages in slots among them.
+    /// The buckets that are detached, including those of messages in slots.
     pub detached: u32,
-    /// The held buckets of dead parties, which a reap gives back.
+    /// The buckets that dead parties hold, which a reap frees.
     pub lost: u32,
     /// The slots that have a message.
     pub full_slots: u32,
-    /// Flags that no party writes.
+    /// The flags with a value that no party writes.
     pub wrong: u32,
 }
 
-/// Why a call of a pool in a file was refused.
+/// The reason why a call with a pool in a file was refused.
 #[non_exhaustive]
 #[derive(Debug)]
 pub enum PoolFileError {
-    /// A call of the system failed.
+    /// A system call failed.
     System(io::Error),
     /// The slot, or an option, is out of its range.
     InvalidArgument,
-    /// The file isn't a pool's.
+    /// The file doesn't hold a pool.
     Foreign,
-    /// The file is in the format of another version.
+    /// The file is in the format of another version of the library.
     Version,
     /// The file's figures aren't those of the options.
     Mismatch,
-    /// The file's length isn't what its figures take.
+    /// The file's length and figures don't match.
     Damaged,
     /// The file isn't regular, or others may write it.
     Unsafe,
-    /// The file is unfinished, or from before the machine's last start.
+    /// The file is unfinished, or from before the machine's last boot.
     Stale,
-    /// Each party is in use.
+    /// Every party is in use.
     NoParty,
     /// `malloc` failed.
     OutOfMemory,
@@ -141,7 +143,7 @@ pub enum PoolFileError {
     NoBucket,
     /// The slot is full.
     SlotFull,
-    /// The slot has no bucket's number: others wrote wrong words.
+    /// The slot names no bucket: somebody wrote wrong values into the file.
     WrongSlot,
 }
 
@@ -176,18 +178,18 @@ impl fmt::Display for PoolFileError {
         f.write_str(match self {
             PoolFileError::System(error) => return error.fmt(f),
             PoolFileError::InvalidArgument => "a slot or an option is out of its range",
-            PoolFileError::Foreign => "the file is not a pool's",
-            PoolFileError::Version => "the pool's file is in another version's format",
+            PoolFileError::Foreign => "the file does not hold a pool",
+            PoolFileError::Version => "the file is in the format of another version",
             PoolFileError::Mismatch => "the file's figures are not those of the options",
-            PoolFileError::Damaged => "the file's length and figures don't fit",
-            PoolFileError::Unsafe => "the file isn't regular, or others may write it",
-            PoolFileError::Stale => "the file is unfinished or from before the machine's start",
-            PoolFileError::NoParty => "each party is in use",
+            PoolFileError::Damaged => "the file's length and figures do not match",
+            PoolFileError::Unsafe => "the file is not regular, or others may write it",
+            PoolFileError::Stale => "the file is unfinished or from before the last boot",
+            PoolFileError::NoParty => "every party is in use",
             PoolFileError::OutOfMemory => "malloc failed",
             PoolFileError::SizeTooLarge => "the message is longer than a bucket",
             PoolFileError::NoBucket => "no bucket is free",
             PoolFileError::SlotFull => "the slot is full",
-            PoolFileError::WrongSlot => "the slot has no bucket's number",
+            PoolFileError::WrongSlot => "the slot names no bucket",
         })
     }
 }
@@ -197,16 +199,17 @@ impl Error for PoolFileError {}
 /// Stands for any slot in a wait.
 const ANY_SLOT: u32 = u32::MAX;
 
-/// A pool in a file that this process has opened. Any process opens it by its path, at any address.
-/// A process that is killed loses neither a bucket nor a message.
+/// A pool in a file that this process has opened. Any process opens it by its path, and maps it at
+/// any address. If a process is killed, neither a bucket nor a message is lost.
 ///
-/// Who may write the file is trusted: wrong words in it, or a file that is cut off, break the
-/// promises of safe Rust. A forked child must not use what its parent has opened.
+/// Whoever may write the file is trusted: wrong values in it, or a file that is truncated, break
+/// the promises of safe Rust. A forked child must not use what its parent has opened.
 pub struct PoolFile {
     file: NonNull<File>,
 }
 
-// SAFETY: the header lets all calls but `close` run at once, and `close` comes when this is dropped.
+// SAFETY: the header lets all calls but `close` run at once, and `close` comes when this is
+// dropped.
 unsafe impl Send for PoolFile {}
 // SAFETY: as above.
 unsafe impl Sync for PoolFile {}
@@ -220,7 +223,7 @@ impl PoolFile {
         PoolFile::open_path(path.as_ref(), options)
     }
 
-    /// Opens the pool in a file that exists, as it is.
+    /// Opens the pool in a file that exists, whatever its figures.
     pub fn open_existing(path: impl AsRef<Path>) -> Result<PoolFile, PoolFileError> {
         PoolFile::open_path(path.as_ref(), ptr::null())
     }
@@ -252,7 +255,7 @@ impl PoolFile {
         Ok(PoolFile { file: NonNull::new(file).expect("an opened file") })
     }
 
-    /// Makes a party join that no living process uses.
+    /// Joins as a party that no living process uses.
     pub fn join(&self) -> Result<PoolFileParty<'_>, PoolFileError> {
         let mut party = ptr::null_mut();
         // SAFETY: the file is open.
@@ -261,8 +264,8 @@ impl PoolFile {
         Ok(PoolFileParty { file: self, party, one_thread: PhantomData })
     }
 
-    /// Gives back what dead parties held, and returns how many buckets. With `detached`, also what
-    /// they have detached and is in no slot.
+    /// Frees what dead parties held, and returns how many buckets it freed. If `detached` is true,
+    /// also frees the buckets that dead parties detached and that are in no slot.
     pub fn reap(&self, detached: bool) -> Result<u32, PoolFileError> {
         let mut count = 0;
         // SAFETY: the file is open.
@@ -270,22 +273,23 @@ impl PoolFile {
         PoolFileError::unless_ok(code).map(|()| count)
     }
 
-    /// Waits until a message can be taken from the slot, or from any slot with `None`. Returns
-    /// whether it can be: otherwise the time is over.
+    /// Waits until a message can be taken from the slot (with `None`, from any slot). Returns
+    /// `false` if the wait timed out.
     pub fn wait_full(&self, slot: Option<u32>, time: Duration) -> Result<bool, PoolFileError> {
         let slot = slot.unwrap_or(ANY_SLOT);
         // SAFETY: the file is open.
         waited(unsafe { bb_pool_file_wait_full(self.file.as_ptr(), slot, milliseconds(time)) })
     }
 
-    /// Waits until the slot is empty, or any slot with `None`. Returns whether it is.
+    /// Waits until the slot (with `None`, any slot) is empty. Returns `false` if the wait timed
+    /// out.
     pub fn wait_empty(&self, slot: Option<u32>, time: Duration) -> Result<bool, PoolFileError> {
         let slot = slot.unwrap_or(ANY_SLOT);
         // SAFETY: the file is open.
         waited(unsafe { bb_pool_file_wait_empty(self.file.as_ptr(), slot, milliseconds(time)) })
     }
 
-    /// Waits until a bucket is free. Returns whether one is.
+    /// Waits until a bucket is free. Returns `false` if the wait timed out.
     pub fn wait_bucket(&self, time: Duration) -> Result<bool, PoolFileError> {
         // SAFETY: the file is open.
         waited(unsafe { bb_pool_file_wait_bucket(self.file.as_ptr(), milliseconds(time)) })
@@ -316,7 +320,7 @@ impl Drop for PoolFile {
     }
 }
 
-/// A time in milliseconds, at most what the header has for a wait with an end.
+/// Returns a time in milliseconds, at most the longest that the header has for a wait that ends.
 fn milliseconds(time: Duration) -> u32 {
     u32::try_from(time.as_millis()).unwrap_or(u32::MAX).min(u32::MAX - 1)
 }
@@ -328,8 +332,8 @@ fn waited(code: u32) -> Result<bool, PoolFileError> {
     PoolFileError::unless_ok(code).map(|()| true)
 }
 
-/// A party of a pool in a file. It goes from thread to thread, and one uses it at a time. When it is
-/// dropped it leaves, and what it holds is given back.
+/// A party of a pool in a file. It may be moved from thread to thread, but only one may use it at a
+/// time. When it is dropped, it leaves, and what it holds is freed.
 pub struct PoolFileParty<'a> {
     file: &'a PoolFile,
     party: NonNull<Handle>,
@@ -358,7 +362,8 @@ impl PoolFileParty<'_> {
         PoolFileError::unless_ok(code)
     }
 
-    /// Takes the message in the slot. There is none if the slot is empty, or another party has it.
+    /// Takes the message in the slot. Returns `None` if the slot is empty, or if another party has
+    /// the message.
     pub fn take(&self, slot: u32) -> Result<Option<Message<'_>>, PoolFileError> {
         // SAFETY: the party has joined.
         let taken =
@@ -384,8 +389,8 @@ impl Drop for PoolFileParty<'_> {
     }
 }
 
-/// A message that a party has taken. When it is dropped, its bucket is given back if it is done
-/// with. Otherwise the message is put back, and can be taken again.
+/// A message that a party has taken. When it is dropped after [`done`](Message::done), its bucket
+/// is freed. Without `done` the message is put back, and can be taken again.
 pub struct Message<'a> {
     party: &'a PoolFileParty<'a>,
     slot: u32,
@@ -395,7 +400,8 @@ pub struct Message<'a> {
 }
 
 impl Message<'_> {
-    /// Empties the slot: the message doesn't come again. Its bytes stay until it is dropped.
+    /// Empties the slot, so that nobody takes the message again. The message's bytes stay until it
+    /// is dropped.
     pub fn done(&mut self) {
         if !self.is_done {
             let (file, party) = (self.party.file.file.as_ptr(), self.party.party.as_ptr());

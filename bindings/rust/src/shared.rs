@@ -28,10 +28,10 @@ static POOL_PARTIES: Joining = Joining {
     destroy: ffi::bb_pool_party_abandon,
 };
 
-/// A bump that threads share. It is made for a number of parties, and each thread joins as one. No
-/// call of a party waits for another's. A party leaves when it is dropped, and then one more can
-/// join. [`reset`](SharedBumpAllocator::reset) frees all chunks at once, after each party has left.
-/// A clone refers to the same bump.
+/// A bump that threads share. It is made for a fixed number of parties, and each thread joins as
+/// one. No call of a party waits for another party. A party leaves when it is dropped, and then
+/// another one can join. [`reset`](SharedBumpAllocator::reset) frees all chunks at once, after
+/// every party has left. A clone refers to the same bump.
 #[derive(Clone)]
 pub struct SharedBumpAllocator<'region> {
     shared: Shared<'region>,
@@ -59,7 +59,7 @@ impl<'region> SharedBumpAllocator<'region> {
         Ok(BumpParty { owned })
     }
 
-    /// Frees all chunks. Afterwards the bump is as new.
+    /// Frees all chunks. The bump starts again empty.
     ///
     /// # Errors
     ///
@@ -77,12 +77,12 @@ impl<'region> SharedBumpAllocator<'region> {
 
 impl SharedBumpAllocator<'static> {
     /// Makes a bump of `size` bytes in memory of its own, which begins at a multiple of 64. The
-    /// memory is freed when the bump and its parties are dropped: no chunk is used then.
+    /// memory is freed when the bump and its parties are dropped. No chunk may be used after that.
     ///
     /// # Errors
     ///
-    /// [`InvalidArgument`](InitError::InvalidArgument) if the size is 0, if no memory has that
-    /// size, or if `parties` is 0. [`MallocRefused`](InitError::MallocRefused).
+    /// [`InvalidArgument`](InitError::InvalidArgument) if the size is 0 or more than memory can
+    /// have, or if `parties` is 0. [`MallocRefused`](InitError::MallocRefused) if memory runs out.
     pub fn with_bytes(size: usize, parties: u32) -> Result<Self, InitError> {
         let memory = Memory::of_bytes(size, 64)?;
         // SAFETY: nothing else uses the memory, which lives as long as the bump and its parties.
@@ -106,13 +106,13 @@ pub struct BumpParty<'region> {
 }
 
 impl BumpParty<'_> {
-    /// Allocates a chunk of exactly `layout.size()` bytes at the least multiple of `layout.align()`
-    /// after what is used.
+    /// Allocates a chunk of exactly `layout.size()` bytes at the first multiple of `layout.align()`
+    /// at or after the end of the used space.
     ///
     /// # Errors
     ///
-    /// [`SizeIsZero`](AllocationError::SizeIsZero), or
-    /// [`OutOfMemory`](AllocationError::OutOfMemory) if the chunk has no room.
+    /// [`SizeIsZero`](AllocationError::SizeIsZero) if the size is 0, or
+    /// [`OutOfMemory`](AllocationError::OutOfMemory) if there is no room for the chunk.
     pub fn allocate(&self, layout: Layout) -> Result<NonNull<[u8]>, AllocationError> {
         // SAFETY: the function is of this kind.
         unsafe { self.owned.allocate(ffi::bb_bump_party_allocate, layout) }
@@ -124,9 +124,9 @@ figures! {
     start_address: usize, used_space: usize, free_space: usize, total_space: usize
 }
 
-/// A pool that threads share. It is made for a number of parties, and each thread joins as one. No
-/// call of a party waits for another's. A party leaves when it is dropped, returns what it holds,
-/// and then one more can join. A clone refers to the same pool.
+/// A pool that threads share. It is made for a fixed number of parties, and each thread joins as
+/// one. No call of a party waits for another party. A party that is dropped frees what it holds and
+/// leaves, and then another one can join. A clone refers to the same pool.
 ///
 /// ```
 /// use bb_memory::{PartyBox, SharedPoolAllocator};
@@ -157,7 +157,7 @@ over_region! {
     owned => Self::kept(owned, bucket)
 }
 
-/// Returns the number of parties to make: a pool has one more, which returns buckets that nobody
+/// Returns the number of parties to make: a pool has one more, which frees buckets that nobody
 /// attached.
 fn number_of(parties: u32, keepers: u32) -> Result<u32, InitError> {
     let number = parties.checked_add(keepers).ok_or(InitError::InvalidArgument)?;
@@ -187,14 +187,14 @@ impl<'region> SharedPoolAllocator<'region> {
         Ok(PoolParty { owned, bucket: self.bucket })
     }
 
-    /// Joins as the party of this number, as [`number`](PoolParty::number) returns it. The first
-    /// number is 0, and the last one is the number of parties. The party holds what an earlier one
-    /// of its number held when it was [forgotten](PoolParty::forget).
+    /// Joins as the party with this number, which [`number`](PoolParty::number) returns. Parties
+    /// are numbered from 0. The party holds what an earlier one with its number held when that one
+    /// was [forgotten](PoolParty::forget).
     ///
     /// # Errors
     ///
-    /// [`NoParty`](JoinError::NoParty) if the party of this number has joined, or if there is none.
-    /// [`MallocRefused`](JoinError::MallocRefused).
+    /// [`NoParty`](JoinError::NoParty) if the party with this number has joined, or if no party has
+    /// the number. [`MallocRefused`](JoinError::MallocRefused) if `malloc` failed.
     pub fn join_number(&self, number: u32) -> Result<PoolParty<'region>, JoinError> {
         // SAFETY: the functions are of this kind and its parties'; no other call has one of the two
         // handles.
@@ -206,7 +206,7 @@ impl<'region> SharedPoolAllocator<'region> {
         Ok(PoolParty { owned, bucket: self.bucket })
     }
 
-    /// Returns all figures, in any thread and while parties call.
+    /// Returns all figures. Any thread may call this while parties are used.
     #[must_use]
     pub fn info(&self) -> ffi::PoolInfo {
         let mut info = ffi::PoolInfo::default();
@@ -217,8 +217,8 @@ impl<'region> SharedPoolAllocator<'region> {
         info
     }
 
-    /// Returns how far a bucket begins after the one before it: its size, rounded up to its
-    /// alignment.
+    /// Returns the distance from the start of a bucket to the start of the next one: the size,
+    /// rounded up to the alignment.
     #[must_use]
     pub fn stride(&self) -> usize {
         self.bucket.pad_to_align().size()
@@ -231,15 +231,15 @@ impl<'region> SharedPoolAllocator<'region> {
 pub enum Holder {
     /// No party holds the bucket.
     Free,
-    /// The party of this number holds the bucket, or caches it.
+    /// The party with this number holds the bucket, or caches it.
     HeldBy(u32),
-    /// The party of this number has detached the bucket.
+    /// The party with this number has detached the bucket.
     DetachedBy(u32),
 }
 
 impl SharedPoolAllocator<'_> {
-    /// Returns who holds the bucket of this number, in any thread and while parties call, or `None`
-    /// if no bucket has the number.
+    /// Returns who holds the bucket with this number, or `None` if no bucket has the number. Any
+    /// thread may call this while parties are used.
     #[must_use]
     pub fn holder(&self, number: u32) -> Option<Holder> {
         let mut found = ffi::Holder::default();
@@ -261,13 +261,13 @@ impl SharedPoolAllocator<'_> {
 impl SharedPoolAllocator<'static> {
     /// Makes a pool of exactly this number of buckets in memory of its own, so that its parties may
     /// be moved to any thread. The memory is freed when the pool, its parties and its detached
-    /// buckets are dropped: no chunk is used then.
+    /// buckets are dropped. No chunk may be used after that.
     ///
     /// # Errors
     ///
     /// [`InvalidArgument`](InitError::InvalidArgument) if `buckets`, `parties` or the bucket's size
-    /// is 0, or if no memory has room for the buckets.
-    /// [`MallocRefused`](InitError::MallocRefused).
+    /// is 0, or if the buckets have more bytes than memory can have.
+    /// [`MallocRefused`](InitError::MallocRefused) if memory runs out.
     pub fn with_buckets(bucket: Layout, buckets: u32, parties: u32) -> Result<Self, InitError> {
         let memory = Memory::of_buckets(bucket, buckets)?;
         let (start, size) = (memory.start, memory.layout.size());
@@ -281,10 +281,9 @@ impl SharedPoolAllocator<'static> {
 
 shown! { SharedPoolAllocator }
 
-/// A party of a [`SharedPoolAllocator`], for one thread at a time. A bucket is returned through the
-/// party that holds it: the one that took it, or one that attached it. When a party is dropped,
-/// even by a panic, it leaves: it returns each bucket that it holds, and their chunks aren't used
-/// then.
+/// A party of a [`SharedPoolAllocator`], for one thread at a time. A bucket is freed through the
+/// party that holds it: the one that allocated or attached it. When a party is dropped, even by a
+/// panic, it leaves: it frees each bucket that it holds. No chunk in them may be used after that.
 ///
 /// [`PartyBox`](crate::PartyBox) owns a value in a bucket of a party, without `unsafe`.
 #[must_use = "a party leaves when it is dropped"]
@@ -299,7 +298,7 @@ buckets! {
 }
 
 /// Carries a raw chunk from one party of a [`SharedPoolAllocator`] to another, or is empty. It is
-/// made once, and serves one bucket after another. When it is dropped, the bucket in it is returned.
+/// made once, and carries one bucket after another. When it is dropped, the bucket in it is freed.
 /// [`DetachedBox`](crate::DetachedBox) carries a value, without `unsafe`.
 ///
 /// ```
@@ -322,7 +321,7 @@ buckets! {
 ///     full.send(detached).unwrap();
 /// });
 /// let chunk = receiver.attach(&mut taken.recv()?).unwrap();
-/// // Now it is this thread's, which returns it.
+/// // Now it is this thread's, which frees it.
 /// unsafe {
 ///     assert_eq!(chunk.cast::<u64>().read(), 7);
 ///     receiver.deallocate(chunk.cast(), message);
@@ -380,33 +379,33 @@ impl Drop for DetachedBucket<'_> {
         if let Some(keeper) = &lock(&of).keeper {
             let place = self.attach_by(keeper, len).cast::<u8>().as_ptr().cast();
             // SAFETY: the function is of this kind. No party holds the bucket, so nobody uses its
-            // chunk any more.
+            // chunk anymore.
             expect_ok(unsafe { ffi::bb_pool_party_deallocate(keeper.handle(), place) });
         }
     }
 }
 
 impl<'region> PoolParty<'region> {
-    /// Makes the party cache up to `most` of the buckets that are returned through it from now on. Its
-    /// next requests take the one that was cached last, without an atomic step. To other parties a
-    /// cached bucket is held. What was cached before is returned to the pool.
+    /// Makes the party cache up to `most` of the buckets that it frees from now on. Its next
+    /// request gets the one that was cached last, without an atomic operation. To other parties a
+    /// cached bucket is held. What the party cached before is freed first.
     ///
     /// # Errors
     ///
-    /// [`MallocRefused`](InitError::MallocRefused). Nothing changes.
+    /// [`MallocRefused`](InitError::MallocRefused) if `malloc` failed. Nothing changes.
     pub fn cache(&self, most: u32) -> Result<(), InitError> {
         // SAFETY: the function is of this kind, and no other call has the handle.
         InitError::unless_ok(unsafe { ffi::bb_pool_party_cache(self.owned.handle(), most) })
     }
 
-    /// Returns what is cached to the pool.
+    /// Frees the buckets that the party caches.
     pub fn flush(&self) {
         // SAFETY: the function is of this kind, and no other call has the handle.
         expect_ok(unsafe { ffi::bb_pool_party_flush(self.owned.handle()) });
     }
 
-    /// Takes whole buckets, as repeated calls of [`take`](Pool::take) do, until each slot has the place
-    /// of one or a taking is refused. Returns the slots that have one.
+    /// Allocates whole buckets, as repeated calls of [`take`](Pool::take) would, until each slot
+    /// has the place of one or a request is refused. Returns the slots that were filled.
     ///
     /// ```
     /// use bb_memory::{Pool, SharedPoolAllocator};
@@ -418,7 +417,7 @@ impl<'region> PoolParty<'region> {
     /// let mut slots = [MaybeUninit::uninit(); 8];
     /// let places = party.take_many(&mut slots);
     /// assert_eq!((places.len(), party.held_buckets()), (8, 8));
-    /// // Their bytes aren't used any more.
+    /// // Their bytes aren't used anymore.
     /// assert_eq!(unsafe { party.try_deallocate_many(places) }, 8);
     /// # Ok::<(), Box<dyn std::error::Error>>(())
     /// ```
@@ -440,14 +439,14 @@ impl<'region> PoolParty<'region> {
         unsafe { slice::from_raw_parts_mut(first.cast(), taken) }
     }
 
-    /// Returns the buckets at these places to the pool, as repeated calls of
-    /// [`try_deallocate`](Pool::try_deallocate) do, up to the first that fails. The result is how
-    /// many were returned.
+    /// Frees the buckets at these places, as repeated calls of
+    /// [`try_deallocate`](Pool::try_deallocate) would, up to the first one that fails. Returns how
+    /// many were freed.
     ///
     /// # Safety
     ///
     /// Nothing reads or writes their bytes from now on.
-    #[must_use = "fewer buckets may be returned than there are places"]
+    #[must_use = "fewer buckets may be freed than there are places"]
     pub unsafe fn try_deallocate_many(&self, places: &[NonNull<u8>]) -> usize {
         let (first, len) = (places.as_ptr().cast(), places.len());
         // SAFETY: the function is of this kind, no other call has the handle, and there are that
@@ -456,9 +455,9 @@ impl<'region> PoolParty<'region> {
         number_if(ffi::OK, count).unwrap_or(0)
     }
 
-    /// Detaches the bucket at `ptr`, which this party holds, with a chunk of `len` bytes. The bucket
-    /// is then in `detached`, and whoever has that attaches it. Meanwhile several threads may read
-    /// the chunk.
+    /// Detaches the bucket at `ptr`, which this party holds, with a chunk of `len` bytes. The
+    /// bucket is then in `detached`, and whoever has `detached` can attach it. Until then, several
+    /// threads may read the chunk.
     ///
     /// # Errors
     ///
@@ -467,7 +466,7 @@ impl<'region> PoolParty<'region> {
     /// # Safety
     ///
     /// From now on only the thread that attaches the bucket writes its chunk. The chunk isn't read
-    /// after `detached` is dropped or its bucket is returned.
+    /// after `detached` is dropped or its bucket is freed.
     pub unsafe fn detach(
         &self,
         ptr: NonNull<u8>,
@@ -487,7 +486,7 @@ impl<'region> PoolParty<'region> {
     ///
     /// # Panics
     ///
-    /// If the bucket is another pool's. It stays in `detached`.
+    /// Panics if the bucket belongs to another pool. It stays in `detached`.
     #[must_use = "the party holds the bucket, and its place is returned only here"]
     pub fn attach(&self, detached: &mut DetachedBucket<'region>) -> Option<NonNull<[u8]>> {
         let &(ref pool, len) = detached.of.as_ref()?;
@@ -496,12 +495,12 @@ impl<'region> PoolParty<'region> {
         Some(detached.attach_by(&self.owned, len))
     }
 
-    /// Returns the bucket that is in `detached` to the pool, without attaching it. The result is
-    /// `false` if `detached` is empty.
+    /// Frees the bucket that is in `detached`, without attaching it. Returns `false` if `detached`
+    /// is empty.
     ///
     /// # Panics
     ///
-    /// If the bucket is another pool's. It stays in `detached`.
+    /// Panics if the bucket belongs to another pool. It stays in `detached`.
     ///
     /// # Safety
     ///
@@ -519,8 +518,8 @@ impl<'region> PoolParty<'region> {
         true
     }
 
-    /// Detaches the bucket at `ptr`, which this party holds, and returns the bucket's number. Send it
-    /// to another party in any way, with this party's [`number`](PoolParty::number). That party
+    /// Detaches the bucket at `ptr`, which this party holds, and returns the bucket's number. Send
+    /// it to another party in any way, with this party's [`number`](PoolParty::number). That party
     /// attaches the bucket by [`attach_number`](PoolParty::attach_number). A bucket that nobody
     /// attaches stays detached.
     ///
@@ -531,7 +530,7 @@ impl<'region> PoolParty<'region> {
     /// let pool = SharedPoolAllocator::with_buckets(Layout::new::<u64>(), 16, 2)?;
     /// let (sender, receiver) = (pool.join()?, pool.join()?);
     /// let place = sender.take()?.cast();
-    /// // The chunk isn't used by the sender any more.
+    /// // The chunk isn't used by the sender anymore.
     /// let number = unsafe { sender.detach_number(place)? };
     /// // The numbers are those of `detach_number`.
     /// let received = unsafe { receiver.attach_number(number, sender.number())? };
@@ -556,9 +555,9 @@ impl<'region> PoolParty<'region> {
         Ok(bucket_number(detached.number))
     }
 
-    /// Attaches the bucket of this number if the party of number `from` has detached it by
+    /// Attaches the bucket with this number if party `from` has detached it by
     /// [`detach_number`](PoolParty::detach_number), and returns the whole bucket: this party holds
-    /// it then. However many parties try, at most one gets it.
+    /// it then. If several parties try, at most one gets it.
     ///
     /// # Errors
     ///
@@ -566,8 +565,8 @@ impl<'region> PoolParty<'region> {
     ///
     /// # Safety
     ///
-    /// The bucket isn't in a [`DetachedBox`](crate::DetachedBox), which is detached by its number,
-    /// too.
+    /// The bucket isn't in a [`DetachedBox`](crate::DetachedBox), whose bucket is detached by its
+    /// number, too.
     pub unsafe fn attach_number(
         &self,
         number: u32,
@@ -579,8 +578,7 @@ impl<'region> PoolParty<'region> {
         Ok(NonNull::slice_from_raw_parts(place, self.bucket.size()))
     }
 
-    /// Returns each bucket that this party holds to the pool, including cached ones. The party
-    /// stays.
+    /// Frees each bucket that this party holds, cached or not. The party stays joined.
     ///
     /// # Safety
     ///
@@ -590,7 +588,7 @@ impl<'region> PoolParty<'region> {
         expect_ok(unsafe { ffi::bb_pool_party_give_all_back(self.owned.handle()) });
     }
 
-    /// Ends the party without returning a bucket. The next party that joins [by its
+    /// Makes the party leave without freeing a bucket. The next party that joins [with its
     /// number](SharedPoolAllocator::join_number), or happens to get that number, holds what this
     /// one held.
     pub fn forget(self) {

@@ -1,9 +1,12 @@
-//! Allocators over a region that is given as two numbers: its start and its size in bytes. All modules are passed on. A user
-//! who needs only some of them may use their crates instead of this one:
+//! Allocators over a region that is given as two numbers: its start and its size in bytes. All
+//! modules are re-exported. A user who needs only some of them may depend on their crates instead
+//! of this one:
 //!
-//! - `allocator`, `equality`, `layout`, `region`, `steps`: of `bb_memory_base`.
-//! - `heap_allocator`: of `bb_memory_heap`. `one_chunk_allocator`, `pool_allocator`: of `bb_memory_owned`.
-//! - `bump_allocator`, `shared_bump`: of `bb_memory_bump`. `shared_pool`: of `bb_memory_shared_pools`.
+//! - `allocator`, `equality`, `layout`, `region`, `steps`: from `bb_memory_base`.
+//! - `heap_allocator`: from `bb_memory_heap`. `one_chunk_allocator`, `pool_allocator`: from
+//!   `bb_memory_owned`.
+//! - `bump_allocator`, `shared_bump`: from `bb_memory_bump`. `shared_pool`: from
+//!   `bb_memory_shared_pools`.
 #![tactic(auto)]
 
 pub use bb_memory_base::{allocator, equality, layout, region, steps};

@@ -1,4 +1,4 @@
-//! The promises of allocators over a region, and runs of commands over any of them.
+//! The traits of allocators over one region, and runs of commands over any of these allocators.
 pub use bb_memory_runs::{run_base, run_full};
 pub use bb_memory_traits::allocator::{
     AllocationError, AllocationGrowError, AllocationShrinkError, Allocator, BaseAllocator, Command,

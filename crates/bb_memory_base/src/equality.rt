@@ -1,4 +1,4 @@
-//! The law of `==` for the types of this crate.
+//! The law of `==` for the types that this crate re-exports.
 ghost use Rattle.bb_memory_bump_machine.specs.declared.steps.bump.BumpOutcome.{BumpOutcome};
 ghost use Rattle.bb_memory_bump_machine.specs.declared.steps.bump.BumpStep.{BumpStep};
 ghost use Rattle.bb_memory_pool_machine.specs.declared.steps.pool.PoolOutcome.{PoolOutcome};
@@ -19,8 +19,8 @@ use crate::allocator::{
 use crate::layout::{Chunk, Layout, LayoutError};
 use crate::steps::{BumpOutcome, BumpStep, PoolOutcome, PoolStep};
 
-/// States that `==` is true exactly if the two values are the same: the same variant, with the same fields. The function does
-/// nothing: its contract is the law.
+/// States that `==` is true exactly if the two values are the same: the same variant, with the same
+/// fields. The function does nothing: its contract is the law.
 pub fn equality_law()
     ensures layout { (one other : Layout)
         → IsTrue (⟦<Layout as PartialEq>⟧.eq one other) ↔ (one ≡ other) }

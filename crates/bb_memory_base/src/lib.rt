@@ -1,8 +1,8 @@
-//! Passes on what the allocators share from the crates that have its parts, and states when `==` is true.
+//! Re-exports what the allocators share, and states when `==` is true.
 //!
-//! - `allocator`: of `bb_memory_traits` and `bb_memory_runs`.
-//! - `layout`, `region`: of `bb_memory_traits`. `lists`: of `bb_memory_lists`.
-//! - `steps`: of `bb_memory_bump_machine` and `bb_memory_pool_machine`.
+//! - `allocator`: from `bb_memory_traits` and `bb_memory_runs`.
+//! - `layout`, `region`: from `bb_memory_traits`. `lists`: from `bb_memory_lists`.
+//! - `steps`: from `bb_memory_bump_machine` and `bb_memory_pool_machine`.
 //! - `equality`: the meaning of `==` for the types of these crates.
 #![tactic(auto)]
 

@@ -1,4 +1,4 @@
--- The last state, by the view of a seat.
+-- The last state, as far as the view of a seat determines it.
 use Rattle.atomic_table.specs.Seated.{TableId}
 use Rattle.atomic_table.specs.Table.{Final, Me, Seen}
 use Rattle.bb_memory_bump.proofs.SharedBumpMeetings.{told_by}
@@ -24,8 +24,9 @@ closes scene seat view words homes position last at =
     some-injective _ _ (ap (λ (l : List ℕ). get_elem? l 0) (sym rule.words ∙ last.2) ∙ at) in
     subst (AfterMeetingLoad scene view.parties (met_by view)) found (told_by scene state rule seat view last.1.1)
 
--- The last position, to a party with this log: it is at least what the party had seen and what its last meeting had found, and
--- at most the size. Some interleaving leaves it, and it is exactly what the party had seen if there is no other.
+-- The last position, to a party with this log: it is at least what the party had seen and what its
+-- last meeting had found, and at most the size. Some interleaving leaves it, and it is exactly what
+-- the party had seen if there is no other.
 pub record AfterLast (scene : BumpScene) (number : ℕ) (log : BumpLog) (met last : ℕ)
     : Type 0 where
   pub interleaved : Interleaving scene number log last

@@ -1,4 +1,4 @@
--- The positions that meetings found stay at most the position, as views change.
+-- The positions that meetings found remain at most the bump's position, as views change.
 use Rattle.atomic_table.proofs.Lists.{at_set, at_snoc}
 use Rattle.bb_memory_bump.specs.SharedBumpRule.{SeatView, met_by}
 use Rattle.std.proofs.Common.{List, [], arith, set, ℕ, ◌++◌, ◌∷◌, ◌≡◌, ◌≤◌}

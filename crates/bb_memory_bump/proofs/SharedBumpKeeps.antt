@@ -83,8 +83,8 @@ only_one scene state rule party log know one =
     let first : party ≡ 0 = omega arith in
     alone_exact scene rule.position rule.logs log one rule.agree (subst (λ (p : ℕ). HasLog rule.logs p log) first know.own)
 
--- A step of the machine, in the form that the table needs: `left` is its effect on the word, and the party has then seen the
--- result.
+-- A step of the machine, in the form that the table needs: `left` is its effect on the word, and
+-- the party has then seen the result.
 step_tells : (scene : BumpScene) (slots seat party : ℕ) (log : BumpLog) (met : ℕ) (left : ℕ → ℕ) (kind : BumpStep)
     (outcome : ℕ → BumpOutcome) →
     ((logs : List BumpLog) (found : ℕ) → party < scene.parties → HasLog logs party log → LogsAgree scene found logs →

@@ -1,4 +1,5 @@
--- A load by a seat of several parties: how they agree with the position, and what two of them know of each other.
+-- A load by a seat of several parties: how the parties agree with the position, and what two of
+-- them know about each other.
 use Rattle.atomic_table.specs.Table.{Allows, Me, State, keeps, step}
 use Rattle.bb_memory_bump.proofs.SharedBumpFloors.{met_set}
 use Rattle.bb_memory_bump.specs.SharedBumpRule.{AfterMeeting, AfterMeetingLoad, NumberedLog, SeatView, WordsAndLogsAgree, meeting_of, meets, met_by, sight}

@@ -135,7 +135,8 @@ its_own : (made : ℕ) (logs : List BumpLog) (before behind : List NumberedLog) 
 its_own made logs [] behind one have = have.1
 its_own made logs (first ∷ before) behind one have = its_own made logs before behind one have.2
 
--- the seat of a party that goes back: one interleaving has its log and leaves what the meeting found
+-- the seat of a party that goes back: one interleaving has its log and leaves what the meeting
+-- found
 pub met_seat : (scene : BumpScene) (number met found : ℕ) (before behind : List NumberedLog) (me new : Me ℕ SeatView) →
     IsPartySeat number me → scene_of me.0 ≡ scene →
     AfterMeetingLoad scene (before ++ (me.0.parties ++ behind)) met found →

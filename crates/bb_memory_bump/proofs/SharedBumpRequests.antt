@@ -14,8 +14,8 @@ use Rattle.std.proofs.Common.{Bool, Some, [], ap, append_assoc, arith, eq-eqb, f
 use Rattle.std.proofs.lemmas.List.Elements.{All-from_recursion}
 use Rattle.std.specs.Prelude.{if◌then◌else◌, max}
 
--- A request in progress: the party has made these tries, and has seen `last`, which is at most what its log says. Each loss has
--- raised that by at least one, and none of these steps has won a chunk.
+-- A request in progress: the party has made these tries, and has seen `last`, which is at most what
+-- its log says. Each loss has raised that by at least one, and none of these steps has won a chunk.
 pub record IsTrying (scene : BumpScene) (number : ℕ) (log : BumpLog) (met : ℕ) (layout : Layout) (last : ℕ)
     (me : Me ℕ SeatView) : Type 0 where
   pub tried : BumpLog

@@ -22,9 +22,9 @@ pub record IsBump (bump : Bump) : Type 0 where
   pub region : IsRegion bump.region
   pub used : bump.used ≤ bump.region.size
 
--- A request, by the bump's value: its answer, and the bump after it.
+-- The effect of a request on the value of a bump: the answer, and the bump afterwards.
 pub record Takes (old : Bump) (layout : Layout) (answer : Result Chunk AllocationError) (new : Bump) : Type 0 where
-  -- each outcome, both ways
+  -- when exactly the request has each outcome
   pub accepted : IsOk answer ↔ ((0 < layout.size) × (chunk_end (chunk_at_or_after (old.region.start + old.used) layout)
       ≤ region_end old.region))
   pub size_is_zero : (answer ≡ Err SizeIsZero) ↔ (layout.size ≡ 0)
@@ -34,12 +34,12 @@ pub record Takes (old : Bump) (layout : Layout) (answer : Result Chunk Allocatio
   pub begins : IfOk answer (λ chunk. chunk.place ≡ least_place (old.region.start + old.used) layout.align)
   pub exact_size : IfOk answer (λ chunk. chunk.len ≡ layout.size)
   pub behind : IfOk answer (λ chunk. old.region.start + old.used ≤ chunk.place)
-  -- the used part then ends at the chunk's end; a refusal changes nothing
+  -- afterwards the used part ends at the chunk's end; a refusal changes nothing
   pub used : IfOk answer (λ chunk. new.region.start + new.used ≡ chunk_end chunk)
   pub unchanged : OnErr answer (new ≡ old)
 
--- A release, whichever place it names: nothing is used after it, and the empty list replaces each
--- live list that the bump stood for.
+-- The effect of a release, whichever place it names: afterwards nothing is used, and the empty list
+-- replaces each live list that the bump stood for.
 pub record Frees (old new : Bump) : Type 0 where
   pub value : new ≡ bump_of old.region.start old.region.size 0
   pub released : (live : List Chunk) → StandsFor old.region old.used live → StandsFor new.region new.used []

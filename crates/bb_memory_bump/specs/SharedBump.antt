@@ -1,4 +1,5 @@
--- A shared bump and its parties, as their contracts see them, and what each call adds to its party's log.
+-- A shared bump and its parties, as their contracts see them, and what each call adds to its
+-- party's log.
 use Rattle.atomic_table.specs.Seated.{TableId}
 use Rattle.bb_memory_bump.specs.Bump.{AllocationError, Layout, OutOfMemory, SizeIsZero}
 use Rattle.bb_memory_bump_machine.specs.BumpLogs.{BumpLog, CommonInterleaving, HasLog, HasPositionFrom, HasPositionUpTo, Interleaving, LogsAgree, call_in, chunks_won, entry_of, seen_in}
@@ -12,8 +13,8 @@ use Rattle.bb_memory_traits.specs.Chunk.{AreApart, Chunk, Region, chunk_end}
 use Rattle.bb_memory_traits.specs.declared.allocator.AllocationError.TheVariants.{AlignmentFailure, SizeTooLarge}
 use Rattle.std.specs.Prelude.{All, Contains, Err, List, None, Ok, Result, Some, [], false, length, map, max, slice_get, true, ℕ, ◌++◌, ◌+◌, ◌<◌, ◌∷◌, ◌≡◌, ◌≢◌, ◌≤◌}
 
--- A shared bump: the table that identifies it, and how its machine began, which is its region, the
--- position at `share`, and how many parties it has.
+-- A shared bump: the table that identifies it, and the scene in which its machine began, which is
+-- its region, the position at `share`, and the number of parties.
 pub record SharedBump : Type 0 where
   pub table : TableId
   pub scene : BumpScene
@@ -22,7 +23,7 @@ pub record SharedBump : Type 0 where
 abbrev pub scene_at : Region → ℕ → ℕ → BumpScene
 scene_at region opening parties = record { region = region; opening = opening; parties = parties }
 
--- the opening is in the region, and there is at least one party
+-- the opening is at most the size of the region, and there is at least one party
 pub record IsSharedScene (scene : BumpScene) : Type 0 where
   pub opening : scene.opening ≤ scene.region.size
   pub parties : 1 ≤ scene.parties
@@ -68,8 +69,8 @@ meeting_at position party = record {
 abbrev pub seen_by : BumpParty → ℕ
 seen_by party = seen_in party.allocator.scene party.log
 
--- The party's floor: the bump's position is at least this, as the party knows. It is the greater of
--- the position that the party has seen and the one that its last meeting found.
+-- The party's floor: the party knows that the bump's position is at least this. The floor is the
+-- greater of the position that the party has seen and the one that its last meeting found.
 abbrev pub floor_of : BumpParty → ℕ
 floor_of party = max (seen_by party) party.met
 
@@ -80,8 +81,8 @@ greatest_seen (party ∷ parties) = max (seen_by party) (greatest_seen parties)
 
 -- ENTRIES OF CALLS
 
--- A request in progress, which has made these entries and has seen this position: a read, and then
--- lost exchanges, each at a greater position. The layout fits at each of them.
+-- A request in progress has made these entries and has seen this position: a read, and then lost
+-- exchanges, each at a greater position. The layout fits at each of the positions.
 pub data Tries (region : Region) (party : ℕ) (layout : Layout) : BumpLog → ℕ → Type 0 where
   by_read : (tried : BumpLog) (position : ℕ) → tried ≡ entry_of (Read party layout) (Sees position) ∷ [] →
       fits region position layout ≡ true → Tries region party layout tried position
@@ -89,8 +90,8 @@ pub data Tries (region : Region) (party : ℕ) (layout : Layout) : BumpLog → �
       tried ≡ before ++ entry_of (Exchange party) (Loses position) ∷ [] → seen < position →
       fits region position layout ≡ true → Tries region party layout tried position
 
--- A request that made these entries and won this chunk, which is the one that the layout gets at
--- the position that the request had seen.
+-- A request made these entries and won this chunk: the one that the layout gets at the position
+-- that the request had seen.
 pub record IsWon (region : Region) (party : ℕ) (layout : Layout) (added : BumpLog) (chunk : Chunk) : Type 0 where
   pub seen : ℕ
   pub tried : BumpLog
@@ -98,8 +99,8 @@ pub record IsWon (region : Region) (party : ℕ) (layout : Layout) (added : Bump
   pub is : added ≡ tried ++ entry_of (Exchange party) (Wins chunk) ∷ []
   pub placed : chunk ≡ chunk_at region seen layout
 
--- A request that made these entries and was refused: by its read, or by a lost exchange at a
--- greater position. The layout doesn't fit at the position that was found last.
+-- A request made these entries and was refused: by its read, or by a lost exchange at a greater
+-- position. The layout doesn't fit at the position that was found last.
 pub data IsRefused (region : Region) (party : ℕ) (layout : Layout) (added : BumpLog) : Type 0 where
   at_read : (position : ℕ) → added ≡ entry_of (Read party layout) (RefusedAtRead position) ∷ [] →
       fits region position layout ≡ false → IsRefused region party layout added
@@ -129,7 +130,7 @@ MayTake party layout (Err OutOfMemory) new =
 MayTake party layout (Err SizeTooLarge) new = ⊥
 MayTake party layout (Err AlignmentFailure) new = ⊥
 
--- the answer is one that the bump's object may give while `used` bytes of the region are used
+-- the bump object may give this answer while `used` bytes of the region are used
 abbrev pub IsAnsweredAt : Region → ℕ → Layout → Result Chunk AllocationError → Type 0
 IsAnsweredAt region used layout answer = (live : List Chunk) → StandsFor region used live → MayAllocate region live layout answer
 
@@ -151,7 +152,7 @@ pub record IsParty (party : BumpParty) : Type 0 where
   pub reached : IsInterleaved party (floor_of party)
   pub met : party.met ≤ party.allocator.scene.region.size
 
--- a party before and after a call: it keeps its number, and the invariant of a party holds
+-- a party before and after a call: the number is the same, and the invariant of a party holds
 pub record IsSameParty (old new : BumpParty) : Type 0 where
   pub number : new.number ≡ old.number
   pub is_party : IsParty new
@@ -167,7 +168,7 @@ pub record HasLoaded (bump : SharedBump) (old : BumpParty) (found : ℕ) (new : 
   pub within : found ≤ bump.scene.region.size
   pub alone : bump.scene.parties ≡ 1 → found ≡ seen_by old
 
--- both parties are of this bump
+-- both parties belong to this bump
 pub record AreBothOf (allocator : SharedBump) (one other : BumpParty) : Type 0 where
   pub a : one.allocator ≡ allocator
   pub b : other.allocator ≡ allocator
@@ -176,8 +177,8 @@ pub record AreBothOf (allocator : SharedBump) (one other : BumpParty) : Type 0 w
 abbrev pub AreInterleaved : BumpParty → BumpParty → Type 0
 AreInterleaved a b = (position : ℕ) × CommonInterleaving a.allocator.scene a.number a.log b.number b.log position
 
--- Two parties met, and found this position: at least what either knew, at most the region's size,
--- and left by some interleaving of their logs.
+-- Two parties met, and found this position: it is at least the floor of either, at most the
+-- region's size, and some interleaving of both logs leaves it.
 pub record MeetAt (bump : SharedBump) (a b : BumpParty) (found : ℕ) : Type 0 where
   pub differ : a.number ≢ b.number
   pub interleaved : AreInterleaved a b
@@ -211,7 +212,7 @@ pub record AgreeAt (scene : BumpScene) (position : ℕ) (parties : List BumpPart
       one.number ≢ other.number
   pub whole : length parties ≡ scene.parties → HaveAllNumbers scene.parties parties × (position ≡ greatest_seen parties)
 
--- Parties that met, before and after. The position that they found is at least each one's floor,
+-- Parties before and after a meeting. The position that they found is at least the floor of each,
 -- and some interleaving of all their logs leaves it.
 pub record HaveMet (scene : BumpScene) (old new : List BumpParty) : Type 0 where
   pub position : ℕ

@@ -1,5 +1,5 @@
--- The rule of a shared bump's word, the meaning of its seats and fields, and the effect of each step on the word on the seat
--- that makes it.
+-- The rule of a shared bump's word, what a seat of the bump stands for, and how each step on the
+-- word changes the seat that makes it.
 use Rattle.atomic_table.specs.Seated.{TableId}
 use Rattle.atomic_table.specs.Table.{Me, State, Step}
 use Rattle.bb_memory_bump.specs.Bump.{Layout}
@@ -60,7 +60,7 @@ pub record IsSeatOf (scene : BumpScene) (number : ℕ) (log : BumpLog) (me : Me 
   pub interleaved : Interleaving scene number log (seen_in scene log)
   pub reached : Interleaving scene number log (max (seen_in scene log) (met_by me.0))
 
--- the seat of this party, which is in no call
+-- the seat stands only for this party, which is in no call
 pub record IsSeatOfIdle (scene : BumpScene) (number : ℕ) (log : BumpLog) (me : Me ℕ SeatView) : Type 0 where
   pub seat : IsSeatOf scene number log me
   pub idle : call_in log ≡ None
@@ -105,7 +105,7 @@ pub record HasOneWord (table : TableId) : Type 0 where
   pub words : table.words ≡ 1
   pub slots : table.slots ≡ 0
 
--- the scene is over this region, its opening is in the region, and it has a party
+-- the scene has this region, which is valid, an opening of at most its size, and at least one party
 pub record IsSharedBump (scene : BumpScene) (start size : ℕ) : Type 0 where
   pub region : scene.region ≡ region_at start size
   pub is_region : IsRegion (region_at start size)
@@ -113,7 +113,7 @@ pub record IsSharedBump (scene : BumpScene) (start size : ℕ) : Type 0 where
 
 -- DEALING AND MEETING
 
--- the view of the first seat, which stands for all parties before they are dealt out
+-- the view of the first seat, which stands for all parties until each gets a seat of its own
 abbrev pub all_parties : BumpScene → SeatView
 all_parties scene = standing_for (sight scene 0) (fresh_from 0 scene.parties)
 
@@ -121,7 +121,8 @@ all_parties scene = standing_for (sight scene 0) (fresh_from 0 scene.parties)
 abbrev pub nobody : SeatView
 nobody = standing_for (sight (scene_at (region_at 0 0) 0 0) 0) []
 
--- the view of a seat that took over a guest's parties, and that keeps the greater position of the last meetings
+-- the view of a seat that took over a guest's parties, and that keeps the greater position of the
+-- last meetings
 abbrev pub merged : SeatView → SeatView → SeatView
 merged view guest = standing_for (sight (scene_of view) (max (met_by view) (met_by guest))) (guest.parties ++ view.parties)
 
@@ -157,9 +158,9 @@ AfterExchange scene number log met found new = (call : OngoingCall) → call_in 
 abbrev pub AfterLoad : BumpScene → ℕ → BumpLog → ℕ → ℕ → Me ℕ SeatView → Type 0
 AfterLoad scene number log met found new = AfterStep scene number log met (Load number) (Loaded found) found new
 
--- A load by a seat that stands for these parties found this position: at least what the last meetings had found, and at most
--- the region's size. Some logs, one for each of the bump's parties, agree with it, and the logs of these parties are among
--- them. No party is in the list twice.
+-- A load by a seat that stands for these parties found this position: at least what the last
+-- meetings had found, and at most the region's size. Some logs, one for each of the bump's parties,
+-- agree with it, and the logs of these parties are among them. No party is in the list twice.
 pub record AfterMeetingLoad (scene : BumpScene) (parties : List NumberedLog) (met found : ℕ) : Type 0 where
   pub above : met ≤ found
   pub within : found ≤ scene.region.size
@@ -170,8 +171,8 @@ pub record AfterMeetingLoad (scene : BumpScene) (parties : List NumberedLog) (me
   pub theirs : HaveLogs scene.parties logs parties
   pub once : (number : ℕ) → number < scene.parties → times_in number parties ≤ 1
 
--- Two parties met, and found this position. They are different ones, no chunk of one overlaps a
--- chunk of the other, and some interleaving of their logs leaves the position.
+-- Two parties met, and found this position. The two are different parties, no chunk of one overlaps
+-- a chunk of the other, and some interleaving of their logs leaves the position.
 pub record AfterMeeting (scene : BumpScene) (number : ℕ) (log : BumpLog) (other : ℕ) (other_log : BumpLog) (found : ℕ) : Type 0
   where
     pub differ : number ≢ other

@@ -1,4 +1,4 @@
-//! An allocator that gives one chunk after another, and takes all of them back in one release.
+//! An allocator of chunks one after another, which are all given back in one release.
 ghost use Rattle.bb_memory_bump.specs.Bump.{AllocationError, Bump, Frees, IsBump, Layout, OutOfMemory, Takes, bump_of, bump_text};
 ghost use Rattle.bb_memory_bump.specs.SharedBump.{fresh_party, scene_at};
 ghost use Rattle.bb_memory_traits.specs.BumpObject.{IsInOrder, MayAllocate, StandsFor, bump_object, used_space};
@@ -16,14 +16,15 @@ use std::alloc::{AllocError, Global};
 use std::fmt;
 use std::marker::Model;
 
-/// Gives chunks in order, each at the first suitable place after the one before. A release gives back all chunks.
+/// Allocates chunks one after another, each at the first suitable place after the previous one. A
+/// release gives back all chunks.
 ///
 /// Example: `comments::bump` of `crates/examples`.
 #[derive(Debug, Drop)]
 pub struct BumpAllocator {
     start: usize,
     size: usize,
-    /// The address before the unused bytes, after which the next chunk begins.
+    /// The address just before the unused bytes. The next chunk begins after it.
     last: usize,
 }
 
@@ -37,8 +38,9 @@ impl Model for BumpAllocator {
 }
 
 impl BumpAllocator {
-    /// Makes an allocator over the region of `size` bytes at `start`. No chunk is given. The start has to be greater than 0,
-    /// and start plus size at most `usize::MAX`; [`BumpAllocator::can_make`] tests both.
+    /// Makes an allocator over the region of `size` bytes at `start`, with no chunk in use. The
+    /// start has to be greater than 0, and start plus size at most `usize::MAX`;
+    /// [`BumpAllocator::can_make`] tests both.
     #[inline]
     pub fn new(start: usize, size: usize) -> Self
         requires { IsRegion (region_at start size) }
@@ -59,7 +61,8 @@ impl BumpAllocator {
         region::Region::can_make(start, size)
     }
 
-    /// Returns an allocator over the region of `size` bytes at `start`, of which `position` are used.
+    /// Returns an allocator over the region of `size` bytes at `start`, of which `position` bytes
+    /// are used.
     pub(crate) fn at_position(start: usize, size: usize, position: usize) -> Self
         requires region { IsRegion (region_at start size) }
         requires position { position ≤ size }
@@ -81,7 +84,8 @@ impl BumpAllocator {
         self.start
     }
 
-    /// Returns the bytes that are used: those from the region's start to the end of the last chunk, padding included.
+    /// Returns the number of used bytes: those from the region's start to the end of the last
+    /// chunk, padding included.
     #[inline]
     pub fn used_space(&self) -> usize
         ensures value { result ≡ self.now.used }
@@ -107,9 +111,9 @@ impl BumpAllocator {
         self.size
     }
 
-    /// Shares the bump among that many parties, at least one: what was used stays used, and each party begins with an empty
-    /// log. Fails only with `OutOfMemory`, if memory for the word or for the parties ran out; the allocator then comes back
-    /// unchanged.
+    /// Shares the bump among `parties` parties; there has to be at least one. What was used stays
+    /// used, and each party begins with an empty log. Fails only with `OutOfMemory`, if memory for
+    /// the shared word or for the parties ran out, and then returns the allocator unchanged.
     pub fn share(
         self,
         alloc: Global,
@@ -117,11 +121,12 @@ impl BumpAllocator {
     ) -> Result<(SharedBumpAllocator, Vec<BumpParty>), (BumpAllocator, AllocationError)>
         requires parties { 1 ≤ parties }
 
-        // The machine begins at this region and position, with these parties.
+        // The machine begins with this region, position and number of parties.
         ensures scene { IfOk result (λ shared.
             shared.0.scene ≡ scene_at self.region self.used parties) }
 
-        // There are as many parties as requested, all of this shared bump, numbered from 0, with empty logs.
+        // All parties belong to this shared bump, are numbered from 0, and have empty logs. There
+        // are as many as requested.
         ensures parties { IfOk result (λ shared. shared.0.scene.parties ≡ parties) }
         ensures as_many { IfOk result (λ shared. length shared.1.items ≡ parties) }
         ensures fresh { IfOk result (λ shared. (number : ℕ) → number < parties
@@ -183,8 +188,9 @@ impl BaseAllocator for BumpAllocator {
 
     ghost frees = { λ bump _ _ new. Frees bump new };
 
-    /// Allocates a chunk of exactly `layout.size()` bytes, at the least multiple of `layout.align()` after what is used. Fails
-    /// with `SizeIsZero` if the size is 0, and with `OutOfMemory` if the chunk would end after the region. A refusal leaves the
+    /// Allocates a chunk of exactly `layout.size()` bytes, at the first multiple of
+    /// `layout.align()` at or after the end of the used bytes. Fails with `SizeIsZero` if the size
+    /// is 0, and with `OutOfMemory` if the chunk would end after the region. A refusal leaves the
     /// allocator unchanged.
     #[inline(always)]
     fn allocate(&mut self, layout: Layout) -> Result<Chunk, AllocationError> {
@@ -199,7 +205,7 @@ impl BaseAllocator for BumpAllocator {
         Ok(chunk)
     }
 
-    /// Gives back all chunks. The place and the layout decide nothing.
+    /// Gives back all chunks. Both arguments are ignored.
     #[inline(always)]
     fn deallocate(&mut self, _place: usize, _layout: Layout) {
         self.last = self.start - 1;
@@ -219,9 +225,10 @@ impl BaseAllocator for BumpAllocator {
     ghost sound = { λ bump live stands. stands.sound };
 }
 
-/// States what the definition of the bump object means for every region and every list of commands. There is exactly one answer
-/// to each request. A chunk that is given begins at a multiple of the requested alignment, has exactly the requested size, and
-/// begins at or after the end of every chunk of the list, if that is in order. Each run from a live list that a bump stands for
+/// States what the definition of the bump object means for every region and every list of commands.
+/// There is exactly one answer to each request. An allocated chunk begins at a multiple of the
+/// requested alignment, has exactly the requested size, and begins at or after the end of every
+/// chunk of the list, if the list is in order. Each run from a live list that a bump stands for
 /// leads to another such list, which is sound. The function does nothing: its contract is the law.
 pub fn bump_object_law()
     ensures some_answer { (region : Region) → AnswersAll (bump_object region) }

@@ -1,4 +1,5 @@
-//! The bump that threads share: its word is the position, and each thread steps with a party of its own.
+//! The bump that threads share: its only word is the position, and each thread steps with a party
+//! of its own.
 ghost use Rattle.bb_memory_bump.specs.SharedBump.{AgreeAt, AreBothOf, AreFresh, AreInterleaved, BumpParty, HasChunksWithin, HasLoaded, HaveChunksApart, HaveMet, IsAnsweredAt, IsFoundBy, IsInterleaved, IsParty, IsSameParty, IsSharedScene, MayTake, MeetAt, SharedBump, floor_of, greatest_seen, meeting_at, scene_at, seen_by, with_entries};
 ghost use Rattle.bb_memory_bump.specs.SharedBumpRule.{IsSharedBump, all_parties};
 ghost use Rattle.bb_memory_bump_machine.specs.BumpLogs.{BumpLog, Interleaving, IsCallRun, OpensWith, calls_of, chunks_won, history_of, live_after, losses_in};
@@ -25,13 +26,16 @@ use rule::{Scene, View};
 use std::alloc::{AllocError, Global};
 use std::marker::{Brand, Model};
 
-/// A bump that threads share through `&`, made by [`BumpAllocator::share`]. Each call of a thread takes its own party by
-/// `&mut`; the party has to be this allocator's, and stays so. No call allocates memory, and none waits for another.
+/// A bump that threads share through `&`, made by [`BumpAllocator::share`]. Each call takes the
+/// calling thread's party by `&mut`; the party has to be this allocator's, and stays so. No call
+/// allocates memory, and none waits for another.
 ///
-/// A party's log has its own atomic steps on the position, in order, each with what it found. Whatever the threads do, word and
-/// logs agree: the steps of all parties together are one list that the bump machine allows, and which leaves the word. A user
-/// who has all parties learns this by [`meet_all`](SharedBumpAllocator::meet_all), and then has [`shared_bump_meeting_law`].
-/// [`shared_bump_law`] states what a user has who has one party, or two that met.
+/// A party's log has the party's atomic steps on the position, in order, each with what it found.
+/// Whatever the threads do, the word and the logs agree: the steps of all parties together form one
+/// list that the bump machine allows, and that leaves the position which the word has. A user who
+/// has all parties can establish this by [`meet_all`](SharedBumpAllocator::meet_all), and then use
+/// [`shared_bump_meeting_law`]. [`shared_bump_law`] states what follows for one party, and for two
+/// that met.
 ///
 /// Example: `comments::shared_bump` of `crates/examples`.
 #[derive(Drop)]
@@ -50,7 +54,8 @@ impl Model for SharedBumpAllocator {
 }
 
 impl SharedBumpAllocator {
-    /// Makes a shared bump over the region of `size` bytes at `start`, of which `position` are used, with its parties.
+    /// Makes a shared bump over the region of `size` bytes at `start`, of which `position` bytes
+    /// are used, and its parties.
     pub(crate) fn open(
         alloc: Global,
         start: usize,
@@ -81,21 +86,24 @@ impl SharedBumpAllocator {
         Ok((shared, all))
     }
 
-    /// Allocates a chunk of exactly `layout.size()` bytes, at the least multiple of `layout.align()` after what is used.
+    /// Allocates a chunk of exactly `layout.size()` bytes, at the first multiple of
+    /// `layout.align()` at or after the end of the used bytes.
     ///
-    /// Fails with `SizeIsZero` if the size is 0, without a step. Otherwise the party reads the position. If the layout doesn't
-    /// fit there, the request fails with `OutOfMemory`. Otherwise an exchange replaces the position by the end of the chunk, if
-    /// the position is still what the party has seen. If it isn't, the party goes on from the position that it found: it rounds
-    /// that position up, or fails with `OutOfMemory` if the layout doesn't fit there. There is no other refusal. Each loss
-    /// raises what the party has seen, so a request loses at most one exchange for each byte of the region. The party has to be
-    /// this bump's.
+    /// Fails with `SizeIsZero` if the size is 0, without a step. Otherwise the party reads the
+    /// position. If the layout doesn't fit there, the request fails with `OutOfMemory`. Otherwise
+    /// an exchange replaces the position by the end of the chunk, if the position is still the one
+    /// that the party has seen. If it isn't, the party tries again from the position that it found,
+    /// or fails with `OutOfMemory` if the layout doesn't fit there. The call has no other error.
+    /// Each lost exchange raises the position that the party has seen, so a request loses at most
+    /// one exchange for each byte of the region. The party has to be this bump's.
     pub fn allocate(&self, party: &mut BumpParty, layout: Layout) -> Result<Chunk, AllocationError>
         requires party { party.old.allocator ≡ self.now }
 
         // The entries that were added to the party's log decide the answer.
         ensures answer { MayTake party.old layout result party.new }
 
-        // The party stays this allocator's, and some interleaving has its log. So `shared_bump_law` holds for it.
+        // The party stays this allocator's, and some interleaving has its log. So `shared_bump_law`
+        // holds for the party.
         ensures party { party.new.allocator ≡ self.now }
         ensures is_party { IsSameParty party.old party.new }
 
@@ -112,7 +120,8 @@ impl SharedBumpAllocator {
         ensures floor { IfOk result (λ chunk.
             self.now.scene.region.start + floor_of party.old ≤ chunk.place) }
 
-        // If the party is the only one, the answer is the bump object's at what it had seen.
+        // If the party is the only one, the answer is that of the bump object at the position that
+        // the party had seen.
         ensures alone { self.now.scene.parties ≡ 1
             → IsAnsweredAt self.now.scene.region (seen_by party.old) layout result }
 
@@ -135,29 +144,31 @@ impl SharedBumpAllocator {
         }
     }
 
-    /// Makes two parties meet: no chunk of one overlaps a chunk of the other. The meeting loads a word, which is in no log.
-    /// The position that it finds raises the floor of both, and nothing else changes. The parties have to be this bump's.
+    /// Makes two parties meet: no chunk of one overlaps a chunk of the other. The meeting loads the
+    /// position, and no log has the load. The position that it finds raises the floor of both
+    /// parties, and nothing else changes. The parties have to be this bump's.
     pub fn meet(&self, a: &mut BumpParty, b: &mut BumpParty)
         requires parties { AreBothOf self.now a.old b.old }
         ensures kept { (a.new ≡ meeting_at a.new.met a.old) × (b.new ≡ meeting_at a.new.met b.old) }
         ensures parties { AreBothOf self.now a.new b.new }
         ensures apart { HaveChunksApart a.old.log b.old.log }
 
-        // The position is at least the one that either party knew, at most the size, and one that an interleaving of both logs
-        // leaves.
+        // The position is at least the one that either party knew, at most the size, and one that
+        // an interleaving of both logs leaves.
         ensures met { MeetAt self.now a.old b.old a.new.met }
 
-        // Each chunk of either ends there or before.
+        // Each chunk of either party ends at or before that position.
         ensures behind { let region = self.now.scene.region in
             HasChunksWithin region a.new.log a.new.met × HasChunksWithin region b.new.log a.new.met }
     {
         self.position.meet(&mut a.seat, &mut b.seat);
     }
 
-    /// Makes all these parties meet: no chunk of one overlaps a chunk of another. One interleaving has all their logs, and
-    /// leaves the position that the meeting finds. If these are all the bump's parties, it has no other steps, and the position
-    /// is the greatest that one of them has seen. The position raises the floor of each, and nothing else changes. The meeting
-    /// loads a word, which is in no log. The parties have to be this bump's.
+    /// Makes all these parties meet: no chunk of one overlaps a chunk of another. One interleaving
+    /// has all their logs, and leaves the position that the meeting finds. If these are all the
+    /// bump's parties, the interleaving has no other steps, and the position is the greatest that
+    /// one of them has seen. The position raises the floor of each party, and nothing else changes.
+    /// The meeting loads the position, and no log has the load. The parties have to be this bump's.
     pub fn meet_all(&self, parties: &mut Vec<BumpParty>)
         requires parties { All (λ party. party.allocator ≡ self.now) parties.old.items }
         ensures met { HaveMet self.now.scene parties.old.items parties.new.items }
@@ -181,8 +192,8 @@ impl SharedBumpAllocator {
         self.start
     }
 
-    /// Returns the bytes that are used: those from the region's start to the end of the last chunk, padding included. The
-    /// number is what one load found. The party has to be this bump's.
+    /// Returns the number of used bytes, as one load found it: those from the region's start to the
+    /// end of the last chunk, padding included. The party has to be this bump's.
     pub fn used_space(&self, party: &mut BumpParty) -> usize
         requires party { party.old.allocator ≡ self.now }
         ensures party { party.new.allocator ≡ self.now }
@@ -191,8 +202,8 @@ impl SharedBumpAllocator {
         self.position.load(&mut party.seat)
     }
 
-    /// Returns the number of bytes after the last chunk: the total minus the used bytes, which one load found. The party has to
-    /// be this bump's.
+    /// Returns the number of bytes after the last chunk: the total minus the used bytes, which one
+    /// load found. The party has to be this bump's.
     pub fn free_space(&self, party: &mut BumpParty) -> usize
         requires party { party.old.allocator ≡ self.now }
         ensures party { party.new.allocator ≡ self.now }
@@ -212,9 +223,10 @@ impl SharedBumpAllocator {
         self.size
     }
 
-    /// Returns the bump for one owner: over the same region, at the position that the parties' steps left (with several parties
-    /// that is tested, and no clause states it). The position is at least what this party has seen, and exactly that if it was
-    /// the only party ever. The party has to be this bump's.
+    /// Turns the shared bump back into a bump with one owner: over the same region, at the position
+    /// that the parties' steps left. (If there are several parties, this is tested, and no clause
+    /// states it.) The position is at least what this party has seen, and exactly that if the bump
+    /// has no other party. The party has to be this bump's.
     pub fn into_owner(self, party: BumpParty) -> BumpAllocator
         requires party { party.allocator ≡ self }
         ensures region { result.region ≡ self.scene.region }
@@ -224,7 +236,7 @@ impl SharedBumpAllocator {
         ensures within { result.used ≤ self.scene.region.size }
         ensures exact { self.scene.parties ≡ 1 → result.used ≡ seen_by party }
 
-        // Each chunk that was won in the party's log ends there or before.
+        // Each chunk that the party's log has won ends at or before that position.
         ensures behind { HasChunksWithin self.scene.region party.log result.used }
     {
         let SharedBumpAllocator {
@@ -237,9 +249,11 @@ impl SharedBumpAllocator {
         BumpAllocator::at_position(start, size, used)
     }
 
-    /// Returns the bump for one owner who has all its parties: over the same region, and at exactly the greatest position that
-    /// one of them has seen. The bump stands for the list that was live before it was shared, followed by the chunks that were
-    /// won since, in the order of an interleaving of all logs. The parties have to be all of this bump's parties.
+    /// Turns the shared bump back into a bump with one owner, who has all its parties: over the
+    /// same region, and at exactly the greatest position that one of them has seen. The bump stands
+    /// for the list that was live before it was shared, followed by the chunks that were won since,
+    /// in the order of an interleaving of all logs. The parties have to be all of this bump's
+    /// parties.
     pub fn into_owner_all(self, mut parties: Vec<BumpParty>) -> BumpAllocator
         requires parties { All (λ party. party.allocator ≡ self) parties.items }
         requires all { length parties.items ≡ self.scene.parties }
@@ -267,6 +281,7 @@ impl SharedBumpAllocator {
         BumpAllocator::at_position(start, size, last)
     }
 
+    /// Gives each party a seat of its own.
     fn seat_parties(&self, mut rest: Seat<u8, View>, parties: u32, all: &mut Vec<BumpParty>)
         requires table { rest.table_id ≡ self.now.table }
         requires seat { rest.me ≡ (all_parties self.now.scene, []) }
@@ -281,14 +296,16 @@ impl SharedBumpAllocator {
     }
 }
 
-/// States what holds for each party of a shared bump, and for two that met, whatever the threads did. The function does
-/// nothing: its contract is the law.
+/// States what holds for each party of a shared bump, and for two that met, whatever the threads
+/// did. The function does nothing: its contract is the law.
 ///
-/// A possible history of a party is an interleaving of its log: a list of allowed steps from the opening, in which the party's
-/// steps are exactly its log, and which leaves a position. `IsParty` has one that leaves what the party has seen, and one that
-/// leaves its floor, so that one list of steps explains its log and what its last meeting found. The steps of the others in it
-/// explain the log, and need not be those that they made. Two parties that met have one such list together: `AreInterleaved`. A
-/// list that the opening stands for is one that was live before the bump was shared.
+/// A possible history of a party is an interleaving of its log: a list of allowed steps from the
+/// opening, in which the party's steps are exactly its log, and which leaves a position. `IsParty`
+/// has one that leaves what the party has seen, and one that leaves its floor, so that one list of
+/// steps explains its log and what its last meeting found. The steps of the others in it explain
+/// the log, and need not be those that they made. Two parties that met have one such list together:
+/// `AreInterleaved`. A list that the opening stands for is one that was live before the bump was
+/// shared.
 pub fn shared_bump_law()
     // The calls of a party's history are a run of the bump object from that list.
     ensures run { (party : BumpParty) (position : ℕ) (live : List Chunk)
@@ -319,23 +336,25 @@ pub fn shared_bump_law()
         → IsParty party
         → IsSound party.allocator.scene.region (chunks_won party.log) }
 
-    // Each ends at or before what the party has seen, and so at or before its floor.
+    // These chunks end at or before the position that the party has seen, and so at or before its
+    // floor.
     ensures ends { (party : BumpParty)
         → HasChunksWithin party.allocator.scene.region party.log (seen_by party) }
 
-    // Each is apart from each chunk that was live before the bump was shared.
+    // These chunks are apart from each chunk that was live before the bump was shared.
     ensures older { (party : BumpParty) (live : List Chunk)
         → IsParty party → OpensWith party.allocator.scene live
         → All (λ older. All (AreApart older) (chunks_won party.log)) live }
 
-    // Two parties that met have one history together, whose calls are also a run: one run has the calls of both.
+    // Two parties that met have one history together, whose calls are also a run: one run has the
+    // calls of both.
     ensures both_run { (a b : BumpParty) (live : List Chunk) (met : AreInterleaved a b)
         → let scene = a.allocator.scene in
         let steps = met.1.steps in
         OpensWith scene live
         → IsCallRun scene.region live (calls_of scene steps) (live_after scene live steps) }
 
-    // Each chunk of either is in the list that this run leaves.
+    // Each chunk of either party is in the list that this run leaves.
     ensures both_held { (a b : BumpParty) (live : List Chunk) (met : AreInterleaved a b)
         → let held = Contains (live_after a.allocator.scene live met.1.steps) in
         All held (chunks_won a.log) × All held (chunks_won b.log) }
@@ -345,7 +364,7 @@ pub fn shared_bump_law()
         → IsParty a → AreInterleaved a b → a.number ≢ b.number
         → HaveChunksApart a.log b.log }
 
-    // So the same holds for each two of their chunks.
+    // So any chunk of one log is apart from any chunk of the other.
     ensures each_apart { (log other_log : BumpLog) (i j : ℕ) (chunk other : Chunk)
         → HaveChunksApart log other_log
         → slice_get (chunks_won log) i ≡ Some chunk

@@ -1,4 +1,5 @@
--- Lists of steps that are all allowed: they have no clear, and no step of a party that the machine doesn't have.
+-- Lists of steps that are all allowed: they have no clear, and no step of a party that the machine
+-- doesn't have.
 use Rattle.bb_memory_bump_machine.proofs.BumpSteps.{StepView, clears, exchanges, loads, passes, reads, step_view}
 use Rattle.bb_memory_bump_machine.specs.BumpLogs.{AllAllowed, BumpEntry, BumpLog, HasNoClear, IsAllowed, bump_history, entries_by, entry_at, history_of, is_by, log_of}
 use Rattle.bb_memory_bump_machine.specs.BumpMachine.{BumpMove, BumpScene, BumpState, BumpStep, Clear, Exchange, Load, OngoingCall, Read, bump_step}

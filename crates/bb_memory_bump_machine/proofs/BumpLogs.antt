@@ -1,4 +1,5 @@
--- A party's log determines the call that the party is in, and a step adds only to the log of its party.
+-- A party's log determines the call that the party is in, and a step adds only to the log of its
+-- party.
 use Rattle.bb_memory_bump_machine.proofs.BumpAllowed.{none_allowed}
 use Rattle.bb_memory_bump_machine.proofs.BumpSteps.{ExchangeView, ReadView, StepView, exchange_move_view, exchanges, loses, others_stay, read_move_view, reads, refuses_loss, refuses_read, sees, step_view, wins, written}
 use Rattle.bb_memory_bump_machine.specs.BumpLogs.{AllAllowed, BumpEntry, BumpLog, HasLog, IsAllowed, LogsAgree, bump_history, call_after, call_in, call_through, entries_by, entry_at, entry_of, history_of, is_by, log_of, with_entry}

@@ -50,7 +50,8 @@ idle_sees state party idle = λ call is. let none = same_Some None (Some call) (
 
 -- ONE STEP
 
--- the effect of a step that isn't a clear on a party in a call, with the exchanges that the step loses
+-- the effect of a step that isn't a clear on a party in a call, with the exchanges that the step
+-- loses
 data CallTurn (next : BumpState) (party : ℕ) (call : OngoingCall) (lost : ℕ) : Type 0 where
   goes_on : (later : OngoingCall) → IsInCall next party later → lost + call.seen ≤ later.seen → CallTurn next party call lost
   ends : IsIdle next party → lost + call.seen ≤ next.position → CallTurn next party call lost

@@ -1,4 +1,4 @@
--- Two parties, by their logs: their chunks are apart.
+-- Two parties and their logs: the chunks in one log are apart from those in the other.
 use Rattle.bb_memory_bump_machine.proofs.BumpAllowed.{no_clear_when_allowed, not_by}
 use Rattle.bb_memory_bump_machine.proofs.BumpPositions.{both_interleaved}
 use Rattle.bb_memory_bump_machine.proofs.BumpRuns.{fitting_at_opening}

@@ -45,7 +45,8 @@ calls-append region live first then between position one more =
 
 -- ONE STEP
 
--- the chunk of a layout at a position is the one that the layout gets on a list that the position stands for
+-- the chunk of a layout at a position is the one that the layout gets on a list that the position
+-- stands for
 chunk_at-next : (region : Region) (position : ℕ) (live : List Chunk) (layout : Layout) → StandsFor region position live →
     chunk_at region position layout ≡ next_chunk region live layout
 chunk_at-next region position live layout stands =

@@ -111,7 +111,8 @@ one_there state other party one now by is at =
 
 -- CALLS THAT FIT
 
--- a property of each call that a party may be in holds afterwards, if it holds for the call that is written
+-- a property of each call that a party may be in holds afterwards, if it holds for the call that is
+-- written
 pub each_call-set : (P : OngoingCall → Type 0) (calls : List (Option OngoingCall)) (party other : ℕ) (now : Option OngoingCall) →
     ((call : OngoingCall) → slice_get calls other ≡ Some (Some call) → P call) → IfSome now P →
     (call : OngoingCall) → slice_get (slice_set calls party now) other ≡ Some (Some call) → P call

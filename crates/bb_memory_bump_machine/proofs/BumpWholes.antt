@@ -1,4 +1,4 @@
--- The position by the logs of all parties, and the ends of a log's own chunks.
+-- The position that the logs of all parties determine, and the ends of the chunks in a log.
 pub use Rattle.bb_memory_bump_machine.proofs.BumpAllowed.{owner_of}
 use Rattle.bb_memory_bump_machine.proofs.BumpAllowed.{first_allowed, parties_stay, rest_allowed}
 use Rattle.bb_memory_bump_machine.proofs.BumpPositions.{below_greater, greater_below, seen_below, step_leaves}
@@ -92,7 +92,8 @@ stays_below region state (step ∷ steps) bound allowed below logs =
     (λ party there. rest_own (HasPositionUpTo bound region) (is_by party step) entry (entries_by party later)
     (logs party (omega (arith, there, parties_stay region state step move view))))
 
--- If every party's log is in the list, the position is at most the opening or the greatest that one of them has seen.
+-- If every party's log is in the list, the position is at most the opening or the greatest that one
+-- of them has seen.
 pub whole_bounds : (scene : BumpScene) (position bound : ℕ) (logs : List BumpLog) → LogsAgree scene position logs →
     scene.opening ≤ bound →
     ((party : ℕ) → party < scene.parties → (log : BumpLog) × HasLog logs party log × (seen_in scene log ≤ bound)) →

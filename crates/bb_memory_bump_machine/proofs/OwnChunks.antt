@@ -1,4 +1,4 @@
--- A party's own chunks, by its log.
+-- A party's own chunks, as its log has them.
 use Rattle.bb_memory_bump_machine.proofs.BumpAllowed.{no_clear_when_allowed}
 use Rattle.bb_memory_bump_machine.proofs.BumpMeetings.{all_in_log, all_parts, allowed_stands, apart_behind}
 use Rattle.bb_memory_bump_machine.proofs.BumpStretches.{stretch_grows}

@@ -1,4 +1,5 @@
--- The bump machine's histories, its parties' logs, and the calls of the bump object that its steps make.
+-- The bump machine's histories, its parties' logs, and the calls of the bump object that its steps
+-- make.
 use Rattle.bb_memory_bump_machine.specs.BumpMachine.{BumpOutcome, BumpScene, BumpState, BumpStep, Clear, Cleared, Exchange, Layout, Load, Loaded, Loses, OngoingCall, Passed, Read, RefusedAtLoss, RefusedAtRead, Sees, Wins, bump_step, left_by, opening_state, position_behind}
 use Rattle.bb_memory_traits.specs.BumpObject.{StandsFor, bump_object}
 use Rattle.bb_memory_traits.specs.Chunk.{Chunk, Region}
@@ -50,7 +51,7 @@ outcome_after scene steps step = (bump_step scene.region (left_by scene steps) s
 
 -- PARTIES
 
--- the step is this party's; a clear is no party's
+-- the step is this party's; a clear belongs to no party
 abbrev pub is_by : ℕ → BumpStep → Bool
 is_by party (Read other layout) = other == party
 is_by party (Exchange other) = other == party
@@ -134,7 +135,7 @@ call_in log = call_through None log
 
 -- POSITIONS THAT A PARTY HAS SEEN
 
--- the position that a step found; after a win the one that it made
+-- the position that a step found; for a win, the position that it made
 abbrev pub position_in : Region → BumpOutcome → Option ℕ
 position_in region (Sees position) = Some position
 position_in region (RefusedAtRead position) = Some position
@@ -202,7 +203,8 @@ pub record Interleaving (scene : BumpScene) (party : ℕ) (log : BumpLog) (posit
   pub leaves : (left_by scene steps).position ≡ position
   pub logged : log_of scene steps party ≡ log
 
--- An interleaving of the two parties' logs with some logs of the others, which leaves this position.
+-- An interleaving of the two parties' logs with some logs of the others, which leaves this
+-- position.
 pub record CommonInterleaving (scene : BumpScene) (party : ℕ) (log : BumpLog) (other : ℕ)
     (other_log : BumpLog) (position : ℕ) : Type 0 where
   pub steps : List BumpStep
@@ -218,8 +220,8 @@ pub data BumpCall : Type 0 where
   Allocate : (layout : Layout) → (answer : Result Chunk AllocationError) → BumpCall
   ClearAll : BumpCall
 
--- With the live list `old` the bump object may make this call, and `new` is its live list after it.
--- A clear empties every list, even the empty one.
+-- On the live list `old` the bump object may make this call, and `new` is the live list afterwards.
+-- After a clear the list is empty, even if it was empty before.
 abbrev pub CallStep : Region → List Chunk → BumpCall → List Chunk → Type 0
 CallStep region old (Allocate layout answer) new = Allocates (bump_object region) old layout answer new
 CallStep region old ClearAll new = new ≡ []

@@ -1,5 +1,5 @@
--- The bump machine: what any number of parties do to one position, one atomic step at a time. A party is named by its
--- number, from 0 on.
+-- The bump machine: what any number of parties do to one position, one atomic step at a time. A
+-- party is named by its number, from 0 on.
 pub use Rattle.bb_memory_bump_machine.specs.declared.steps.bump.BumpOutcome.{BumpOutcome}
 pub use Rattle.bb_memory_bump_machine.specs.declared.steps.bump.BumpOutcome.TheVariants.{Cleared, Loaded, Loses, Passed, RefusedAtLoss, RefusedAtRead, Sees, Wins}
 pub use Rattle.bb_memory_bump_machine.specs.declared.steps.bump.BumpStep.{BumpStep}
@@ -22,7 +22,8 @@ pub record BumpState : Type 0 where
   pub position : ℕ
   pub calls : List (Option OngoingCall)
 
--- how a machine begins: its region, the position that it opens at, and how many parties it has
+-- the scene in which a machine begins: its region, the position at the opening, and how many
+-- parties it has
 pub record BumpScene : Type 0 where
   pub region : Region
   pub opening : ℕ
@@ -69,21 +70,21 @@ AllFitting region state = (party : ℕ) (call : OngoingCall) → IsInCall state 
 abbrev pub ending : BumpOutcome → ℕ → PartyMove
 ending outcome position = record { outcome = outcome; position = position; call = None }
 
--- a move with this outcome that leaves the party in a call for this layout, which has seen this position, and the machine at
--- this position
+-- a move with this outcome that leaves the party in a call for this layout, which has seen this
+-- position, and the machine at this position
 abbrev pub seeing : BumpOutcome → ℕ → Layout → PartyMove
 seeing outcome position layout =
     let call : OngoingCall = record { layout = layout; seen = position } in
     record { outcome = outcome; position = position; call = Some call }
 
--- A read finds this position. If the layout fits there, a call begins, which has seen it. Otherwise
--- the request is refused.
+-- A read finds this position. If the layout fits there, a call begins, which has seen the position.
+-- Otherwise the request is refused.
 abbrev pub read_move : Region → ℕ → Layout → PartyMove
 read_move region position layout =
     if fits region position layout then seeing (Sees position) position layout else ending (RefusedAtRead position) position
 
--- A lost exchange finds this position. If the layout fits there, the call goes on and has seen it.
--- Otherwise the request is refused.
+-- A lost exchange finds this position. If the layout fits there, the call goes on, and has seen the
+-- position. Otherwise the request is refused.
 abbrev pub loss_move : Region → ℕ → Layout → PartyMove
 loss_move region position layout =
     if fits region position layout then seeing (Loses position) position layout else ending (RefusedAtLoss position) position
@@ -112,26 +113,28 @@ moved state party turn = record {
   state = record { position = turn.position; calls = slice_set state.calls party turn.call };
 }
 
--- A read, by what the machine has for its party: idle is `Some None`, a call in progress is `Some
--- (Some call)`, and `None` isn't a party of the machine. The read is allowed if the party is idle
--- and requests at least one byte.
+-- A read by a party whose state is the last argument: `Some None` if the party is idle,
+-- `Some (Some call)` if it is in a call, and `None` if the machine has no such party. The read is
+-- allowed if the party is idle and requests at least one byte.
 abbrev pub read : Region → BumpState → ℕ → Layout → Option (Option OngoingCall) → BumpMove
 read region state party layout (Some None) =
     if layout.size == 0 then passed state else moved state party (read_move region state.position layout)
 read region state party layout _ = passed state
 
--- An exchange, by what the machine has for its party. It is allowed if the party is in a call.
+-- An exchange by a party whose state is the last argument, as for `read`. The exchange is allowed
+-- if the party is in a call.
 abbrev pub exchange : Region → BumpState → ℕ → Option (Option OngoingCall) → BumpMove
 exchange region state party (Some (Some call)) = moved state party (exchange_move region state.position call)
 exchange region state party _ = passed state
 
--- A load, by what the machine has for its party. It is allowed if the party is idle, and changes
--- nothing.
+-- A load by a party whose state is the last argument, as for `read`. The load is allowed if the
+-- party is idle, and changes nothing.
 abbrev pub load : BumpState → Option (Option OngoingCall) → BumpMove
 load state (Some None) = record { outcome = Loaded state.position; state = state }
 load state _ = passed state
 
--- A step in a state. A clear sets the position to 0; calls in progress stay.
+-- The effect of a step in this state. A clear sets the position to 0; calls in progress are
+-- unchanged.
 abbrev pub bump_step : Region → BumpState → BumpStep → BumpMove
 bump_step region state (Read party layout) = read region state party layout (slice_get state.calls party)
 bump_step region state (Exchange party) = exchange region state party (slice_get state.calls party)

@@ -45,7 +45,8 @@ opened region parties =
 abbrev pub in_state : BumpWorld → BumpState → BumpWorld
 in_state world state = record { region = world.region; state = state }
 
--- a call that makes one step: it returns the outcome, and the world is in the state after the step
+-- a call of a world that makes this step: the call returns the outcome, and the world is in the
+-- state after the step
 pub record Steps (old : BumpWorld) (step : BumpStep) (answer : BumpOutcome) (new : BumpWorld) : Type 0 where
   pub outcome : answer ≡ (bump_step old.region old.state step).outcome
   pub state : new ≡ in_state old (bump_step old.region old.state step).state
@@ -58,8 +59,8 @@ outcomes_of world steps = histories.outcomes_of (histories.bump_history world.re
 abbrev pub after_steps : BumpWorld → List BumpStep → BumpWorld
 after_steps world steps = in_state world (bump_after world.region world.state steps)
 
--- A call that makes these steps: it returns their outcomes, and the world is the one after them. If
--- memory for the outcomes runs out, no step is made.
+-- A call of a world that makes these steps: the call returns their outcomes, and the world is in
+-- the state after them. If memory for the outcomes runs out, no step is made.
 pub record Replays {Z E : Type 0} (old : BumpWorld) (steps : List BumpStep) (answer : Result (Vec BumpOutcome Z) E)
     (new : BumpWorld) : Type 0 where
   pub outcomes : IfOk answer (λ found. found.items ≡ outcomes_of old steps)

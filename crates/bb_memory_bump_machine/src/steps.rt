@@ -1,4 +1,5 @@
-//! The machine's steps with the theorem about every list of them, and a machine that a caller steps by hand.
+//! The machine's steps with the theorem about every list of them, and a machine that a caller steps
+//! by hand.
 mod bump;
 mod bump_world;
 

@@ -1,6 +1,6 @@
-# find_package(bb_memory): the targets bb_memory::bb_memory, the shared library, and
-# bb_memory::static, the archive. The folders are found from this file's, which stands in
-# lib/cmake/bb_memory, so that an installation may be moved.
+# find_package(bb_memory) defines the targets bb_memory::bb_memory, the shared library, and
+# bb_memory::static, the archive. The folders are found relative to this file, which is in
+# lib/cmake/bb_memory, so that an installation can be moved.
 get_filename_component(_bb_memory_lib "${CMAKE_CURRENT_LIST_DIR}/../.." ABSOLUTE)
 set(_bb_memory_include "@INCLUDE@")
 if(NOT IS_ABSOLUTE "${_bb_memory_include}")

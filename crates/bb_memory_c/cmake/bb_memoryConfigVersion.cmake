@@ -1,5 +1,5 @@
-# A program's text is for one major version, from the minor version and the patch on that it asks
-# for. A range is taken where this version lies in it.
+# A program that requires a version accepts any later one with the same major version. If it
+# requires a range, it accepts this version if that lies in the range.
 set(PACKAGE_VERSION "@VERSION@")
 set(PACKAGE_VERSION_COMPATIBLE FALSE)
 if(PACKAGE_FIND_VERSION VERSION_GREATER PACKAGE_VERSION)

@@ -1,4 +1,4 @@
--- The results of a party's detaching of a bucket.
+-- The results of a party's calls that detach a bucket.
 use Rattle.bb_memory_c.specs.SharedPools.{Detached, HasDetached, HasOthers, HoldsAt, TellsDetach, geometry_of}
 use Rattle.bb_memory_c_calls.specs.declared.code.TheConstants.{OK as ok}
 use Rattle.bb_memory_shared_pools.specs.SharedPool.{TakenBucket}

@@ -4,10 +4,11 @@ use Rattle.bb_memory_index_set.specs.IndexSets.{Has}
 use Rattle.bb_memory_lists.proofs.SliceGets.{length-set_at, slice_get-replicated, slice_get-set, slice_get-set_other, slice_get-set_same}
 use Rattle.bb_memory_pool_machine.specs.PoolLogs.{IsHeldAfter}
 use Rattle.bb_memory_shared_pools.proofs.SharedPoolLaws.{held_below}
-use Rattle.bb_memory_shared_pools.specs.SharedPool.{IsParty, SharedPool}
-use Rattle.bb_memory_shared_pools.specs.SharedPoolCaching.{CachingParty, IsOut}
+use Rattle.bb_memory_shared_pools.specs.SharedPool.{IsParty, SharedPool, TakenBucket}
+use Rattle.bb_memory_shared_pools.specs.SharedPoolCaching.{CachingParty, IsOut, ServesCaching}
 use Rattle.bb_memory_shared_pools.specs.SharedPoolLeaving.{HoldsSome}
-use Rattle.std.proofs.Common.{Bool, List, None, Some, [], ap, arith, false, inl, inr, length, refl, replicate, set, subst, sym, true, ℕ, ◌+◌, ◌<◌, ◌↔◌, ◌∙◌, ◌≡◌, ◌≢◌, ◌≤◌}
+use Rattle.bb_memory_traits.specs.declared.layout.Layout.{Layout}
+use Rattle.std.proofs.Common.{Bool, List, None, Ok, Some, [], ap, arith, false, inl, inr, length, refl, replicate, set, subst, sym, true, ℕ, ◌+◌, ◌<◌, ◌↔◌, ◌∙◌, ◌≡◌, ◌≢◌, ◌≤◌}
 use Rattle.std.proofs.lemmas.Bool.{cases_eq, cases_lt, false≢true}
 use Rattle.std.proofs.lemmas.List.{length-replicate}
 use Rattle.std.proofs.lemmas.Option.{same_Some, slice_get-get_or}
@@ -175,6 +176,16 @@ pub joined-gains : {pool : SharedPool} {joined after : CachingParty} (number : �
     IsJoinedAt pool after (set list number true)
 joined-gains number at same most below out kept others = joined-noted number true at same most (λ _. below)
     (λ _. out, λ _. refl) (λ other apart. (kept other, others other apart))
+
+-- after a request that took a bucket
+pub joined-takes : {pool : SharedPool} {joined after : CachingParty} {list : List Bool} {layout : Layout}
+    (bucket : TakenBucket) → IsJoinedAt pool joined list → ServesCaching joined layout (Ok bucket) after →
+    IsJoinedAt pool after (set list bucket.number true)
+joined-takes {after = after} bucket at serves =
+    let number = bucket.number in
+    let below = subst (λ (p : SharedPool). number < p.scene.geometry.buckets) (serves.party ∙ at.theirs)
+    (held_below after.party serves.serves.is_party number serves.serves.held) in
+    joined-gains number at serves.party serves.most below serves.taken serves.others_kept serves.others
 
 pub joined-loses : {pool : SharedPool} {joined after : CachingParty} (number : ℕ) {list : List Bool} →
     IsJoinedAt pool joined list → after.party.allocator ≡ joined.party.allocator → after.most ≡ joined.most →

@@ -1,4 +1,5 @@
--- Parties by their numbers: the position of one among those that haven't joined, and how it joins.
+-- Parties by their numbers: the position of a party among those that haven't joined, and how that
+-- party joins.
 use Rattle.bb_memory_c.specs.SharedPools.{HasUnjoined, IsNumberAt, IsWithout, PoolParties, with_last, with_unjoined}
 use Rattle.bb_memory_lists.proofs.SliceGets.{slice_get-last}
 use Rattle.bb_memory_shared_pools.specs.SharedPool.{PoolParty}

@@ -1,4 +1,4 @@
--- Handles go to other threads: what they own may.
+-- Handles may go to other threads, since what they own may.
 use Rattle.bb_memory_c_calls.specs.Handles.{heap, owns_if}
 use Rattle.std.proofs.Crossing.{frees}
 use Rattle.std.specs.Prelude.{None, Option, Some}

@@ -1,4 +1,4 @@
--- Parties that haven't joined: when a shared pool is made, and one more.
+-- The parties that haven't joined: when a shared pool is made, and with one more party.
 use Rattle.bb_memory_c.specs.SharedPools.{AreUnjoined}
 use Rattle.bb_memory_shared_pools.specs.SharedPool.{AreFresh, PoolParty, SharedPool}
 use Rattle.std.proofs.Common.{List, [], ap, arith, length, subst, sym, ℕ, ◌++◌, ◌<◌, ◌∙◌, ◌∷◌, ◌≡◌, ◌≤◌}

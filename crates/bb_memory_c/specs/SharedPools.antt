@@ -235,7 +235,7 @@ forgetting_pool = record sharing_pool { leaves = IsForgotten }
 
 -- DETACHED BUCKETS
 
--- what a `bb_detached` holds: a detached bucket or none
+-- the contents of a `bb_detached`: a detached bucket or none
 abbrev pub Detached : Type 0
 Detached = Option TakenBucket
 

@@ -161,8 +161,8 @@ pub extern "C" fn bb_detached_destroy(alloc: Global, detached: &mut DetachedHand
     call::free(detached, alloc)
 }
 
-/// Returns the length in bytes of the chunk with which the bucket in it was detached, or `BB_DETACHED_EMPTY` if no bucket is in
-/// it.
+/// Returns the length in bytes of the chunk that was in the bucket when the bucket was detached, or
+/// `BB_DETACHED_EMPTY` if the `bb_detached` has no bucket.
 #[unsafe(no_mangle)]
 pub extern "C" fn bb_detached_len(detached: &mut DetachedHandle) -> Figure
     ensures { Answers detached.old.value detached.new.value (result ≡ no_figure uninitialized)

@@ -3,12 +3,13 @@ ghost use Rattle.bb_memory_c.specs.SharedPools.{AnswersJoinNumber, AreListed, Ar
 ghost use Rattle.bb_memory_c_calls.specs.Answers.{figure_of, no_figure};
 ghost use Rattle.bb_memory_c_calls.specs.Calls.{Answers, AnswersDestroy, AnswersFree, AnswersInfo, AnswersJoin, AnswersLeave, AnswersNumber, AnswersPlace, AnswersPoolMake, AnswersRequest, AnswersReturn, AnswersReturns, AnswersTake, AnswersTakings, AnswersWhether, IfBoth};
 ghost use Rattle.bb_memory_c_calls.specs.declared.code.TheConstants.{OK as ok, UNINITIALIZED as uninitialized};
-ghost use Rattle.bb_memory_shared_pools.specs.SharedPool.{IsParty};
+ghost use Rattle.bb_memory_pool_machine.specs.PoolLogs.{IsHeldAfter};
+ghost use Rattle.bb_memory_shared_pools.specs.SharedPool.{IsParty, chunk_of, taken_bucket};
 ghost use Rattle.bb_memory_shared_pools.specs.SharedPoolCaching.{CachingParty, IsOut, ReturnsCaching};
 ghost use Rattle.bb_memory_traits.specs.Chunk.{region_at};
 ghost use Rattle.bb_memory_traits.specs.PoolObject.{bucket_place};
 ghost use Rattle.std.specs.Arc.{arc_value};
-ghost use Rattle.std.specs.Prelude.{Contains, IfErr, IfNone, IfOk, IfSome, IsFalse, IsTrue, Some, false, length, slice_get, slice_set, vec_capacity, ℕ, ◌<◌, ◌↔◌, ◌≡◌, ◌≤◌};
+ghost use Rattle.std.specs.Prelude.{Contains, IfErr, IfNone, IfOk, IfSome, IsFalse, IsTrue, Some, false, length, slice_get, slice_set, true, vec_capacity, ℕ, ◌<◌, ◌↔◌, ◌≡◌, ◌≤◌};
 
 use crate::handle::{Handle, PoolPartyHandle, SharedPoolHandle};
 use bb_memory_c_calls::answer::{Answer, Figure, Holder, SharedPoolInfo};
@@ -96,6 +97,34 @@ fn clear(in_use: &mut Vec<bool>, number: u32) -> Option<bool>
     Some(was_in_use)
 }
 
+/// Notes that the party has the bucket of this number in use. Returns the chunk of `len` bytes in the
+/// bucket. If the bucket was cached, its entry is written without a test, since a party that caches
+/// has an entry for each bucket.
+///
+/// The caller borrows the pool anew for this call, and not across the search that took the bucket, so
+/// that no register has to keep the pool's address during the search.
+#[inline(always)]
+fn begin_use(
+    party: &CachingParty,
+    pool: &SharedPoolAllocator,
+    in_use: &mut Vec<bool>,
+    number: u32,
+    was_cached: bool,
+    len: usize,
+) -> Chunk
+    requires theirs { party.now.party.allocator ≡ pool.now }
+    requires held { IsHeldAfter party.now.party.log number }
+    requires short { len ≤ pool.now.scene.geometry.bucket.size }
+    requires listed { IsTrue was_cached → number < length in_use.old.items }
+    ensures chunk { result ≡ chunk_of (taken_bucket pool.now number len) }
+    ensures noted { in_use.new.items ≡ slice_set in_use.old.items number true }
+{
+    if was_cached || (number as usize) < in_use.len() {
+        in_use[number as usize] = true;
+    }
+    by_number::bucket(pool, party.party(), number, len).chunk()
+}
+
 /// Returns whether the party has the bucket of this number in use, and clears its entry. If the party caches no bucket, this loads
 /// the bucket's flag.
 #[inline(always)]
@@ -143,7 +172,7 @@ impl JoinedPool {
         Box::new(alloc, joined).map_err(|refused| refused.value.party.into_inner())
     }
 
-    /// Proof hint: brings into scope what holds of every party.
+    /// Proof hint: brings into scope what holds for every party.
     fn invariant(&self)
         ensures party { IsParty self.now.party }
         ensures few { length self.now.cached ≤ self.now.most }
@@ -273,9 +302,12 @@ impl Gives<SharedPoolInfo> for JoinedPool {
 
     #[inline(always)]
     fn give(&mut self, layout: Layout) -> Result<Chunk, AllocationError> {
-        let bucket = self.party.allocate(&*self.pool, layout)?;
-        note(&mut self.in_use, bucket.number(), true);
-        Ok(bucket.chunk())
+        self.invariant();
+        let is_cached = !self.party.cached().is_empty();
+        let number = self.party.allocate(&*self.pool, layout)?.number();
+        let pool = &*self.pool;
+        let len = layout.size();
+        Ok(begin_use(&self.party, pool, &mut self.in_use, number, is_cached, len))
     }
 
     fn show(&mut self) -> SharedPoolInfo {
@@ -310,13 +342,16 @@ impl Bucketed for JoinedPool {
 
     #[inline(always)]
     fn take(&mut self) -> Result<Chunk, AllocationError> {
-        let bucket = self.party.take(&*self.pool)?;
-        note(&mut self.in_use, bucket.number(), true);
-        Ok(bucket.chunk())
+        self.invariant();
+        let is_cached = !self.party.cached().is_empty();
+        let number = self.party.take(&*self.pool)?.number();
+        let pool = &*self.pool;
+        let len = pool.bucket_layout().size();
+        Ok(begin_use(&self.party, pool, &mut self.in_use, number, is_cached, len))
     }
 
     fn is_short(&self) -> bool {
-        self.party.number_of_cached() > 0
+        !self.party.cached().is_empty()
     }
 
     fn limit(&self) -> Layout {

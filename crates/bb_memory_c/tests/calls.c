@@ -1,7 +1,8 @@
-// Each call, and each cause of a refusal; and each call that takes memory with each of its requests
-// for memory refused in turn: `malloc` is wrapped at the link. The places are numbers, at which
-// there is no memory.
+// Tests each call with each of its errors, and each call that takes memory with each of its
+// requests for memory failing in turn: `malloc` and `posix_memalign` are wrapped at link time. The
+// places are only numbers: there is no memory at them.
 #define BB_PLACES_ARE_NUMBERS
+#include <errno.h>
 #include <pthread.h>
 #include <sched.h>
 #include <stdint.h>
@@ -20,14 +21,24 @@ extern "C" {
 #endif
 void *__real_malloc(size_t size);
 void *__wrap_malloc(size_t size);
+int __real_posix_memalign(void **block, size_t align, size_t size);
+int __wrap_posix_memalign(void **block, size_t align, size_t size);
 #ifdef __cplusplus
 }
 #endif
 
-void *__wrap_malloc(size_t size) {
+static int is_refused(size_t size) {
     requests++;
     bytes += size;
-    return requests == to_refuse ? NULL : __real_malloc(size);
+    return requests == to_refuse;
+}
+
+void *__wrap_malloc(size_t size) {
+    return is_refused(size) ? NULL : __real_malloc(size);
+}
+
+int __wrap_posix_memalign(void **block, size_t align, size_t size) {
+    return is_refused(size) ? ENOMEM : __real_posix_memalign(block, align, size);
 }
 
 static void expect_at(int line, int holds) {
@@ -55,7 +66,7 @@ static int same(size_t figure, size_t number) {
     return figure == number;
 }
 
-// Returns the figures of what a handle owns, which isn't empty.
+// Returns the figures of what a handle owns. The handle must not be empty.
 #define INFO_OF(KIND, FIGURES)                            \
     static FIGURES of_##KIND(bb_##KIND *handle) {         \
         FIGURES info;                                     \
@@ -107,8 +118,8 @@ static void run_names(void) {
     }
 }
 
-// The bytes that are said have room for exactly that number of buckets, and one byte less for one
-// bucket less.
+// The number of bytes that the library returns has room for exactly that number of buckets, and one
+// byte less has room for one bucket fewer.
 static void run_bytes(void) {
     static unsigned char buffer[BB_BYTES_FOR(48, 32, 3)];
     EXPECT(sizeof buffer == 192);
@@ -256,8 +267,8 @@ static void run_pool(void) {
     EXPECT(bb_pool_info(&pool, &info) == BB_UNINITIALIZED);
 }
 
-// Takes both buckets of 500 bytes, and the one that came back: what a request of the bucket's own
-// size and alignment gets.
+// Takes both buckets of 500 bytes, gives one back and takes it again, as requests of the bucket's
+// own size and alignment do.
 #define RUN_TAKE(POOL, END, MADE)                              \
     do {                                                       \
         requests = 0;                                          \
@@ -354,7 +365,7 @@ static void run_starts(void) {
     EXPECT(bb_shared_pool_destroy(&shared) == BB_OK);
 }
 
-// A region without room for one bucket is refused, after what is invalid.
+// A region without room for one bucket is refused. Invalid arguments are reported first.
 static void run_no_bucket(void) {
     bb_pool pool = BB_EMPTY;
     bb_shared_pool shared = BB_EMPTY;
@@ -373,7 +384,8 @@ static void run_no_bucket(void) {
     EXPECT(bb_pool_destroy(&pool) == BB_OK);
 }
 
-// Fewer buckets than requested are refused, and the handle is empty then.
+// If there would be fewer buckets than requested, the call is refused, and the handle is empty
+// afterwards.
 static void run_at_least(void) {
     bb_pool pool = BB_EMPTY;
     bb_shared_pool shared = BB_EMPTY;
@@ -394,7 +406,7 @@ static void run_at_least(void) {
     EXPECT(bb_shared_pool_destroy(&shared) == BB_OK);
 }
 
-// Requests at most this many bytes of `malloc`.
+// Expects that the call requests at most MOST bytes from `malloc`.
 #define WITHIN(MOST, MAKE)                          \
     do {                                            \
         bytes = 0;                                  \
@@ -423,7 +435,7 @@ static void run_memory(void) {
             WITHIN(256 + 16 * parties,
                    bb_shared_bump_init(&shared_bump, 4096, 8 * buckets, parties));
             WITHIN(64, bb_shared_bump_join(&shared_bump, &bump_party));
-            WITHIN(336 + 16 * buckets + 12 * parties,
+            WITHIN(464 + 16 * buckets + 12 * parties,
                    bb_shared_pool_init(&shared_pool, 8, 8, 4096, 8 * buckets, parties));
             WITHIN(256, bb_shared_pool_join(&shared_pool, &pool_party));
             WITHIN(256 + buckets + 4 * (buckets / 2),
@@ -497,8 +509,8 @@ static void run_counts(void) {
     EXPECT(bb_shared_pool_info(&pool, &info) == BB_UNINITIALIZED);
 }
 
-// The buckets of an abandoned party stay held, it joins no more, and its pool is destroyed no more.
-// A pool that is abandoned stays as long as one of its parties does.
+// The buckets of an abandoned party stay held, the party can't join again, and its pool can't be
+// destroyed. An abandoned pool exists as long as one of its parties does.
 static void run_abandoned_pool_party(void) {
     bb_shared_pool pool = BB_EMPTY;
     bb_pool_party freed = BB_EMPTY;
@@ -527,8 +539,8 @@ static void run_abandoned_pool_party(void) {
     EXPECT(bb_pool_party_abandon(&freed) == BB_UNINITIALIZED);
 }
 
-// The chunks of an abandoned party stay used, it joins no more, and its bump is destroyed no more.
-// A bump that is abandoned stays as long as one of its parties does.
+// The chunks of an abandoned party stay used, the party can't join again, and its bump can't be
+// destroyed. An abandoned bump exists as long as one of its parties does.
 static void run_abandoned_bump_party(void) {
     bb_shared_bump bump = BB_EMPTY;
     bb_bump_party freed = BB_EMPTY;
@@ -551,7 +563,7 @@ static void run_abandoned_bump_party(void) {
     EXPECT(bb_bump_party_abandon(&freed) == BB_UNINITIALIZED);
 }
 
-// Large numbers are served.
+// Large numbers work.
 static void run_large(void) {
     bb_bump bump = BB_EMPTY;
     bb_one_chunk one = BB_EMPTY;
@@ -586,8 +598,8 @@ static void run_many_parties(void) {
     EXPECT(bb_shared_pool_destroy(&pool) == BB_OK);
 }
 
-// A call answers BB_MALLOC_REFUSED with each of its requests refused, and leaves its handle empty.
-// With none refused it is done.
+// If any one of its requests for memory fails, a call returns BB_MALLOC_REFUSED, and leaves its
+// handle empty. If none fails, the call succeeds.
 #define WITH_EACH_REFUSED(FREE, MAKE)                                                \
     do {                                                                             \
         uint32_t told = BB_MALLOC_REFUSED;                                           \
@@ -635,7 +647,7 @@ static void run_refused_memory(void) {
                           bb_shared_pool_join(&shared_pool, &pool_parties[at]));
     }
     bb_bump_party no_bump_party = BB_EMPTY;
-    // A refused join loses no party, and there are two.
+    // A failed join loses no party: there still are two.
     EXPECT(bb_shared_bump_join(&shared_bump, &no_bump_party) == BB_NO_PARTY);
     // No other call takes memory.
     requests = 0;
@@ -705,7 +717,7 @@ static void run_reset(void) {
         EXPECT(given(bb_bump_party_allocate(&one, 48, 8), 4096));
         EXPECT(given(bb_bump_party_allocate(&other, 16, 8), 4144));
     }
-    // A bump is destroyed only when each party has left. Refused, it is as it was.
+    // A bump can be destroyed only when each party has left. A refused call changes nothing.
     requests = 0;
     EXPECT(bb_shared_bump_destroy(&bump) == BB_PARTIES_JOINED);
     EXPECT(bb_shared_bump_leave(&bump, &one) == BB_OK);
@@ -725,8 +737,8 @@ static void run_reset(void) {
     EXPECT(bb_shared_bump_abandon(&bump) == BB_OK);
 }
 
-// A party of a pool joins and leaves ten thousand times. It leaves with what it holds, some buckets
-// or none, so it finds every bucket free then but what another party holds.
+// A party of a pool joins and leaves ten thousand times. Each time it leaves while it holds some
+// buckets or none, so it then finds every bucket free except the one that another party holds.
 static void run_parties_come_and_go(void) {
     bb_shared_pool pool = BB_EMPTY;
     bb_pool_party one = BB_EMPTY;
@@ -768,7 +780,7 @@ static void run_parties_come_and_go(void) {
         EXPECT(same(of_pool_party(&one).held_buckets, 0));
         EXPECT(is(bb_pool_party_holds(&other, kept.place), 1));
     }
-    // What was left is any party's.
+    // Any party may take the buckets that were given back.
     EXPECT(bb_pool_party_allocate(&one, 1, 1).code == BB_OK);
     EXPECT(bb_shared_pool_leave(&pool, &one) == BB_OK);
     for (size_t held = 1; held < 5; held++)
@@ -780,8 +792,8 @@ static void run_parties_come_and_go(void) {
     EXPECT(bb_pool_party_abandon(&other) == BB_OK);
 }
 
-// A party that caches two of its buckets takes these again, the one that came back last first. To
-// the other party they are held, until they are flushed, or the party is to cache others, or
+// A party that caches two of its buckets takes these again, beginning with the one that came back
+// last. For the other party they are held, until the party flushes them, sets its cache anew, or
 // leaves.
 static void run_caching(void) {
     bb_shared_pool pool = BB_EMPTY;
@@ -813,7 +825,7 @@ static void run_caching(void) {
         EXPECT(place != places[1]);
     }
     EXPECT(refused(bb_pool_party_allocate(&other, 8, 8), BB_OUT_OF_MEMORY));
-    // A refused request for memory leaves all as it is.
+    // A failed request for memory changes nothing.
     requests = 0;
     to_refuse = 1;
     EXPECT(bb_pool_party_cache(&one, 3) == BB_MALLOC_REFUSED);
@@ -844,8 +856,8 @@ static void run_caching(void) {
     EXPECT(bb_detached_destroy(&detached) == BB_OK);
 }
 
-// Returns whether the party has the bucket at this place in use. If it hasn't, no call takes the
-// bucket from it.
+// Returns whether the party has the bucket at this place in use. If it doesn't, no call accepts the
+// bucket from the party.
 static int has(bb_pool_party *party, size_t place) {
     bb_number told = bb_pool_party_holds(party, place);
     EXPECT(told.code == BB_OK);
@@ -862,7 +874,7 @@ static int has(bb_pool_party *party, size_t place) {
 }
 
 // A caching party has in use what it took or attached, and what it held before it cached any. It
-// hasn't what it gave back, cached or not, nor what it detached.
+// doesn't have in use what it gave back, cached or not, nor what it detached.
 static void run_in_use(void) {
     bb_shared_pool pool = BB_EMPTY;
     bb_pool_party one = BB_EMPTY;
@@ -905,7 +917,7 @@ static void run_in_use(void) {
     EXPECT(given(bb_pool_party_attach_number(&one, (uint32_t)bucket, 0), held));
     EXPECT(has(&one, held));
 
-    // It caches fewer, then more; a refused request for memory leaves all as it is.
+    // The party caches fewer buckets, then more. A failed request for memory changes nothing.
     EXPECT(bb_pool_party_cache(&one, 0) == BB_OK);
     EXPECT(has(&one, held));
     EXPECT(!has(&one, back));
@@ -929,8 +941,9 @@ static void run_in_use(void) {
     EXPECT(bb_detached_destroy(&detached) == BB_OK);
 }
 
-// A party takes many buckets and gives many back as it does one by one: fewer if none is left, and
-// up to a place that it doesn't hold. Slots after the taken ones stay as they are.
+// Taking many buckets and giving many back does the same as one call for each bucket: fewer are
+// taken if none is left, and buckets are given back up to the first place that the party doesn't
+// hold. Slots after the taken ones are unchanged.
 static void run_many(void) {
     bb_shared_pool pool = BB_EMPTY;
     bb_pool_party one = BB_EMPTY;
@@ -978,8 +991,8 @@ static void run_many(void) {
     EXPECT(bb_shared_pool_destroy(&pool) == BB_OK);
 }
 
-// A party of another pool or bump, and a bucket of another pool, are refused by a code, and stay as
-// they are.
+// A party of another pool or bump, and a bucket of another pool, are refused with a code, and don't
+// change.
 static void run_others(void) {
     bb_shared_pool pool = BB_EMPTY;
     bb_shared_pool far = BB_EMPTY;
@@ -1017,8 +1030,8 @@ static void run_others(void) {
     EXPECT(bb_shared_bump_destroy(&other) == BB_OK);
 }
 
-// A shared pool may lie in any bucket of another one but bucket 0, at which both would begin at one
-// place. Each pool refuses what is the other's.
+// A shared pool may be in any bucket of another one except bucket 0, since both would then begin at
+// the same place. Each pool refuses what belongs to the other.
 static void run_nested(void) {
     bb_shared_pool outer = BB_EMPTY;
     bb_shared_pool inner = BB_EMPTY;
@@ -1051,7 +1064,7 @@ static void run_nested(void) {
     EXPECT(bb_shared_pool_destroy(&outer) == BB_OK);
 }
 
-// A bucket goes from one party to another, and each refusal comes by its first cause.
+// A bucket goes from one party to another. If several errors apply, the first one is returned.
 static void run_detached(void) {
     bb_shared_pool pool = BB_EMPTY;
     bb_pool_party parties[2] = {BB_EMPTY, BB_EMPTY};
@@ -1130,7 +1143,7 @@ static void run_detached(void) {
     EXPECT(bb_shared_pool_join(&pool, &parties[0]) == BB_OK);
     EXPECT(given(bb_pool_party_allocate(&parties[0], 48, 8), kept.place));
     EXPECT(refused(bb_pool_party_allocate(&parties[0], 48, 8), BB_OUT_OF_MEMORY));
-    // A `bb_detached` keeps no pool: it is freed after the pool of the bucket that is in it.
+    // A `bb_detached` doesn't keep a pool alive: here it is freed after the pool of its bucket.
     EXPECT(bb_pool_party_detach(&parties[0], kept.place, 48, &other) == BB_OK);
     EXPECT(bb_shared_pool_leave(&pool, &parties[0]) == BB_OK);
     EXPECT(bb_shared_pool_destroy(&pool) == BB_BUCKET_DETACHED);
@@ -1232,8 +1245,8 @@ static int destroys(bb_shared_pool *pool, uint32_t code) {
     return bb_shared_pool_destroy(pool) == code && requests == 0;
 }
 
-// A shared pool is destroyed only when each party has left and no bucket is detached, whichever
-// that is. Refused, it is as it was.
+// A shared pool can be destroyed only when each party has left and no bucket at all is detached. A
+// refused call changes nothing.
 static void run_destroy(void) {
     bb_shared_pool pool = BB_EMPTY;
     bb_pool_party sender = BB_EMPTY;
@@ -1281,9 +1294,8 @@ static void run_destroy(void) {
     EXPECT(bb_detached_destroy(&detached) == BB_OK);
 }
 
-// A service that stops and starts again over one buffer keeps its pool while a bucket is on its
-// way, or a party is joined: so the bucket comes to the pool that it is of, and no place is given
-// twice.
+// A service that stops and starts again over one buffer keeps its pool while a bucket is in transit
+// or a party has joined. So the bucket comes back to its own pool, and no place is allocated twice.
 static void run_stop_and_start(void) {
     bb_shared_pool pool = BB_EMPTY;
     bb_pool_party party = BB_EMPTY;
@@ -1305,8 +1317,8 @@ static void run_stop_and_start(void) {
     EXPECT(bb_detached_destroy(&slot) == BB_OK);
 }
 
-// A bucket goes by its number, and each refusal comes by its first cause. Of all numbers of a
-// sender only the right one wins.
+// A bucket goes to another party by its number. If several errors apply, the first one is returned.
+// Only the right sender's number attaches the bucket.
 static void run_by_number(void) {
     bb_shared_pool pool = BB_EMPTY;
     bb_pool_party sender = BB_EMPTY;
@@ -1344,7 +1356,7 @@ static void run_by_number(void) {
     EXPECT(says(&pool, bucket, BB_HELD, 0));
     EXPECT(refused(bb_pool_party_attach_number(&receiver, bucket, 3), BB_NOT_HELD));
 
-    // A bucket in a `bb_detached` is lost to each number.
+    // No sender's number attaches a bucket that is in a `bb_detached`.
     EXPECT(bb_pool_party_detach(&receiver, place, 64, &detached) == BB_OK);
     EXPECT(says(&pool, bucket, BB_DETACHED, 0));
     for (uint32_t from = 0; from < 20; from++)
@@ -1380,7 +1392,7 @@ static void run_by_number(void) {
     EXPECT(bb_shared_pool_destroy(&pool) == BB_OK);
 }
 
-// A party joins by its number. One that is forgotten leaves what it holds to the next of its
+// A party joins by its number. A forgotten party leaves what it holds to the next party of its
 // number, which may give all of it back.
 static void run_join_number(void) {
     bb_shared_pool pool = BB_EMPTY;
@@ -1444,8 +1456,8 @@ static void run_join_number(void) {
     EXPECT(bb_shared_pool_destroy(&far) == BB_OK);
 }
 
-// If memory is refused, no party joins by its number, and nothing changes: the parties join in the
-// order in which those of another pool do that saw no refusal.
+// If `malloc` fails, no party joins by its number, and nothing changes: afterwards the parties join
+// in the same order as those of a pool at which no call failed.
 static void run_join_number_refused(void) {
     bb_shared_pool pool = BB_EMPTY;
     bb_shared_pool twin = BB_EMPTY;
@@ -1481,7 +1493,8 @@ static void run_join_number_refused(void) {
     EXPECT(bb_shared_pool_destroy(&twin) == BB_OK);
 }
 
-// Two threads attach one bucket after another at once. In each round exactly one of them wins.
+// Two threads try to attach the same bucket at the same time. In each round exactly one of them
+// wins.
 enum {
     RECEIVERS = 2,
     SENDER = 2,
@@ -1561,7 +1574,7 @@ static void run_attach_at_once(void) {
     EXPECT(bb_shared_pool_destroy(&pool) == BB_OK);
 }
 
-// What the functions of a host have done for one context.
+// Counts what the functions of a host have done for one context.
 typedef struct memory_count {
     size_t taken;
     size_t released;
@@ -1666,7 +1679,7 @@ int main(void) {
     run_join_number();
     run_join_number_refused();
     run_attach_at_once();
-    // The last one, since the library keeps calling its functions.
+    // This test comes last, since the library keeps calling its functions.
     run_use_memory();
     puts("calls: each is answered as it has to be");
     return 0;

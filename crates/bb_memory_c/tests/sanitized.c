@@ -1,6 +1,6 @@
-// What checkers find by bb_memory_sanitize.h. The first argument names a case. `right` and
-// `twice` are right programs, in which no checker finds anything. Each other one is wrong, and
-// AddressSanitizer stops at it; but `race`, which ThreadSanitizer finds.
+// Cases for checkers that use bb_memory_sanitize.h. The first argument names a case. `right` and
+// `twice` are right programs, in which no checker finds anything. Each other case is wrong, and
+// AddressSanitizer stops at it, except for `race`, which ThreadSanitizer finds.
 #define _POSIX_C_SOURCE 200809L
 #include <pthread.h>
 #include <sched.h>
@@ -66,7 +66,7 @@ static void touch(unsigned char *byte) {
     *at = (unsigned char)(*at + 1);
 }
 
-// One owner uses what it takes, returns it, and uses the region for something else at last.
+// One owner uses what it takes, gives it back, and finally uses the region for something else.
 static void right_alone(void) {
     make();
     for (uint32_t round = 0; round < 100; round++) {
@@ -148,7 +148,7 @@ static void *use(void *argument) {
     return NULL;
 }
 
-// A number that a thread sends, which orders no memory.
+// A number that a thread sends. Sending it orders no memory accesses.
 static uint32_t sent = UINT32_MAX;
 
 // Sends each bucket by its number to `receive`.

@@ -1,5 +1,6 @@
--- The machine values of a `Loose` and of the contents of a handle, which are taken apart and put together again under another
--- name. Passes on what the walks use of the logic of machines. Assumes `Logic`.
+-- The machine values of a `Loose` and of the contents of a handle, which are taken apart and put
+-- together again under another name. Re-exports what the walks use of the logic of machines.
+-- Assumes `Logic`.
 use Rattle.bb_memory_c_calls.specs.Handles.{heap, owns_if}
 use Rattle.bb_memory_c_calls.specs.contracts.held.Held as held_row
 use Rattle.bb_memory_c_calls.specs.contracts.held.Loose as loose

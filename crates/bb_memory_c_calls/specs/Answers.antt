@@ -1,4 +1,4 @@
--- Answers in the form that C gets them. Passes on the codes of `src/code.rt`, under the names that
+-- Answers in the form that C gets them. Re-exports the codes of `src/code.rt`, under the names that
 -- clauses use.
 use Rattle.bb_memory_c_calls.specs.declared.answer.Answer.{Answer}
 use Rattle.bb_memory_c_calls.specs.declared.answer.Figure.{Figure}
@@ -80,7 +80,7 @@ pub record AnswersStill {X : Type 0} (old new : X) (answered : Type 0) : Type 0 
   pub answer : answered
   pub unchanged : new ≡ old
 
--- `tells` holds of C's answer if numbers made two layouts; otherwise C gets BB_INVALID_LAYOUT
+-- if the numbers made two layouts, `tells` holds for them; otherwise C gets BB_INVALID_LAYOUT
 abbrev pub TellsOfLayouts : Option (Layout × Layout) → Answer → (Layout → Layout → Type 0) → Type 0
 TellsOfLayouts (Some layouts) told tells = tells layouts.0 layouts.1
 TellsOfLayouts None told tells = told ≡ refused invalid_layout

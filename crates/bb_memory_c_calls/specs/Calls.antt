@@ -65,8 +65,8 @@ AreKnown start one other = start one ≡ start other → one ≡ other
 
 -- HANDLES
 
--- If the handle holds a value, `tells` holds of it before and after the call. If it is empty,
--- `refused_so` holds and it stays empty.
+-- If the handle holds a value, `tells` holds for the value before and after the call. If the handle
+-- is empty, `refused_so` holds, and the handle stays empty.
 pub record Answers {X : Type 0} (old new : Option X) (refused_so : Type 0) (tells : X → X → Type 0) : Type 0 where
   pub made : IfSome old (λ made. (after : X) × (new ≡ Some after) × tells made after)
   pub empty : old ≡ None → refused_so × (new ≡ old)
@@ -84,7 +84,7 @@ pub record Tells (so : Type 0) (told : Figure) : Type 0 where
   pub yes : so → told ≡ figure_of 1
   pub no : ¬ so → told ≡ figure_of 0
 
--- C gets 1 or 0, by whether `is` holds of the value, which doesn't change
+-- C gets 1 if `is` holds for the value, and otherwise 0; the value doesn't change
 abbrev pub AnswersWhether : {X : Type 0} → Option X → Option X → Figure → (X → Type 0) → Type 0
 AnswersWhether old new told is =
     Answers old new (told ≡ no_figure uninitialized) (λ made after. Tells (is made) told × (after ≡ made))
@@ -198,7 +198,7 @@ AnswersReturns old new places told holds frees = Answers old new (told ≡ no_fi
 
 -- RESIZES change no value
 
--- If the numbers make two layouts, the old one and the new one, `tells` holds of them. Otherwise C
+-- If the numbers make two layouts, the old one and the new one, `tells` holds for them. Otherwise C
 -- gets BB_INVALID_LAYOUT.
 pub record TellsResize (old_size old_align new_size new_align : ℕ) (told : Answer) (tells : Layout → Layout → Type 0)
     : Type 0 where
@@ -212,7 +212,7 @@ AnswersResize old new old_size old_align new_size new_align told tells = Answers
 
 -- INITIALIZATION AND DESTRUCTION
 
--- the handle holds a value, and `is` holds of it
+-- the handle holds a value, and `is` holds for it
 abbrev pub IsThere : {X : Type 0} → (X → Type 0) → Option X → Type 0
 IsThere {X = X} is new = (made : X) × (new ≡ Some made) × is made
 
@@ -253,8 +253,8 @@ pub record AnswersFree {X : Type 0} (old new : Option X) (code : ℕ) : Type 0 w
   pub was_empty : old ≡ None → code ≡ uninitialized
   pub empty : new ≡ None
 
--- A destruction that may be refused, as `tells` says of the value and the code. With BB_OK the handle
--- is empty after it, and with every other code nothing changes.
+-- A destruction that may be refused, as `tells` says about the value and the code. With BB_OK the
+-- handle is empty after it, and with every other code nothing changes.
 pub record AnswersDestroy {X : Type 0} (old new : Option X) (code : ℕ) (tells : X → ℕ → Type 0) : Type 0 where
   pub made : IfSome old (λ made. tells made code)
   pub was_empty : old ≡ None → code ≡ uninitialized
@@ -299,11 +299,11 @@ pub record TakesParty {X Y Z : Type 0} (value : Z → Y) (old new : X) (told : R
   pub else_memory : IfErr told (λ code. code ≢ no_party → code ≡ malloc_refused)
   pub unchanged : OnErr told (new ≡ old)
 
--- `are` holds of the two values, if both handles hold one
+-- `are` holds for the two values, if both handles hold one
 abbrev pub IfBoth : {X Y : Type 0} → Option X → Option Y → (X → Y → Type 0) → Type 0
 IfBoth made party are = IfSome made (λ m. IfSome party (λ p. are m p))
 
--- If both handles hold a value, `tells` holds of the two before and after the call. If one of them
+-- If both handles hold a value, `tells` holds for the two before and after the call. If one of them
 -- is empty, `refused_so` holds and nothing changes.
 pub record AnswersOfBoth {X Y : Type 0} (old new : Option X) (old_other new_other : Option Y) (refused_so : Type 0)
     (tells : X → Y → X → Y → Type 0) : Type 0 where

@@ -8,18 +8,22 @@ use bb_memory_traits::allocator::{AllocationError, AllocationGrowError, Allocati
 use bb_memory_traits::layout::Chunk;
 
 /// A code and, if the code is 0, the place of the chunk. With any other code the place is 0. Both fields fit into registers.
+///
+/// In C's struct, the code has 32 bits, and 32 bits of padding follow it. Here they are one field of
+/// 64 bits, whose upper half is 0. So a call that returns another call's answer passes it on as it is.
 #[repr(C)]
 #[derive(Clone, Copy)]
 pub struct Answer {
-    pub code: u32,
+    pub code: usize,
     pub place: usize,
 }
 
-/// A code and, if the code is 0, the requested number. With any other code the number is 0.
+/// A code and, if the code is 0, the requested number. With any other code the number is 0. The code
+/// has 64 bits, as in an [`Answer`].
 #[repr(C)]
 #[derive(Clone, Copy)]
 pub struct Figure {
-    pub code: u32,
+    pub code: usize,
     pub number: usize,
 }
 
@@ -76,11 +80,13 @@ pub struct Holder {
     pub party: u32,
 }
 
-/// The states of a bucket's flag.
+/// The state of a bucket's flag: no party has the bucket.
 pub const FREE: u32 = 0;
 
+/// The state of a bucket's flag: a party holds the bucket.
 pub const HELD: u32 = 1;
 
+/// The state of a bucket's flag: a party has detached the bucket.
 pub const DETACHED: u32 = 2;
 
 impl Holder {
@@ -98,11 +104,14 @@ impl Holder {
 }
 
 impl Answer {
-    /// Returns no chunk, for the reason of this code.
+    /// Returns the answer with this code and no chunk.
     pub fn refusal(code: u32) -> Answer
         ensures { result ≡ refused code }
     {
-        Answer { code, place: 0 }
+        Answer {
+            code: code as usize,
+            place: 0,
+        }
     }
 
     /// Converts the answer to a request into C's.
@@ -111,7 +120,7 @@ impl Answer {
     {
         match answer {
             Ok(chunk) => Answer {
-                code: code::OK,
+                code: code::OK as usize,
                 place: chunk.place(),
             },
             Err(AllocationError::SizeIsZero) => Answer::refusal(code::SIZE_IS_ZERO),
@@ -127,7 +136,7 @@ impl Answer {
     {
         match answer {
             Ok(chunk) => Answer {
-                code: code::OK,
+                code: code::OK as usize,
                 place: chunk.place(),
             },
             Err(AllocationGrowError::GrowWouldShrink) => Answer::refusal(code::GROW_WOULD_SHRINK),
@@ -144,7 +153,7 @@ impl Answer {
     {
         match answer {
             Ok(chunk) => Answer {
-                code: code::OK,
+                code: code::OK as usize,
                 place: chunk.place(),
             },
             Err(AllocationShrinkError::ShrinkWouldGrow) => Answer::refusal(code::SHRINK_WOULD_GROW),
@@ -162,15 +171,18 @@ impl Figure {
         ensures { result ≡ figure_of number }
     {
         Figure {
-            code: code::OK,
+            code: code::OK as usize,
             number,
         }
     }
 
-    /// Returns no number, for the reason of this code.
+    /// Returns the figure with this code and no number.
     pub fn refusal(code: u32) -> Figure
         ensures { result ≡ no_figure code }
     {
-        Figure { code, number: 0 }
+        Figure {
+            code: code as usize,
+            number: 0,
+        }
     }
 }

@@ -76,10 +76,10 @@ pub fn info<I: Copy, M: Gives<I>, H: Handle<M>>(handle: &mut H, to: &mut I) -> u
 pub fn request<I, M: Gives<I>, H: Handle<M>>(handle: &mut H, size: usize, align: usize) -> Answer
     ensures { AnswersRequest (H.made handle.old) (H.made handle.new) size align result M.may_give }
 {
-    match handle.made_mut() {
-        Some(made) => ask(made, size, align),
-        None => Answer::refusal(code::UNINITIALIZED),
-    }
+    let Some(made) = handle.made_mut() else {
+        return Answer::refusal(code::UNINITIALIZED);
+    };
+    ask(made, size, align)
 }
 
 /// Requests a chunk of `size` bytes at a multiple of `align` from the value of a handle, inlined into the caller.
@@ -118,8 +118,7 @@ pub fn request_bucket<I, M: Gives<I> + Bucketed, H: Handle<M>>(
     }
 }
 
-/// Takes a whole bucket by a search. The function is never inlined, so that a taking that needs no search is straight-line
-/// code.
+/// Takes a whole bucket by a search. The function is never inlined, so that a taking that needs no search is short.
 #[inline(never)]
 fn search<M: Bucketed>(made: &mut M) -> Answer
     ensures { TellsTake made.old made.new result M.may_take }
@@ -127,17 +126,25 @@ fn search<M: Bucketed>(made: &mut M) -> Answer
     Answer::of(made.take())
 }
 
-/// Takes a whole bucket.
-pub fn take<M: Bucketed, H: Handle<M>>(handle: &mut H) -> Answer
-    ensures { AnswersTake (H.made handle.old) (H.made handle.new) result M.may_take }
+/// Takes a whole bucket. A taking that needs no search is straight-line code.
+#[inline(always)]
+fn take_one<M: Bucketed>(made: &mut M) -> Answer
+    ensures { TellsTake made.old made.new result M.may_take }
 {
-    let Some(made) = handle.made_mut() else {
-        return Answer::refusal(code::UNINITIALIZED);
-    };
     if made.is_short() {
         Answer::of(made.take())
     } else {
         search(made)
+    }
+}
+
+/// Takes a whole bucket.
+pub fn take<M: Bucketed, H: Handle<M>>(handle: &mut H) -> Answer
+    ensures { AnswersTake (H.made handle.old) (H.made handle.new) result M.may_take }
+{
+    match handle.made_mut() {
+        Some(made) => take_one(made),
+        None => Answer::refusal(code::UNINITIALIZED),
     }
 }
 
@@ -163,10 +170,11 @@ fn take_each<M: Bucketed>(made: &mut M, slots: &mut [usize]) -> usize
 {
     let mut taken = 0;
     for slot in slots.iter_mut() {
-        let Ok(chunk) = made.take() else {
+        let answer = take_one(made);
+        if answer.code != code::OK as usize {
             return taken;
-        };
-        *slot = chunk.place();
+        }
+        *slot = answer.place;
         taken += 1;
     }
     taken

@@ -1,5 +1,5 @@
-//! The calls of C, each written once over any handle. Whatever can be tested is tested here: for a wrong number the caller gets
-//! a code.
+//! The calls of C, each written once over any handle. Whatever can be checked is checked here: for
+//! a wrong argument the caller gets a code.
 //!
 //! The modules, in the order in which to read them:
 //!

@@ -46,7 +46,8 @@ forgetting_frees = record {
   free = refl;
 }
 
--- a process is killed in a post, after it has detached the bucket, and its number is settled by one that takes back such buckets
+-- a process is killed in a post, after it has detached the bucket, and its number is settled by one
+-- that takes back such buckets
 abbrev killed_when_sent : List FileStep
 killed_when_sent = joining 0 0
     ++ Allocate 0 0 0 ∷ Post 0 0 0 0 7 ∷ Next 0 ∷ Kill 0 ∷ Release 0 0
@@ -61,7 +62,8 @@ unaddressed_frees = record {
   free = refl;
 }
 
--- another process takes the message and detaches the bucket by its number, between a take's look and its exchange
+-- another process takes the message and detaches the bucket by its number, between a take's look
+-- and its exchange
 abbrev taken_meanwhile : List FileStep
 taken_meanwhile = joining 0 0 ++ joining 1 1
     ++ Allocate 0 0 0 ∷ Post 0 0 0 0 7 ∷ Next 0 ∷ Next 0 ∷ Take 1 1 0

@@ -1,4 +1,4 @@
--- Each effect keeps the words sound, and from what another process rests on.
+-- Each effect keeps the words sound, and keeps what another process relies on.
 use Rattle.bb_memory_file_machine.proofs.FileInvariant.{HoldsNoMessage, IsCleared, IsOnly, Names, PlaceHas}
 use Rattle.bb_memory_file_machine.specs.FileLaws.{Effect, IsFlag, IsHolder, IsIn, IsKnown, IsLock, IsOutside, IsSlot, addresses, attaches, attaches_number, detaches, detaches_number, empties, fills, frees_lock, gives_back, none, takes, takes_lock}
 use Rattle.bb_memory_file_machine.specs.FileMachine.{Addressing, Attached, Checking, DetachedBy, Empty, Ending, FileOutcome, FileWords, Finding, Flag, Flags, Free, HeldBy, Keeping, Late, Message, Place, Posting, Seen, Sent, Settled, Slot, Slots, nobody, with_lock, with_slot}
@@ -49,9 +49,10 @@ same_message words slot bucket other (size, one) (length, two) =
 
 -- WHAT OTHER PROCESSES DO
 
--- What a party, whose lock a process has, rests on while other processes take steps: its lock and its buckets stay its own, with
--- the slots that have them. No other process detaches a bucket by its number. No other process puts a bucket whose flag names it
--- into a slot, or empties the slot of such a bucket.
+-- What a party, whose lock a process has, rests on while other processes take steps: its lock and
+-- its buckets stay its own, with the slots that have them. No other process detaches a bucket by
+-- its number. No other process puts a bucket whose flag names it into a slot, or empties the slot
+-- of such a bucket.
 pub record Rests (words later : FileWords) (party process : ℕ) : Type 0 where
   pub lock : IsLock later party process
   pub kept : (bucket : ℕ) → IsHolder words bucket party → IsHolder later bucket party
@@ -249,7 +250,7 @@ module _ (words later : FileWords) (party process : ℕ) where
     | inr unnamed ↦ absurd (unnamed (named_rests other r now))
   ]
 
--- what holds of a process that has come so far, holds after steps of others
+-- the invariant of a process at this place still holds after steps of others
 pub place_rests : (words later : FileWords) (process : ℕ) (place : Place) → PlaceHas words process place →
     ((party : ℕ) → IsLock words party process → Rests words later party process) → PlaceHas later process place
 place_rests words later process (Posting party bucket) (lock, held, (slot, has)) others =

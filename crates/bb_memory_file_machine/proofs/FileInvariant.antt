@@ -1,10 +1,10 @@
--- What holds of the words and of each process after every list of steps.
+-- The invariant of the words and of each process after every list of steps.
 use Rattle.bb_memory_file_machine.specs.FileLaws.{IsFlag, IsHolder, IsIn, IsInSome, IsKnown, IsLock, IsPlace}
 use Rattle.bb_memory_file_machine.specs.FileMachine.{Addressing, Attached, Checking, DetachedBy, Ending, FileState, FileWords, Finding, Flags, Keeping, Late, Place, Posting, Seen, Sent, Settled, Slots}
 use Rattle.bb_memory_file_machine.specs.FilePool.{IsTaken}
 use Rattle.std.specs.Prelude.{length, ℕ, ◌<◌, ◌≡◌, ◌⊎◌}
 
--- what holds of the words
+-- the invariant of the words
 pub record Sound (words : FileWords) : Type 0 where
   pub same_length : length words.outside ≡ length words.flags
   pub one_slot : (bucket slot other : ℕ) → IsIn words bucket slot → IsIn words bucket other → slot ≡ other
@@ -32,7 +32,7 @@ IsOnly words party slot bucket = (other : ℕ) → IsIn words other slot → Nam
 abbrev pub IsGiven : FileWords → ℕ → ℕ → Type 0
 IsGiven words party bucket = (before : ℕ) → before < bucket → ¬ IsHolder words before party
 
--- what holds of the words if this process has come that far
+-- the invariant of the words if this process is at this place of its call
 abbrev pub PlaceHas : FileWords → ℕ → Place → Type 0
 PlaceHas words process (Posting party bucket) =
     IsLock words party process × IsHolder words bucket party × IsInSome words bucket
@@ -62,7 +62,7 @@ PlaceHas words process (Settled party) =
     IsLock words party process × ((bucket : ℕ) → ¬ IsHolder words bucket party) × HoldsNoMessage words party
 PlaceHas words process _ = Unit {0}
 
--- what holds of a state
+-- the invariant of a state
 pub record Holds (state : FileState) : Type 0 where
   pub sound : Sound state.words
   pub each : (process : ℕ) (place : Place) → IsPlace state process place → PlaceHas state.words process place

@@ -1,4 +1,4 @@
--- A settler that goes on is done after some steps.
+-- A settler that keeps stepping is done after some steps.
 use Rattle.bb_memory_file_machine.proofs.FileEffects.{below_end}
 use Rattle.bb_memory_file_machine.specs.FileLaws.{CanSettle, IsPlace, IsSettling, settled_by}
 use Rattle.bb_memory_file_machine.specs.FileMachine.{Addresses, Addressing, Checking, DetachedBy, Empty, FileMove, FileScene, FileState, FileStep, FileWords, Flags, Free, HeldBy, Keeping, Message, Moves, Next, Place, Settled, Slot, Slots, after_slot, change_at, change_by, file_after, giving_back, is_flag, left_by, move_of, next, nobody, settle_flag, settle_slot, with_flag}

@@ -1,4 +1,4 @@
--- What holds of a state holds after each step.
+-- The invariant of a state holds after each step.
 use Rattle.bb_memory_file_machine.proofs.FileEffects.{below_end, detached_apart, nobody_apart, one_value, place_rests, rests, same_message, set_cases}
 use Rattle.bb_memory_file_machine.proofs.FileInvariant.{Holds, IsCleared, IsGiven, Names, PlaceHas, Sound}
 use Rattle.bb_memory_file_machine.proofs.FileKinds.{Kind, addresses, all_flags, all_slots, allocates, anothers, attaches, begins_done, detaches, dies, empties, empty_slot, exchanges, full_slot, gives, has_sent, is_gone, is_holder, is_kept, is_late, is_unheld, keeps, kind_of, leaves, locks, posted, posts, puts_back, puts_late, receives, recovers, refuses, releases, sees, sends, settles, unlocks, unlocks_first}
@@ -81,7 +81,8 @@ cleared_next words later party slot cleared here before bucket less has =
       | inr same ↦ here bucket (has.0, ap (slice_get later.slots) same ∙ has.1)
     ]
 
--- If a flag names the party after another flag was written, it named the party before. The written flag is what is left.
+-- If a flag names the party after another flag was written, it named the party before. The written
+-- flag is what is left.
 named_before : (words : FileWords) (at party bucket : ℕ) (old flag : Flag) → IsFlag words at old →
     Names (with_flag words at flag) bucket party →
     ((at ≢ bucket) × Names words bucket party) ⊎ ((at ≡ bucket) × ((flag ≡ HeldBy party) ⊎ (flag ≡ DetachedBy party)))
@@ -96,7 +97,8 @@ named_before words at party bucket old flag is (inr now) =
       | inr this ↦ inr (this.0, inr this.1)
     ]
 
--- if a flag names the party after another one was written that doesn't, it named the party before, at another bucket
+-- if a flag names the party after another one was written that doesn't, it named the party before,
+-- at another bucket
 still_named : (words : FileWords) (at party bucket : ℕ) (old flag : Flag) → IsFlag words at old → ¬ (flag ≡ HeldBy party) →
     ¬ (flag ≡ DetachedBy party) → Names (with_flag words at flag) bucket party → (at ≢ bucket) × Names words bucket party
 still_named words at party bucket old flag is unheld undetached now =
@@ -128,7 +130,7 @@ unnamed_there words other bucket party unheld undetached same (inl held) =
 unnamed_there words other bucket party unheld undetached same (inr detached) =
     undetached (ap (slice_get words.flags) (sym same) ∙ detached)
 
--- what holds of a process after its own step
+-- the invariant of a process after its own step
 pub place_after : (words : FileWords) (place : Place) (step : FileStep) (move : FileMove) → Kind words place step move →
     Sound words → PlaceHas words (process_of step) place → PlaceHas move.words (process_of step) move.place
 place_after words place step move (locks process party free) sound has =

@@ -14,8 +14,8 @@ use Rattle.std.proofs.lemmas.Bool.{cases_Bool, cases_eq}
 use Rattle.std.specs.Prelude.{slice_get, slice_set, ◌⊎◌}
 
 module _ (party slot bucket size : ℕ) where
-  -- A process that has the party's lock, and has come so far, hasn't taken the message: it posts it, or it settles the party's
-  -- number and has come to the slot at most, or it is dead.
+  -- A process that has the party's lock, and has come so far, hasn't taken the message: it posts
+  -- it, or it settles the party's number and has come to the slot at most, or it is dead.
   abbrev IsBefore : Place → Type 0
   IsBefore Dead = Unit {0}
   IsBefore (Posting number at) = (number ≡ party) × (at ≡ bucket)
@@ -50,7 +50,8 @@ module _ (party slot bucket size : ℕ) where
       (ap (slice_get words.locks) same ∙ lock) in
       let locks = one_value (slice_set words.locks number None) party None (Some process) freed now in absurd (cc)
 
-  -- what holds of a process before its own step holds after it, if the party holds the bucket all the time
+  -- what holds for a process before its own step holds after it, if the party holds the bucket all
+  -- the time
   own_before : (words : FileWords) (place : Place) (step : FileStep) (move : FileMove) → Kind words place step move →
       (IsLock words party (process_of step) → IsBefore place) → IsLock move.words party (process_of step) →
       IsHolder words bucket party → IsHolder move.words bucket party → IsSlot words slot (Message bucket size) →
@@ -196,7 +197,8 @@ module _ (party slot bucket size : ℕ) where
       ]
   lock_before words later process other outcome _ apart lock = lock
 
-  -- a party that held the bucket, and didn't take the message, doesn't take it by a step after which it holds the bucket
+  -- a party that held the bucket, and didn't take the message, doesn't take it by a step after
+  -- which it holds the bucket
   untaken_after : (state : FileState) (step : FileStep) (place : Place) → IsPlace state (process_of step) place → Holds state →
       IsSlot state.words slot (Message bucket size) → IsUntaken state → IsHolder state.words bucket party →
       IsUntaken (change_at state step (Some place)).state

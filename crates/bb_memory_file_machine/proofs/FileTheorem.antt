@@ -1,4 +1,4 @@
--- What follows from what holds of every state.
+-- Consequences of the invariant that holds for every state.
 use Rattle.bb_memory_file_machine.proofs.FileEffects.{apart_by_value, one_value, rests, same_process}
 use Rattle.bb_memory_file_machine.proofs.FileInvariant.{Holds, PlaceHas}
 use Rattle.bb_memory_file_machine.proofs.FileKinds.{Kind, empties, kind_of, posts, receives}
@@ -14,7 +14,7 @@ use Rattle.std.proofs.lemmas.List.{length-replicate}
 use Rattle.std.proofs.lemmas.Option.{same_Some}
 use Rattle.std.specs.Prelude.{slice_get, slice_set, ◌⊎◌}
 
--- the effect of a step, in a state of which it holds what holds of every one
+-- the effect of a step, in a state in which the invariant holds
 effect_at : (state : FileState) (step : FileStep) (found : Option Place) → slice_get state.places (process_of step) ≡ found →
     Holds state → let change = change_at state step found in
     Effect state.words (process_of step) change.outcome change.state.words

@@ -1,4 +1,4 @@
--- What is said of the words of a pool in a file, and of its processes.
+-- The terms of the theorem about the words of a pool in a file, and about its processes.
 use Rattle.bb_memory_file_machine.specs.FileMachine.{Addresses, Addressing, AttachFrom, Attached, Checking, Dead, Detach, DetachedBy, Empty, Ending, FileOutcome, FileScene, FileState, FileStep, FileWords, Finding, Flag, Flags, Free, GiveBack, HeldBy, Keeping, Late, Message, Next, OnFlag, OnLock, OnSlot, Place, Posting, Seen, Sent, Settled, Slot, Slots, TryAt, file_after, file_step, left_by, nobody, process_of, with_flag, with_lock, with_outside, with_slot}
 use Rattle.std.specs.Prelude.{Contains, List, None, Option, Some, [], false, replicate, slice_get, true, ℕ, ◌∷◌, ◌≡◌, ◌⊎◌}
 
@@ -26,15 +26,15 @@ IsIn words bucket slot = (length : ℕ) × IsSlot words slot (Message bucket len
 abbrev pub IsInSome : FileWords → ℕ → Type 0
 IsInSome words bucket = (slot : ℕ) × IsIn words bucket slot
 
--- a channel outside knows this bucket's number
+-- a channel outside the file knows this bucket's number
 abbrev pub IsOutside : FileWords → ℕ → Type 0
 IsOutside words bucket = slice_get words.outside bucket ≡ Some true
 
--- some slot or a channel outside knows this bucket's number
+-- some slot or a channel outside the file knows this bucket's number
 abbrev pub IsKnown : FileWords → ℕ → Type 0
 IsKnown words bucket = IsInSome words bucket ⊎ IsOutside words bucket
 
--- the process has come that far
+-- the process is at this place of its call
 abbrev pub IsPlace : FileState → ℕ → Place → Type 0
 IsPlace state process place = slice_get state.places process ≡ Some place
 
@@ -65,9 +65,9 @@ ChangesNone (OnSlot slot) = ⊥
 ChangesNone (OnLock party) = ⊥
 ChangesNone _ = Unit {0}
 
--- What a step of this process does to the words and locks. It is one of these, and each changes at most one flag, slot or lock,
--- and with a flag perhaps whether a channel outside knows the bucket's number. A process steps on flags and slots only by a
--- number whose lock it has.
+-- The effect of a step of this process on the words and locks is one of these. Each changes at most
+-- one flag, slot or lock; one that changes a flag may also change whether a channel outside knows
+-- the bucket's number. A process steps on flags and slots only by a number whose lock it has.
 pub data Effect (words : FileWords) (process : ℕ) : FileOutcome → FileWords → Type 0 where
   -- no word and no lock changes
   none : (outcome : FileOutcome) → ChangesNone outcome → Effect words process outcome words
@@ -79,7 +79,8 @@ pub data Effect (words : FileWords) (process : ℕ) : FileOutcome → FileWords 
   -- the party takes a free bucket
   takes : (party bucket : ℕ) → IsLock words party process → IsFlag words bucket Free →
       Effect words process (OnFlag (TryAt party bucket)) (with_flag words bucket (HeldBy party))
-  -- the party's bucket, which is in no slot, is given back: by the party, or by a settler of its number
+  -- the party's bucket, which is in no slot, is given back: by the party, or by a settler of its
+  -- number
   gives_back : (party bucket : ℕ) → IsLock words party process → IsHolder words bucket party → ¬ IsInSome words bucket →
       Effect words process (OnFlag (GiveBack party bucket)) (with_flag words bucket Free)
   -- the party's bucket is detached, and its number is known
@@ -88,14 +89,15 @@ pub data Effect (words : FileWords) (process : ℕ) : FileOutcome → FileWords 
   -- the party's bucket is detached, and a channel outside knows its number from now on
   detaches_number : (party bucket : ℕ) → IsLock words party process → IsHolder words bucket party → ¬ IsInSome words bucket →
       Effect words process (OnFlag (Detach party bucket)) (with_flag (with_outside words bucket true) bucket (DetachedBy party))
-  -- the party addresses a bucket that it has detached, and that some slot has, to the number that nobody joins
+  -- the party addresses a bucket that it has detached, and that some slot has, to the number that
+  -- nobody joins
   addresses : (party bucket : ℕ) → IsLock words party process → IsFlag words bucket (DetachedBy party) → IsInSome words bucket →
       Effect words process (Addresses bucket party (nobody words)) (with_flag words bucket (DetachedBy (nobody words)))
   -- the party attaches a detached bucket, as a take does
   attaches : (party bucket from : ℕ) → IsLock words party process → IsFlag words bucket (DetachedBy from) →
       Effect words process (OnFlag (AttachFrom party bucket from)) (with_flag words bucket (HeldBy party))
-  -- the party attaches a detached bucket, whose number no channel outside counts as knowing then: as an attach by number does, or
-  -- a settler
+  -- the party attaches a detached bucket, and no channel outside counts as knowing its number any
+  -- more: as an attach by number does, or a settler
   attaches_number : (party bucket from : ℕ) → IsLock words party process → IsFlag words bucket (DetachedBy from) →
       Effect words process (OnFlag (AttachFrom party bucket from))
       (with_flag (with_outside words bucket false) bucket (HeldBy party))
@@ -106,10 +108,10 @@ pub data Effect (words : FileWords) (process : ℕ) : FileOutcome → FileWords 
   empties : (party slot bucket size : ℕ) → IsLock words party process → IsHolder words bucket party →
       IsSlot words slot (Message bucket size) → Effect words process (OnSlot slot) (with_slot words slot Empty)
 
--- WHAT IS PROMISED
+-- PROMISES
 
--- By the step, which changes no word, the process has received the slot's message: one of its parties holds the bucket, which is
--- in the slot.
+-- By this step, which changes no word, the process has received the message in the slot: one of its
+-- parties holds the message's bucket.
 pub record HasReceived (state : FileState) (step : FileStep) (slot : ℕ) : Type 0 where
   pub party : ℕ
   pub bucket : ℕ
@@ -118,8 +120,8 @@ pub record HasReceived (state : FileState) (step : FileStep) (slot : ℕ) : Type
   pub holder : IsHolder state.words bucket party
   pub message : IsSlot state.words slot (Message bucket size)
 
--- The process is at the end of a `done`, and by the step it says that it is done with the bucket in the slot, which one of its
--- parties holds.
+-- The process is at the end of a `done`. By this step it says that it is done with the bucket in
+-- the slot, which one of its parties holds.
 pub record SaysDone (state : FileState) (step : FileStep) (slot bucket : ℕ) : Type 0 where
   pub party : ℕ
   pub done : IsPlace state (process_of step) (Ending party slot bucket)
@@ -130,7 +132,8 @@ pub record SaysDone (state : FileState) (step : FileStep) (slot bucket : ℕ) : 
 abbrev pub IsAlive : FileState → ℕ → Type 0
 IsAlive state party = (process : ℕ) × IsLock state.words party process × (¬ IsPlace state process Dead)
 
--- Each number that holds a bucket is alive: its own process has its lock, or a settler that may not have come to the bucket yet.
+-- Each number that holds a bucket is alive: its lock belongs to its own process, or to a settler
+-- that may not have come to the bucket yet.
 abbrev pub AreSettled : FileState → Type 0
 AreSettled state = (bucket party : ℕ) → IsHolder state.words bucket party → IsAlive state party
 
@@ -152,7 +155,7 @@ IsInCallBy state process party = (place : Place) × IsPlace state process place 
 
 -- SETTLERS
 
--- the number that a process which has come so far settles, or None if it settles none
+-- the number that a process at this place settles, or None if it settles none
 abbrev pub settled_by : Place → Option ℕ
 settled_by (Slots party slot) = Some party
 settled_by (Checking party slot bucket) = Some party
@@ -166,14 +169,14 @@ settled_by _ = None
 abbrev pub IsSettling : FileState → ℕ → ℕ → Type 0
 IsSettling state process party = (place : Place) × IsPlace state process place × (settled_by place ≡ Some party)
 
--- the settler is done after some further steps of its own, with none of another process in between
+-- some further steps of the settler, with none of another process in between, complete the settling
 abbrev pub CanSettle : FileState → ℕ → ℕ → Type 0
 CanSettle state process party =
     (steps : ℕ) × IsPlace (file_after state (replicate steps (Next process))) process (Settled party)
 
 -- TAKERS
 
--- the word is in the slot in this state, and after each of these steps
+-- the slot has this word in this state, and after each of these steps
 abbrev pub StaysIn : FileState → List FileStep → ℕ → Slot → Type 0
 StaysIn state [] slot word = IsSlot state.words slot word
 StaysIn state (step ∷ steps) slot word = IsSlot state.words slot word × StaysIn (file_step state step).state steps slot word

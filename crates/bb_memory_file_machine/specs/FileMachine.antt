@@ -1,5 +1,5 @@
--- The machine of a pool in a file: what any number of processes do to the words and locks of the file, one atomic step at a
--- time. Processes, party numbers, buckets and slots are numbered from 0.
+-- The machine of a pool in a file: what any number of processes do to the words and locks of the
+-- file, one atomic step at a time. Processes, party numbers, buckets and slots are numbered from 0.
 pub use Rattle.bb_memory_file_machine.specs.declared.steps.file.FileOutcome.{FileOutcome}
 pub use Rattle.bb_memory_file_machine.specs.declared.steps.file.FileOutcome.TheVariants.{Addresses, Dies, Moves, OnFlag, OnLock, OnSlot, Receives, Refused}
 pub use Rattle.bb_memory_file_machine.specs.declared.steps.file.FileStep.{FileStep}
@@ -16,16 +16,17 @@ use Rattle.std.specs.Prelude.{Bool, List, None, Option, Some, [], false, if◌th
 
 -- WORDS
 
--- The words and locks of the file: the flag of each bucket, the word of each slot, and the lock of each party number, which is
--- free or some process's. `outside` isn't in the file: it says of each bucket whether a channel outside knows its number. A
--- detach by number sets it, and an attach by number or a settler's recovery clears it.
+-- The words and locks of the file: the flag of each bucket, the word of each slot, and the lock of
+-- each party number, which is free or some process's. `outside` isn't in the file: it says for each
+-- bucket whether a channel outside the file knows the bucket's number. A detach by number sets
+-- that, and an attach by number or a settler's recovery clears it.
 pub record FileWords : Type 0 where
   pub flags : List Flag
   pub slots : List Slot
   pub locks : List (Option ℕ)
   pub outside : List Bool
 
--- the state of a machine: the words, and how far each process has come in the call that it is in
+-- the state of a machine: the words, and the progress of each process in its current call
 pub record FileState : Type 0 where
   pub words : FileWords
   pub places : List Place
@@ -37,7 +38,8 @@ pub record FileScene : Type 0 where
   pub parties : ℕ
   pub processes : ℕ
 
--- the state in which a machine begins: all flags and locks are free, all slots empty, and no process is in a call
+-- the state in which a machine begins: all flags and locks are free, all slots empty, and no
+-- process is in a call
 abbrev pub opening_state : FileScene → FileState
 opening_state scene = record {
   words = record {
@@ -61,7 +63,7 @@ with_slot words slot word = record words { slots = slice_set words.slots slot wo
 abbrev pub with_lock : FileWords → ℕ → Option ℕ → FileWords
 with_lock words party lock = record words { locks = slice_set words.locks party lock }
 
--- the words in which it is replaced whether a channel outside knows this bucket's number
+-- the words in which `known` says whether a channel outside knows this bucket's number
 abbrev pub with_outside : FileWords → ℕ → Bool → FileWords
 with_outside words bucket known = record words { outside = slice_set words.outside bucket known }
 
@@ -107,7 +109,7 @@ abbrev pub has_bucket : ℕ → Slot → Bool
 has_bucket bucket (Message other length) = other == bucket
 has_bucket bucket Empty = false
 
--- some slot of these has a message in this bucket
+-- one of these slots has a message in this bucket
 abbrev pub some_has : ℕ → List Slot → Bool
 some_has bucket [] = false
 some_has bucket (word ∷ words) = if has_bucket bucket word then true else some_has bucket words
@@ -133,13 +135,14 @@ may_call words process _ party = false
 
 -- MOVES
 
--- a step's move of one process: its outcome, the words after it, and how far the process has come then
+-- the move that a step makes of one process: the outcome, the words afterwards, and the process's
+-- new place
 pub record FileMove : Type 0 where
   pub outcome : FileOutcome
   pub words : FileWords
   pub place : Place
 
--- the move with this outcome that leaves these words and the process there
+-- the move with this outcome that leaves these words and the process at this place
 abbrev pub move_of : FileOutcome → FileWords → Place → FileMove
 move_of outcome words place = record { outcome = outcome; words = words; place = place }
 
@@ -151,7 +154,8 @@ refused words place = move_of Refused words place
 abbrev pub detaching : FileWords → ℕ → ℕ → Place → FileMove
 detaching words party bucket next = move_of (OnFlag (Detach party bucket)) (with_flag words bucket (DetachedBy party)) next
 
--- the party addresses a bucket that it has detached to the number that nobody joins, unless another party has attached it
+-- the party addresses a bucket that it has detached to the number that nobody joins, unless another
+-- party has attached it
 abbrev pub addressing : FileWords → ℕ → ℕ → Place → FileMove
 addressing words party bucket next =
     if is_flag words bucket (DetachedBy party)
@@ -186,15 +190,16 @@ allocate words process place party bucket =
     then move_of (OnFlag (TryAt party bucket)) (with_flag words bucket (HeldBy party)) Outside
     else refused words place) else refused words place
 
--- A party gives back a bucket that it holds, and that is in no slot. The look at all slots is part of this one step: it stands for
--- a duty of the host.
+-- A party gives back a bucket that it holds, and that is in no slot. The look at all slots is part
+-- of this one step, since it models a duty of the host.
 abbrev pub deallocate : FileWords → ℕ → Place → ℕ → ℕ → FileMove
 deallocate words process place party bucket =
     if may_call words process place party then (if is_flag words bucket (HeldBy party)
     then (if some_has bucket words.slots then refused words place else giving_back words party bucket Outside)
     else refused words place) else refused words place
 
--- A party detaches a bucket that it holds. If no slot has the bucket, a channel outside knows its number from now on.
+-- A party detaches a bucket that it holds. If no slot has the bucket, a channel outside knows its
+-- number from now on.
 abbrev pub detach_number : FileWords → ℕ → Place → ℕ → ℕ → FileMove
 detach_number words process place party bucket =
     if may_call words process place party then (if is_flag words bucket (HeldBy party)
@@ -202,15 +207,15 @@ detach_number words process place party bucket =
     else detaching (with_outside words bucket true) party bucket Outside)
     else refused words place) else refused words place
 
--- a party attaches a bucket by its number, which the party `from` has detached
+-- a party attaches, by its number, a bucket that the party `from` has detached
 abbrev pub attach_number : FileWords → ℕ → Place → ℕ → ℕ → ℕ → FileMove
 attach_number words process place party bucket from =
     if may_call words process place party then (if is_flag words bucket (DetachedBy from)
     then attaching (with_outside words bucket false) party bucket from Outside
     else refused words place) else refused words place
 
--- A party fills an empty slot with a bucket that it holds, and that is in no slot. The look at all slots is part of this one step:
--- it stands for a duty of the host.
+-- A party fills an empty slot with a bucket that it holds, and that is in no slot. The look at all
+-- slots is part of this one step, since it models a duty of the host.
 abbrev pub post : FileWords → ℕ → Place → ℕ → ℕ → ℕ → ℕ → FileMove
 post words process place party slot bucket length =
     if may_call words process place party then (if is_flag words bucket (HeldBy party)
@@ -247,7 +252,8 @@ abbrev pub begin_done : FileWords → ℕ → Place → ℕ → ℕ → FileMove
 begin_done words process place party slot =
     if may_call words process place party then done_found words party slot (slice_get words.slots slot) else refused words place
 
--- A settler that has been over all slots attaches a bucket that the settled number had detached, and goes over the flags again.
+-- A settler that has been over all slots attaches a bucket that the settled number had detached,
+-- and goes over the flags again.
 abbrev pub recover : FileWords → Place → ℕ → FileMove
 recover words (Flags party next) bucket =
     if is_flag words bucket (DetachedBy party)
@@ -259,7 +265,7 @@ recover words place bucket = refused words place
 abbrev pub after_slot : FileWords → ℕ → ℕ
 after_slot words slot = if nat_lt slot (length words.slots) then slot + 1 else slot
 
--- a settler has found this word in a slot, or that it has been over all slots
+-- a settler has found this word in a slot, or has been over all slots
 abbrev pub settle_slot : FileWords → ℕ → ℕ → Option Slot → FileMove
 settle_slot words party slot None = move_of Moves words (Flags party 0)
 settle_slot words party slot (Some Empty) = move_of Moves words (Slots party (after_slot words slot))
@@ -300,8 +306,9 @@ next words (Flags party bucket) =
     if nat_lt bucket (length words.flags) then settle_flag words party bucket else move_of Moves words (Settled party)
 next words (Settled party) = move_of Moves words Outside
 
--- A settler that is done, or that has not looked at a slot yet, frees the lock of the settled number. So may one that leaves: then
--- its number isn't settled until a next process takes the lock.
+-- A settler that is done, or that has not looked at a slot yet, frees the lock of the settled
+-- number. A process that leaves may do so, too: then its number isn't settled until another process
+-- takes the lock.
 abbrev pub unlock : FileWords → Place → FileMove
 unlock words (Slots party zero) = move_of (OnLock party) (with_lock words party None) Outside
 unlock words (Settled party) = move_of (OnLock party) (with_lock words party None) Outside
@@ -335,7 +342,7 @@ process_of (Unlock process) = process
 process_of (Kill process) = process
 process_of (Release process party) = process
 
--- the move of a step whose process is there
+-- the move that a step makes if its process is at this place
 abbrev pub move_at : FileWords → Place → FileStep → FileMove
 move_at words place (Lock process party) = lock words process place party
 move_at words place (Leave process party) = leave words process place party
@@ -363,7 +370,7 @@ abbrev pub change_by : FileState → ℕ → FileMove → FileChange
 change_by state process move =
     record { outcome = move.outcome; state = record { words = move.words; places = slice_set state.places process move.place } }
 
--- the change by a step whose process is there, if there is such a process
+-- the change by a step whose process is at this place, if there is such a process
 abbrev pub change_at : FileState → FileStep → Option Place → FileChange
 change_at state step (Some place) = change_by state (process_of step) (move_at state.words place step)
 change_at state step None = record { outcome = Refused; state = state }

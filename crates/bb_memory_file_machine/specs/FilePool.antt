@@ -7,8 +7,8 @@ use Rattle.bb_memory_pool_machine.specs.PoolMachine as pools
 use Rattle.bb_memory_traits.specs.PoolObject.{PoolGeometry}
 use Rattle.std.specs.Prelude.{List, [], ℕ, ◌+◌, ◌∷◌, ◌≡◌, ◌⊎◌}
 
--- The steps on flags among these outcomes, in order. What a settler gives back is a return by the settled number. A bucket that
--- is addressed to a number is attached and detached by that number.
+-- The steps on flags among these outcomes, in order. What a settler gives back is a return by the
+-- settled number. A bucket that is addressed to a number is attached and detached by that number.
 abbrev pub flag_steps_in : List FileOutcome → List PoolStep
 flag_steps_in [] = []
 flag_steps_in (OnFlag step ∷ outcomes) = step ∷ flag_steps_in outcomes
@@ -19,12 +19,13 @@ flag_steps_in (_ ∷ outcomes) = flag_steps_in outcomes
 abbrev pub flag_steps : FileScene → List FileStep → List PoolStep
 flag_steps scene steps = flag_steps_in (outcomes_of (opening_state scene) steps)
 
--- The shared pool over the file's flags. Its parties are the file's numbers and one more, which nobody joins: messages in slots
--- are addressed to it.
+-- The shared pool over the file's flags. Its parties are the file's numbers and one more, which
+-- nobody joins: messages in slots are addressed to it.
 abbrev pub pool_of : FileScene → PoolGeometry → PoolScene
 pool_of scene geometry = record { geometry = geometry; parties = scene.parties + 1 }
 
--- The steps on flags are steps of the shared pool: it allows each, and they leave the flags of the file.
+-- The steps on flags are steps of the shared pool: its machine allows each of them, and they leave
+-- the flags of the file.
 pub record IsPool (scene : FileScene) (steps : List FileStep) (geometry : PoolGeometry) : Type 0 where
   pub allowed : AllAllowed (history_of (pool_of scene geometry) (flag_steps scene steps))
   pub flags : (pools.left_by (pool_of scene geometry) (flag_steps scene steps)).flags ≡ (left_by scene steps).words.flags

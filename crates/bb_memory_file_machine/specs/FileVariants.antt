@@ -3,7 +3,8 @@ use Rattle.bb_memory_file_machine.specs.FileLaws.{IsFlag, IsHolder, IsInCallBy, 
 use Rattle.bb_memory_file_machine.specs.FileMachine.{Addressing, Attached, Dead, DetachedBy, Empty, FileChange, FileMove, FileOutcome, FileScene, FileState, FileStep, FileWords, Flag, Flags, Free, Leave, Lock, Moves, Next, OnLock, OnSlot, Outside, Place, Post, Receives, Recover, Refused, Slots, after_slot, attaching, change_by, detaching, finds_free, may_call, move_at, move_of, opening_state, post, process_of, with_lock, with_outside}
 use Rattle.std.specs.Prelude.{Bool, List, None, Option, Some, [], false, if◌then◌else◌, slice_get, true, ℕ, ◌∷◌, ◌≡◌, ◌≢◌}
 
--- the moves in which a protocol differs from the machine, and None at all other steps
+-- a protocol: its move at each step at which it differs from the machine, and None at all other
+-- steps
 abbrev pub Variant : Type 0
 Variant = FileWords → Place → FileStep → Option FileMove
 
@@ -12,12 +13,14 @@ abbrev pub fills_slot : FileOutcome → Bool
 fills_slot (OnSlot slot) = true
 fills_slot outcome = false
 
--- a settler that has been over all slots attaches a detached bucket, whoever has detached it
+-- the move by which a settler attaches a bucket with this flag, whoever has detached it, if the
+-- bucket is detached
 abbrev pub attach_any : FileWords → ℕ → ℕ → Option Flag → Option FileMove
 attach_any words party bucket (Some (DetachedBy from)) =
     Some (attaching (with_outside words bucket false) party bucket from (Flags party 0))
 attach_any words party bucket _ = None
 
+-- a settler that has been over all slots attaches a detached bucket, whoever has detached it
 abbrev pub attach_from_any : Variant
 attach_from_any words (Flags party next) (Recover process bucket) = attach_any words party bucket (slice_get words.flags bucket)
 attach_from_any words place step = None
@@ -38,8 +41,8 @@ settle_addresses_not words (Addressing party slot bucket) (Next process) =
     Some (move_of Moves words (Slots party (after_slot words slot)))
 settle_addresses_not words place step = None
 
--- the first step of a post that detaches the bucket before it fills the slot, if its process is killed next; `filling` is the
--- machine's move, whose tests stay
+-- the first step of a post that detaches the bucket before it fills the slot, if its process is
+-- killed next; `filling` is the machine's move, whose tests stay
 abbrev pub detach_before : FileWords → ℕ → ℕ → FileMove → FileMove
 detach_before words party bucket filling =
     if fills_slot filling.outcome then detaching words party bucket Dead else filling
@@ -67,7 +70,7 @@ abbrev pub move_or : FileMove → Option FileMove → FileMove
 move_or move (Some other) = other
 move_or move None = move
 
--- the change by a step of the variant whose process is there, if there is such a process
+-- the change by a step of the variant whose process is at this place, if there is such a process
 abbrev pub wrong_change : Variant → FileState → FileStep → Option Place → FileChange
 wrong_change variant state step (Some place) =
     change_by state (process_of step) (move_or (move_at state.words place step) (variant state.words place step))
@@ -112,7 +115,8 @@ pub record LosesBucket (variant : Variant) : Type 0 where
   pub detached : IsFlag (wrong_left_by variant scene steps).words bucket (DetachedBy party)
   pub unknown : ¬ IsKnown (wrong_left_by variant scene steps).words bucket
 
--- after some steps of the variant a process gives back the bucket of a party whose lock another process has
+-- after some steps of the variant a process gives back the bucket of a party whose lock another
+-- process has
 pub record TakesAway (variant : Variant) : Type 0 where
   pub scene : FileScene
   pub steps : List FileStep

@@ -12,7 +12,8 @@ abbrev pub world_of : List Flag → List Slot → List (Option ℕ) → List Boo
 world_of flags slots locks outside places =
     record { words = record { flags = flags; slots = slots; locks = locks; outside = outside }; places = places }
 
--- the invariant of a world: each bucket and each slot has a number that a step can name, and so has the party that nobody joins
+-- the invariant of a world: each bucket and each slot has a number that a step can name, and so has
+-- the party that nobody joins
 pub record IsFileWorld (world : FileWorld) : Type 0 where
   pub buckets : length world.words.flags < 2 ^ 32
   pub slots : length world.words.slots < 2 ^ 32
@@ -23,15 +24,17 @@ pub record Steps (old : FileWorld) (step : FileStep) (answer : FileOutcome) (new
   pub outcome : answer ≡ (file_step old step).outcome
   pub state : new ≡ (file_step old step).state
 
--- `answer` has the outcomes of these steps in the world `old`, which becomes `new`. If memory ran out, no step was taken.
+-- `answer` has the outcomes of these steps in the world `old`, which becomes `new`. If memory ran
+-- out, no step was taken.
 pub record Replays {Z E : Type 0} (old : FileWorld) (steps : List FileStep) (answer : Result (Vec FileOutcome Z) E)
     (new : FileWorld) : Type 0 where
   pub outcomes : IfOk answer (λ found. found.items ≡ outcomes_of old steps)
   pub state : OnOk answer (new ≡ file_after old steps)
   pub unchanged : OnErr answer (new ≡ old)
 
--- By this move of a process, `answer` is what a world `old` returns, and `there` how far the process has come in the world `new`,
--- in which this isn't written yet.
+-- The move of a process in the world `old` has the outcome `answer`, and brings the process to the
+-- place `there`. The world `new` has the words after the move; the new place isn't written there
+-- yet.
 pub record IsMove (old : FileWorld) (move : FileMove) (answer : FileOutcome) (there : Place) (new : FileWorld) : Type 0 where
   pub outcome : answer ≡ move.outcome
   pub place : there ≡ move.place

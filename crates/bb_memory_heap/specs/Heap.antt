@@ -1,5 +1,5 @@
--- Heap blocks: bytes that the language's allocator gave. Which answers the heap may give, and when: nothing here predicts that
--- memory runs out. Alignments decide nothing.
+-- Heap blocks: bytes from the language's allocator. Defines which answers the heap may give, and
+-- when; nothing here predicts that memory runs out. Alignments are ignored.
 use Rattle.bb_memory_traits.specs.declared.allocator.AllocationError.{AllocationError}
 use Rattle.bb_memory_traits.specs.declared.allocator.AllocationError.TheVariants.{OutOfMemory, SizeIsZero}
 use Rattle.bb_memory_traits.specs.declared.allocator.AllocationGrowError.{AllocationGrowError}
@@ -16,14 +16,14 @@ MayAllocate layout (Err SizeIsZero) = layout.size ≡ 0
 MayAllocate layout (Err OutOfMemory) = 0 < layout.size
 MayAllocate layout answer = ⊥
 
--- a grown block begins with the old bytes, followed by zeros; a refusal returns the block as it was
+-- a grown block begins with the old bytes, followed by zeros; a refusal returns the block unchanged
 abbrev pub MayGrow : List ℕ → Layout → Layout → Result (List ℕ) (List ℕ × AllocationGrowError) → Type 0
 MayGrow block old new (Ok grown) = (old.size < new.size) × (grown ≡ block ++ replicate (new.size - old.size) 0)
 MayGrow block old new (Err (back, grow.GrowWouldShrink)) = (new.size ≤ old.size) × (back ≡ block)
 MayGrow block old new (Err (back, grow.OutOfMemory)) = (old.size < new.size) × (back ≡ block)
 MayGrow block old new answer = ⊥
 
--- a shrunk block has the first bytes; a refusal returns the block as it was
+-- a shrunk block has the first bytes of the old one; a refusal returns the block unchanged
 abbrev pub MayShrink : List ℕ → Layout → Layout → Result (List ℕ) (List ℕ × AllocationShrinkError) → Type 0
 MayShrink block old new (Ok shrunk) = (0 < new.size) × (new.size < old.size) × (shrunk ≡ take new.size block)
 MayShrink block old new (Err (back, shrink.ShrinkWouldGrow)) = (old.size ≤ new.size) × (back ≡ block)

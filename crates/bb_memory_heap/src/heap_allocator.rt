@@ -1,4 +1,4 @@
-//! Blocks of bytes from the language's allocator. Lengths are in bytes, and alignments decide nothing.
+//! Blocks of bytes from the language's allocator. Lengths are in bytes, and alignments are ignored.
 ghost use Rattle.bb_memory_heap.specs.Heap.{MayAllocate, MayGrow, MayShrink};
 ghost use Rattle.bb_memory_heap.specs.HeapLending.{LendsBlock, written};
 ghost use Rattle.std.specs.Borrow.{sem};
@@ -11,7 +11,7 @@ use bb_memory_traits::layout::Layout;
 use std::alloc::Global;
 use std::marker::Model;
 
-/// Bytes that a [`HeapAllocator`] gave. Its owner may drop it, as well as give it back.
+/// A block of bytes from a [`HeapAllocator`]. The owner may give the block back, or just drop it.
 #[derive(Drop)]
 pub struct HeapBlock {
     bytes: Vec<u8>,
@@ -42,7 +42,7 @@ impl HeapBlock {
         self.bytes.as_slice()
     }
 
-    /// Lends the bytes: the block then has the bytes that are written there.
+    /// Lends the bytes. Afterwards the block has the bytes that were written there.
     #[inline]
     pub fn as_mut_slice(&mut self) -> &mut [u8]
         ensures* writes_back { sem 𝓛 (LendsBlock self.entry result) }
@@ -52,7 +52,7 @@ impl HeapBlock {
     }
 }
 
-/// Gives blocks of bytes from the language's allocator.
+/// Allocates blocks of bytes from the language's allocator.
 ///
 /// Example: `comments::heap` of `crates/examples`.
 #[derive(Drop)]
@@ -67,8 +67,8 @@ impl HeapAllocator {
         HeapAllocator { alloc }
     }
 
-    /// Allocates a block of `layout.size()` zero bytes. Fails, in this order, with `SizeIsZero` if the size is 0, and with
-    /// `OutOfMemory` if memory ran out.
+    /// Allocates a block of `layout.size()` zero bytes. Fails, in this order, with `SizeIsZero` if
+    /// the size is 0, and with `OutOfMemory` if memory ran out.
     #[inline]
     pub fn allocate(&self, layout: Layout) -> Result<HeapBlock, AllocationError>
         ensures answer { MayAllocate layout result }
@@ -82,7 +82,7 @@ impl HeapAllocator {
         }
     }
 
-    /// Does the same as `allocate`, whose blocks are all zero.
+    /// Does the same as `allocate`, since that call zeroes the block already.
     #[inline]
     pub fn allocate_zeroed(&self, layout: Layout) -> Result<HeapBlock, AllocationError>
         ensures answer { MayAllocate layout result }
@@ -90,13 +90,14 @@ impl HeapAllocator {
         self.allocate(layout)
     }
 
-    /// Gives a block back. The layout decides nothing.
+    /// Gives a block back. The layout is ignored.
     #[inline]
     pub fn deallocate(&self, _block: HeapBlock, _layout: Layout) {}
 
-    /// Returns the block with zero bytes after its own, up to the new size. The old size has to be the block's length. Fails,
-    /// in this order, with `GrowWouldShrink` if the new size isn't greater than the old one, and with `OutOfMemory` if memory
-    /// ran out. A refusal returns the block as it was.
+    /// Grows the block to the new size, with zero bytes after its own. The old size has to be the
+    /// block's length. Fails, in this order, with `GrowWouldShrink` if the new size isn't greater
+    /// than the old one, and with `OutOfMemory` if memory ran out. A refusal returns the block
+    /// unchanged.
     #[inline]
     pub fn grow(
         &self,
@@ -121,7 +122,7 @@ impl HeapAllocator {
         }
     }
 
-    /// Does the same as `grow`, which makes all bytes that it adds zero.
+    /// Does the same as `grow`, since that call zeroes the bytes that it adds already.
     #[inline]
     pub fn grow_zeroed(
         &self,
@@ -135,9 +136,10 @@ impl HeapAllocator {
         self.grow(block, old, new)
     }
 
-    /// Returns the first bytes of the block, up to the new size. The old size has to be the block's length. Fails, in this
-    /// order, with `ShrinkWouldGrow` if the new size isn't smaller than the old one, and with `SizeIsZero` if the new size is
-    /// 0. A refusal returns the block as it was. The call allocates nothing.
+    /// Shrinks the block to its first `new.size()` bytes. The old size has to be the block's
+    /// length. Fails, in this order, with `ShrinkWouldGrow` if the new size isn't smaller than the
+    /// old one, and with `SizeIsZero` if the new size is 0. A refusal returns the block unchanged.
+    /// The call allocates nothing.
     #[inline]
     pub fn shrink(
         &self,
@@ -160,8 +162,9 @@ impl HeapAllocator {
     }
 }
 
-/// States in plain words what [`HeapBlock::as_mut_slice`] promises about the bytes that it lends: bytes that were written there
-/// are the block's afterwards, if they have the block's length. The function does nothing: its contract is the law.
+/// States in plain words what [`HeapBlock::as_mut_slice`] promises about the bytes that it lends:
+/// if bytes of the block's length were written there, they are the block's bytes afterwards. The
+/// function does nothing: its contract is the law.
 pub fn heap_law()
     ensures written { (block bytes : List ℕ) → length bytes ≡ length block
         → written block bytes ≡ bytes }

@@ -1,4 +1,5 @@
-//! Blocks of bytes from the language's allocator, with the traits of `bb_memory_traits`.
+//! Blocks of bytes from the language's allocator. Re-exports the errors and traits of
+//! `bb_memory_traits`.
 #![tactic(auto)]
 
 pub mod heap_allocator;

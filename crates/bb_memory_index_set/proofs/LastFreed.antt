@@ -1,4 +1,5 @@
--- A set of numbers without the one that was freed last: the number's bit is set, and the number is free.
+-- A set of numbers without the one that was freed last: the number's bit is set, and the number is
+-- free.
 use Rattle.bb_memory_index_set.proofs.NumberWords.{length-numbers_of, released}
 use Rattle.bb_memory_index_set.proofs.Tallies.{tally-released}
 use Rattle.bb_memory_index_set.specs.IndexSets.{AreIndexWords, Has, IsLastFreed, IsTally, Lacks, SetsBit, index_words, less_last_freed, numbers_of}
@@ -58,7 +59,8 @@ pub has_bound : (bound : ℕ) (words : List ℕ) (held : List Bool) (last_freed 
     (number < bound) × (number / 64 < length words)
 has_bound bound words held last_freed number is are within = grind (arith, length-held)
 
--- a taking of the number that was freed last: the numbers whose bit is set are the set with this one
+-- a taking of the number that was freed last: the numbers whose bit is set are the set with this
+-- one
 pub given : (numbers held : List Bool) (last_freed : ℕ) → less_last_freed numbers last_freed ≡ held → Has numbers last_freed →
     Lacks held last_freed × (numbers ≡ set held last_freed true)
 given numbers held last_freed is has =
@@ -75,7 +77,8 @@ pub swapped : (numbers held : List Bool) (last_freed number : ℕ) → less_last
     less_last_freed (less_last_freed numbers number) last_freed ≡ less_last_freed held number
 swapped numbers held last_freed number is has = grind (arith, set_comm)
 
--- the words after a number of the set was put back: its bit is cleared, and `last_freed` is unchanged
+-- the words after a number of the set was put back: its bit is cleared, and `last_freed` is
+-- unchanged
 pub record IsPutBack (bound : ℕ) (words new : List ℕ) (last_freed number : ℕ) : Type 0 where
   pub are : AreIndexWords bound new
   pub still_last_freed : IsLastFreed (numbers_of bound new) last_freed

@@ -56,7 +56,8 @@ pub room_left : (bound : ℕ) (Open : ℕ → Type 0) (named : ℕ → ℕ) (ope
 room_left bound Open named open_count at is within full =
     few_more named open_count bound at is.below is.once within (λ k h e. full (subst Open e (is.each k h)))
 
--- One number changes, and the others stay. `named` lists `open_count` before, and `now` lists those after.
+-- One number changes, and the others stay. `named` lists `open_count` before, and `now` lists those
+-- after.
 module _ (bound : ℕ) (Open Now : ℕ → Type 0) (named now : ℕ → ℕ) (open_count at : ℕ) (is : IsListing bound Open named open_count)
     (others : (other : ℕ) → other ≢ at → (Open other → Now other) × (Now other → Open other)) where
   -- the number that was listed last isn't open any more

@@ -1,4 +1,5 @@
--- The lowest clear bit of a word, the word with that bit set, and a set of numbers with that bit's number.
+-- The lowest clear bit of a word, the word with that bit set, and a set of numbers with that bit's
+-- number.
 use Rattle.bb_memory_index_set.proofs.NumberWords.{AreIndexWords-set, Changes, change, lacks, numbers_of-set}
 use Rattle.bb_memory_index_set.specs.IndexSets.{AreIndexWords, Lacks, SetsBit, has_bit, numbers_of}
 use Rattle.std.proofs.Common.{List, ap, arith, eqb, false, get_or, length, set, suc, sym, true, w64, zero, ℕ, ◌%◌, ◌*◌, ◌+◌, ◌/◌, ◌<◌, ◌^◌, ◌∙◌, ◌≡◌}
@@ -58,7 +59,8 @@ lowest_set words at word within read not_full =
     rw e at (change words (at * 64 + bit) (bit_or word (word + 1)) true (rw e within) changes) in
     (low, clear, sets)
 
--- A taking: the number of that bit wasn't in the set. With the bit set, the words are the set with the number.
+-- A taking: the number of that bit wasn't in the set. With the bit set, the words are the set with
+-- the number.
 pub taken : (bound : ℕ) (words : List ℕ) (at word : ℕ) → AreIndexWords bound words → at < length words →
     word ≡ get_or words at 0 → word + 1 < 2 ^ 64 →
     let number = at * 64 + trailing_ones w64 word in

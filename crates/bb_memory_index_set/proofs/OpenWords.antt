@@ -1,4 +1,5 @@
--- The words that aren't full, the current one and the listed ones: after a taking and after a release.
+-- The words that aren't full, the current one and the listed ones: after a taking and after a
+-- release.
 use Rattle.bb_memory_index_set.proofs.LastFreed.{given, word_count}
 use Rattle.bb_memory_index_set.proofs.Listings.{filled, opened, still}
 use Rattle.bb_memory_index_set.proofs.LowestBits.{taken}

@@ -1,4 +1,4 @@
--- How many members a set of numbers has, and the greatest number of them that it had.
+-- How many members a set of numbers has, and the greatest number of members that it has had.
 use Rattle.bb_memory_index_set.specs.IndexSets.{Has, IsTally, Lacks, member_count}
 use Rattle.std.proofs.Common.{Bool, List, [], ap, arith, false, get_or, length, length-set, max, min, refl, replicate, set, suc, sym, true, zero, ℕ, ◌+◌, ◌-◌, ◌<◌, ◌∷◌, ◌≡◌, ◌≤◌}
 use Rattle.std.proofs.lemmas.Grind.{common_steps}

@@ -69,8 +69,8 @@ numbers_of bound words = map (has_bit words) (range_with_len 0 bound)
 abbrev pub less_last_freed : List Bool → ℕ → List Bool
 less_last_freed numbers last_freed = slice_set numbers last_freed false
 
--- The number that was freed last still has its bit set. If no number was, `last_freed` is 2 ^ 64 -
--- 1, which is above each bound.
+-- The number that was freed last still has its bit set. If there is no such number, `last_freed` is
+-- 2 ^ 64 - 1, which is above each bound.
 abbrev pub IsLastFreed : List Bool → ℕ → Type 0
 IsLastFreed numbers last_freed = last_freed ≢ 2 ^ 64 - 1 → Has numbers last_freed
 
@@ -88,7 +88,7 @@ pub record Slots : Type 0 where
 abbrev pub slots_of : ℕ → List ℕ → Slots
 slots_of count slots = record { words = take count slots; listed = drop count slots }
 
--- no word changes except the one at `at`
+-- no word changes, except perhaps the one at `at`
 pub record PutsAt (words : List ℕ) (at : ℕ) (new : List ℕ) : Type 0 where
   pub len : length new ≡ length words
   pub others : (other : ℕ) → other ≢ at → slice_index new other ≡ slice_index words other
@@ -116,8 +116,8 @@ pub record IsWordSet (bound : ℕ) (words : List ℕ) (listed : List ℕ) (curre
   pub room : length listed ≡ length words - 1
   pub listing : IsListing (length words) (IsOpen words) (open_word listed current open_count) open_count
 
--- A set of numbers below a bound, as flags. The first `left` entries of an array are exactly the
--- numbers that aren't in it, each once.
+-- A set of numbers below a bound, as flags. The first `left` entries of the array `free` are
+-- exactly the numbers that aren't in the set, each once.
 pub record AreFlags (room : ℕ) (bound : ℕ) (held : List Bool) (free : List ℕ) (left : ℕ) : Type 0 where
   pub len : length held ≡ room
   pub free_len : length free ≡ room

@@ -1,8 +1,9 @@
-//! A set of numbers below a bound, from which any number that isn't in it can be taken.
+//! A set of numbers below a bound. Its main call, `take`, adds some number that isn't in the set,
+//! and returns that number.
 //!
-//! [`words::Words`] allocates once, for a bit for each number and a list of the words that have a clear bit; [`flags::Flags`]
-//! doesn't allocate, and has an array with a flag for each number. Both keep a list of places with free numbers, so no taking
-//! searches.
+//! [`words::Words`] allocates once, for a bit for each number and a list of the words that have a
+//! clear bit; [`flags::Flags`] doesn't allocate, and has an array with a flag for each number. Both
+//! keep a list of places with free numbers, so `take` never searches.
 ghost use Rattle.bb_memory_index_set.specs.IndexSets.{Has, IsFull, Lacks, member_count};
 ghost use Rattle.std.specs.Prelude.{Bool, IfNone, IfSome, IsTrue, List, false, length, max, min, slice_set, true, ℕ, ◌<◌, ◌↔◌, ◌≡◌, ◌≤◌};
 
@@ -23,8 +24,9 @@ pub trait IndexSet: Drop {
     /// The number of words of a set of this bound that are read through a counter.
     ghost words: { ℕ → ℕ };
 
-    /// Puts a number that isn't in the set into it, and returns that number. Returns `None` exactly if every number is in the
-    /// set. The counter has to be 0, and ends at the number of words that were read: one, or none if the set has no word.
+    /// Adds a number that isn't in the set, and returns that number. Returns `None` exactly if
+    /// every number is in the set. The counter has to be 0, and ends at the number of words that
+    /// were read: one, or none if the set has no word.
     fn take(&mut self, counter: &mut Counter) -> Option<usize>
         requires { counter.old ≡ 0 }
         ensures lacked { IfSome result (Lacks (numbers self.old)) }
@@ -46,8 +48,8 @@ pub trait IndexSet: Drop {
         requires { number < length (numbers self.now) }
         ensures { IsTrue result ↔ Has (numbers self.now) number };
 
-    /// Returns whether some number below the bound isn't in the set, so that one can be taken. No word is read through a
-    /// counter.
+    /// Returns whether some number below the bound isn't in the set, so that `take` returns one. No
+    /// word is read through a counter.
     fn has_room(&self) -> bool
         ensures { IsTrue result ↔ ((number : ℕ) × Lacks (numbers self.now) number) };
 

@@ -1,4 +1,4 @@
--- Sums of a measure over items that are of groups, each group with a number.
+-- Sums of a measure over items in numbered groups.
 use Rattle.std.proofs.Common.{List, [], ap, arith, cond, get_or, length, refl, set, suc, zero, ℕ, ◌+◌, ◌-◌, ◌∷◌, ◌≡◌, ◌≤◌}
 use Rattle.std.proofs.lemmas.Bool.{cases_eq, cases_lt, eq-eqb, ne_eqb}
 use Rattle.std.proofs.lemmas.Grind.{common_steps}

@@ -51,7 +51,8 @@ module _ {X : Type 0} (figure : X → ℕ) where
       let rest = one_of_figure xs n (k, omega (arith, below), same) in
       record { one = rest.one; there = contains-behind x rest.one xs rest.there; its = rest.its }
 
--- An entry of a list, each part of which one number keeps, is in the log of the one that has its number.
+-- An entry of a list, each part of which one number keeps, is in the log of the one that has its
+-- number.
 module _ {X E : Type 0} (figure : X → ℕ) (log : X → List E) (by : ℕ → E → Bool) (list : List E) (made : ℕ) (xs : List X)
     (numbers : (n : ℕ) → n < made → Contains (map figure xs) n) (logged : All (λ x. filter (by (figure x)) list ≡ log x) xs)
     (nobody : (n : ℕ) → made ≤ n → filter (by n) list ≡ []) where

@@ -1,5 +1,5 @@
--- A party's log, at its beginning and its end: one more entry of the party makes its log longer by that entry, and no other
--- log.
+-- A party's log, at its beginning and its end: one more entry of the party makes its log longer by
+-- that entry, and no other log.
 use Rattle.bb_memory_lists.proofs.SliceGets.{slice_get-same, slice_get-set_apart, slice_get-set_at}
 use Rattle.std.proofs.Common.{Bool, List, Some, [], append-nil, arith, false, refl, true, ℕ, ◌++◌, ◌∷◌, ◌≡◌, ◌≢◌}
 use Rattle.std.proofs.lemmas.Bool.{cases_eq}

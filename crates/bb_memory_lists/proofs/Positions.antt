@@ -1,4 +1,5 @@
--- Items by their positions in a list, also after a removal; the first position of an item that passes a test.
+-- Items by their positions in a list, also after a removal; the first position of an item that
+-- passes a test.
 use Rattle.bb_memory_lists.proofs.SliceGets.{slice_get-last}
 use Rattle.std.proofs.Common.{Bool, IsSome, List, None, Some, [], ap, arith, cond, false, get_or, is_some, length, not, refl, subst, suc, true, zero, ℕ, ◌++◌, ◌+◌, ◌<◌, ◌∷◌, ◌≡◌, ◌≢◌}
 use Rattle.std.proofs.lemmas.Bool.{lt-ltb}

@@ -25,7 +25,8 @@ slice_get-set_same [] i v x is = absurd (cc)
 slice_get-set_same (y ∷ ys) zero v x is = refl
 slice_get-set_same (y ∷ ys) (suc i) v x is = slice_get-set_same ys i v x is
 
--- the same two facts, for indices that are equal or not by an equation; and the item that is read at an equal index is the same
+-- the same two facts, for indices that are equal or not by an equation; and the item that is read
+-- at an equal index is the same
 pub slice_get-set_apart : {X : Type 0} (xs : List X) (i j : ℕ) (v : X) → i ≢ j → slice_get (slice_set xs i v) j ≡ slice_get xs j
 slice_get-set_apart xs i j v apart = slice_get-set_other xs i j v (λ e. apart (sym e))
 
@@ -49,7 +50,8 @@ slice_get-replicated zero i x y is = absurd (cc)
 slice_get-replicated (suc n) zero x y is = cc
 slice_get-replicated (suc n) (suc i) x y is = slice_get-replicated n i x y is
 
--- if the figure of the value is that of no value, the figure is the same at each position of a list of that value
+-- if the figure of the value is that of no value, the figure is the same at each position of a list
+-- of that value
 pub replicated-figure : {X Y : Type 0} (figure : Option X → Y) (n i : ℕ) (x : X) → figure (Some x) ≡ figure None →
     figure (slice_get (replicate n x) i) ≡ figure None
 replicated-figure figure zero i x same = refl

@@ -1,5 +1,5 @@
-//! Laws of lists, for a user whose contracts are about the contents of a vector. Each is a function that does nothing: a call
-//! in a body puts its clauses in reach there.
+//! Laws of lists, for a user whose contracts are about the contents of a vector. Each law is a
+//! function that does nothing: a call in a body brings its clauses into scope there.
 ghost use Rattle.std.specs.Prelude.{Bool, IsSome, List, Some, [], if◌then◌else◌, length, map, position, remove, slice_get, slice_index_or, slice_set, sum, sum_by, true, ℕ, ◌++◌, ◌+◌, ◌-◌, ◌<◌, ◌==◌, ◌∷◌, ◌≡◌, ◌≤◌};
 
 /// States laws of appending one more item.
@@ -62,7 +62,8 @@ pub fn map_law<T, U>()
     ensures length { (of : T → U) (items : List T) → length (map of items) ≡ length items }
 {}
 
-/// Items that belong to numbered groups, with a measure to be summed. `group_law` is about such items.
+/// Items that belong to numbered groups, with a measure to be summed. `group_law` is about such
+/// items.
 pub trait Grouped {
     /// The number of the item's group.
     ghost group: { Self → ℕ };
@@ -71,7 +72,8 @@ pub trait Grouped {
     ghost measure: { Self → ℕ };
 }
 
-/// States that the measures of all items sum up to the sums of the groups together, and to at most their bounds together.
+/// States that the sum of the measures of all items is the sum of the sums of the groups, and at
+/// most the sum of the bounds of the groups.
 pub fn group_law<T: Grouped>()
     ensures together { (items : List T) (sums : List ℕ)
         → ((number : ℕ) → (sum_by (λ item. if T.group item == number then T.measure item else 0) items

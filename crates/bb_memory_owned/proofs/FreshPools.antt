@@ -1,4 +1,4 @@
--- A pool that a maker has made: no bucket is held, and no word was read.
+-- A pool that a constructor has made: no bucket is held, and no word was read.
 use Rattle.bb_memory_index_set.proofs.Tallies.{member_count-fresh}
 use Rattle.bb_memory_index_set.specs.IndexSets.{member_count}
 use Rattle.bb_memory_owned.specs.Pool.{IsPool, counted, fresh_pool, held_count, pool_of}

@@ -1,4 +1,4 @@
--- Lists that each step of an object keeps, and so each run.
+-- Properties of live lists that each step of an object keeps, and so each run.
 use Rattle.bb_memory_owned.specs.OneChunk.{Layout}
 use Rattle.bb_memory_traits.proofs.Runs.{IsRun-keeps}
 use Rattle.bb_memory_traits.specs.Chunk.{Chunk}

@@ -31,7 +31,8 @@ StandsFor-one region chunk inside = grind arith
 rest-inside : (region : Region) (place : ℕ) → HasByteAt region place → IsInside region (rest_from region place)
 rest-inside region place byte = record { above = byte.above; below = omega (arith, byte.below) }
 
--- each one-chunk allocator stands for some list: the empty one, or all of the region from the place that is kept
+-- each one-chunk allocator stands for some list: the empty one, or all of the region from the place
+-- that is kept
 some_list : (region : Region) (kept : Option ℕ) → ForSome kept (HasByteAt region) →
     (live : List Chunk) × StandsFor (one_of region kept) live
 some_list region None within = ([], StandsFor-empty region)
@@ -148,7 +149,8 @@ kept_lists region = record {
       (λ byte. omega (arith, byte.below, may.within, told.0, ap (λ (k : Chunk). chunk_end k) told.2));
 }
 
--- each run from a list that a one-chunk allocator stands for leads to another such list, with resizes or without
+-- each run from a list that a one-chunk allocator stands for leads to another such list, with
+-- resizes or without
 module _ (one : OneChunk) (live new : List Chunk) (commands : List Command) (replies : List Reply) (is : IsOneChunk one)
     (stands : StandsFor one live) where
   from : IsOneChunkList one.region live

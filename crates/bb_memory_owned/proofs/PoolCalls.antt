@@ -67,7 +67,8 @@ Takes-given pool layout (Ok chunk) new (i, within, lacks, given, after) =
     (ap (λ (c : Chunk). c.place) given))
 Takes-given pool layout (Err error) new takes = tt
 
--- a refusal changes nothing, and comes only if the layout is too large for a bucket or each bucket is held
+-- a refusal changes nothing, and comes only if the layout is too large for a bucket or each bucket
+-- is held
 refused : (pool : Pool) (layout : Layout) (error : AllocationError) (new : Pool) → IsPool pool →
     Takes pool layout (Err error) new →
     (new ≡ pool) × (IsWithin pool.geometry.bucket layout → (i : ℕ) → ¬ Lacks pool.held i)
@@ -218,7 +219,8 @@ module _ (pool : Pool) (place i : ℕ) (is : IsPool pool) (has : Has pool.held i
 
 -- RESIZES
 
--- a chunk that a resize gives is at the place, and has at least the requested size and at most that of a bucket
+-- a chunk that a resize gives is at the place, and has at least the requested size and at most that
+-- of a bucket
 abbrev pub FitsBucket : {E : Type 0} → Layout → ℕ → ℕ → Result Chunk E → Type 0
 FitsBucket bucket place size answer = IfOk answer (λ resized. resized.place ≡ place)
     × IfOk answer (λ resized. size ≤ resized.len) × IfOk answer (λ resized. resized.len ≤ bucket.size)

@@ -1,4 +1,5 @@
--- The live lists that a pool stands for: where their chunks are, and the results of releases and runs of the pool object.
+-- The live lists that a pool stands for: where their chunks are, and the results of releases and
+-- runs of the pool object.
 use Rattle.bb_memory_index_set.proofs.NumberSets.{has_or_lacks}
 use Rattle.bb_memory_index_set.specs.IndexSets.{Lacks}
 use Rattle.bb_memory_lists.proofs.Positions.{All-from_positions, AllPairs-at, AllPairs-from_positions}

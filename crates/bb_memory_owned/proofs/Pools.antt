@@ -1,4 +1,5 @@
--- The live lists that a pool stands for: with no chunk, with one more, with one less, and with one resized.
+-- The live lists that a pool stands for: with no chunk, with one more, with one fewer, and with one
+-- resized.
 use Rattle.bb_memory_index_set.proofs.LastFreed.{given}
 use Rattle.bb_memory_index_set.proofs.Tallies.{member_count-released, some_member}
 use Rattle.bb_memory_index_set.specs.IndexSets.{Has, Lacks}
@@ -63,7 +64,8 @@ held_bucket_below pool place flags holds =
 
 -- LISTS
 
--- a pool stands for a list if the list's chunks are in held buckets, no two in one, and each held bucket has one
+-- a pool stands for a list if the list's chunks are in held buckets, no two in one, and each held
+-- bucket has one
 pub stands_from : (pool : Pool) → IsPool pool → (live : List Chunk) → All (λ chunk. (i : ℕ) × Fills pool chunk i) live →
     PlacesDiffer live → ((i : ℕ) → Has pool.held i → IsHeld pool.geometry live i) → StandsFor pool live
 stands_from pool is live filled differ held =

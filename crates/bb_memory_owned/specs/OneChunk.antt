@@ -9,9 +9,9 @@ pub use Rattle.bb_memory_traits.specs.declared.allocator.AllocationShrinkError.{
 pub use Rattle.bb_memory_traits.specs.declared.layout.Layout.{Layout}
 use Rattle.std.specs.Prelude.{Err, IfOk, IsOk, IsSome, None, OnErr, Result, Some, ◌↔◌, ◌≡◌, ◌⊎◌}
 
--- A request, by the allocator's value: its answer, and the allocator after it.
+-- The effect of a request on the value of the allocator: the answer, and the allocator afterwards.
 pub record Takes (old : OneChunk) (layout : Layout) (answer : Result Chunk AllocationError) (new : OneChunk) : Type 0 where
-  -- each outcome, both ways
+  -- when exactly the request has each outcome
   pub accepted : IsOk answer ↔ ((old.kept ≡ None) × HasRoom old.region layout)
   pub refused : (answer ≡ Err OutOfMemory) ↔ (IsSome old.kept ⊎ LacksRoom old.region layout)
   -- the chunk begins at the layout's first place, which is then kept, and ends at the region's end

@@ -24,7 +24,7 @@ pub record Pool : Type 0 where
   pub geometry : PoolGeometry
   pub held : List Bool
 
--- the pool with these buckets, of which those with a set flag are held
+-- the pool with these buckets, of which those with a true flag are held
 abbrev pub pool_of : PoolGeometry → List Bool → Pool
 pool_of geometry held = record { geometry = geometry; held = held }
 
@@ -32,7 +32,8 @@ pool_of geometry held = record { geometry = geometry; held = held }
 abbrev pub fresh_pool : PoolGeometry → Pool
 fresh_pool geometry = pool_of geometry (replicate geometry.buckets false)
 
--- The invariant of a pool: its buckets are inside a region, and for each of them there is a flag.
+-- The invariant of a pool: its buckets are inside a valid region, and there is one flag for each
+-- bucket.
 pub record IsPool (pool : Pool) : Type 0 where
   pub region : IsRegion pool.geometry.region
   pub geometry : IsPoolGeometry pool.geometry
@@ -40,7 +41,8 @@ pub record IsPool (pool : Pool) : Type 0 where
 
 -- MAKING
 
--- the region may be cut into such buckets, and is cut into all that it has room for
+-- the geometry of an uninitialized pool: the region may be cut into such buckets, and is cut into
+-- all that it has room for
 pub record IsUninit (geometry : PoolGeometry) : Type 0 where
   pub may : MayBeCut geometry.region geometry.bucket
   pub cut : IsCut geometry.region geometry.bucket geometry
@@ -80,7 +82,7 @@ abbrev pub with_flag : Pool → ℕ → Bool → Pool
 with_flag pool i flag = pool_of pool.geometry (slice_set pool.held i flag)
 
 -- The answers that a pool may give to a request, and the pool after it. Any free bucket may be
--- given; a refusal changes nothing.
+-- allocated; a refusal changes nothing.
 abbrev pub Takes : Pool → Layout → Result Chunk AllocationError → Pool → Type 0
 Takes pool layout (Ok chunk) new =
     (i : ℕ) × IsWithin pool.geometry.bucket layout × Lacks pool.held i
@@ -100,7 +102,8 @@ Frees pool place new = (i : ℕ) → Has pool.held i → place ≡ bucket_place 
 abbrev pub held_count : Pool → ℕ
 held_count pool = member_count pool.held
 
--- a pool, how many index words its last request read, and the greatest number of buckets that were held at one time so far
+-- a pool, how many index words its last request read, and the greatest number of buckets that were
+-- held at one time so far
 pub record CountedPool : Type 0 where
   pub pool : Pool
   pub reads : ℕ
@@ -110,11 +113,11 @@ pub record CountedPool : Type 0 where
 abbrev pub counted : Pool → ℕ → ℕ → CountedPool
 counted pool reads greatest = record { pool = pool; reads = reads; greatest = greatest }
 
--- A request, by the pool's value: its answer, the pool after it, and how many of its index words it
--- read.
+-- The effect of a request on the value of a pool with `words` index words: the answer, and the pool
+-- afterwards.
 pub record TakesBucket (old : CountedPool) (layout : Layout) (answer : Result Chunk AllocationError)
     (new : CountedPool) (words : ℕ) : Type 0 where
-  -- the bucket that is held then, or the reason for the refusal; there is no other reason
+  -- the bucket that is held afterwards, or the reason for the refusal; there is no other reason
   pub taken : Takes old.pool layout answer new.pool
   pub accepted : IsOk answer ↔ (IsWithin old.pool.geometry.bucket layout × ((i : ℕ) × Lacks old.pool.held i))
   pub pool_unchanged : OnErr answer (new.pool ≡ old.pool)
@@ -123,7 +126,7 @@ pub record TakesBucket (old : CountedPool) (layout : Layout) (answer : Result Ch
       → AreAStrideApart old.pool.geometry.bucket place chunk.place)
   pub others_kept : (place : ℕ) → HoldsPlace old.pool place → HoldsPlace new.pool place
   pub bucket_aligned : IfOk answer (λ chunk. chunk.place % old.pool.geometry.bucket.align ≡ 0)
-  -- a bucket that is given counts as held; a refusal counts nothing
+  -- an allocated bucket counts as held; a refusal counts nothing
   pub one_more : IfOk answer (λ chunk. held_count new.pool ≡ held_count old.pool + 1)
   pub greatest : new.greatest ≡ max old.greatest (held_count new.pool)
   pub greatest_unchanged : OnErr answer (new.greatest ≡ old.greatest)
@@ -150,8 +153,9 @@ Allocates old layout answer new words = Requested (record {
   takes = λ before asked told after. TakesBucket before asked told after words;
 }) old layout answer new
 
--- A release, by the pool's value: the bucket, which was held, is free after it, and so one bucket
--- less is held. Each other place is held or free as before, and the greatest number stays.
+-- The effect of a release on the value of a pool: the bucket, which was held, is free afterwards,
+-- so one bucket fewer is held. Each other place is held or free as before, and the greatest number
+-- of held buckets is unchanged.
 pub record FreesBucket (old : CountedPool) (place : ℕ) (new : CountedPool) : Type 0 where
   pub freed : Frees old.pool place new.pool
   pub others_kept : (other : ℕ) → HoldsPlace old.pool other → other ≢ place → HoldsPlace new.pool other
@@ -169,7 +173,7 @@ reads_after bucket words before commands = note_after_run (λ layout reads. read
 
 -- LAWS OF HELD BUCKETS AND THEIR PLACES
 
--- a place that is held is that of a held bucket
+-- a held place is that of a held bucket
 pub bucket_held_at : (pool : Pool) (place : ℕ) → HoldsPlace pool place →
     (i : ℕ) × Has pool.held i × (place ≡ bucket_place pool.geometry i)
 unfolding holds_place
@@ -213,7 +217,7 @@ pub covered : (pool : Pool) (live : List Chunk) (position : ℕ) (chunk : Chunk)
     StandsFor pool live → slice_get live position ≡ Some chunk → chunk.len ≤ pool.geometry.bucket.size
 covered pool live position chunk stands at = (filled-at pool live stands position chunk at).1.short
 
--- a held bucket's place is that of a chunk of it
+-- a held bucket's place is that of a live chunk
 pub held_is_live : (pool : Pool) (live : List Chunk) (place : ℕ) →
     StandsFor pool live → HoldsPlace pool place → (position : ℕ) × (chunk : Chunk)
     × (slice_get live position ≡ Some chunk) × (chunk.place ≡ place)

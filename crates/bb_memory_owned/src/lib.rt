@@ -1,13 +1,18 @@
-//! Allocators with one owner over a region that is given as two numbers: its start and its size in bytes.
+//! Allocators with one owner over a region that is given as two numbers: its start and its size in
+//! bytes.
 //!
 //! The modules, in the order in which to read them:
 //!
 //! - `one_chunk_allocator`: one chunk at a time, all of the region from its place on.
-//! - `pool_allocator`: pools, and the makers of the pool on words. `geometry` is passed on from `bb_memory_traits`.
-//!   - `bucket_pool`: buckets, with the set of those that are held, which is one of `bb_memory_index_set`.
-//!   - `fixed_size`: the pool with an array of its own. `laws`: what the definitions mean.
+//! - `pool_allocator`: pools, and the constructors of the pool that records its buckets in words.
+//!   Re-exports `geometry` of `bb_memory_traits`.
+//!   - `bucket_pool`: buckets, and the set of those that are held, which is a set of
+//!     `bb_memory_index_set`.
+//!   - `fixed_size`: the pool that records its buckets in an array of its own. `laws`: what the
+//!     definitions mean.
 //!
-//! The bump is in crate `bb_memory_bump`, with the one that threads share. Crate `bb_memory` passes all of it on.
+//! The bump is in crate `bb_memory_bump`, with the bump that threads share. Crate `bb_memory`
+//! re-exports all of this.
 #![tactic(auto)]
 
 pub mod one_chunk_allocator;

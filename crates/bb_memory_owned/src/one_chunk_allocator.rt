@@ -1,4 +1,4 @@
-//! An allocator that gives one chunk at a time, which is all of its region from the chunk's place on.
+//! An allocator with one chunk at a time, which is all of its region from the chunk's place on.
 ghost use Rattle.bb_memory_owned.specs.OneChunk.{AllocationError, AllocationGrowError, AllocationShrinkError, Frees, IsOneChunk, Layout, OneChunk, StandsFor, Takes, one_chunk_of};
 ghost use Rattle.bb_memory_traits.proofs.OneChunkLists.{covered, kept_is_live, only_chunk, places_differ};
 ghost use Rattle.bb_memory_traits.specs.Chunk.{Chunk, IsInside, IsRegion, Region, chunk_end, region_at, region_end};
@@ -16,7 +16,8 @@ pub use bb_memory_traits::layout::Layout;
 use bb_memory_traits::region;
 use std::marker::Model;
 
-/// Gives one chunk at a time: all of the region from the first suitable place on. The chunk can be resized in place.
+/// Allocates one chunk at a time: all of the region from the first suitable place on. The chunk can
+/// be resized in place.
 ///
 /// Example: `comments::one_chunk` of `crates/examples`.
 #[derive(Debug, Drop)]
@@ -35,8 +36,9 @@ impl Model for OneChunkAllocator {
 }
 
 impl OneChunkAllocator {
-    /// Makes an allocator over the region of `size` bytes at `start`. No chunk is given. The start has to be greater than 0,
-    /// and start plus size at most `usize::MAX`; [`OneChunkAllocator::can_make`] tests both.
+    /// Makes an allocator over the region of `size` bytes at `start`, with no chunk in use. The
+    /// start has to be greater than 0, and start plus size at most `usize::MAX`;
+    /// [`OneChunkAllocator::can_make`] tests both.
     #[inline]
     pub fn new(start: usize, size: usize) -> Self
         requires { IsRegion (region_at start size) }
@@ -67,8 +69,8 @@ impl OneChunkAllocator {
         self.kept_place.is_none()
     }
 
-    /// Returns whether the chunk in use has this place, so that it may be given back: true exactly if `deallocate` may be called
-    /// with the place.
+    /// Returns whether a chunk is in use that begins at this place: true exactly if `deallocate`
+    /// may be called with the place.
     ///
     /// Example: `comments::one_chunk_held` of `crates/examples`.
     #[inline(always)]
@@ -125,9 +127,10 @@ impl BaseAllocator for OneChunkAllocator {
 
     ghost frees = { λ one _ _ new. Frees one new };
 
-    /// Allocates a chunk at the least multiple of `layout.align()` from the region's start on, up to the region's end. Fails,
-    /// with `OutOfMemory`, exactly if a chunk is in use, if that place is at or after the region's end, or if less than
-    /// `layout.size()` bytes are left there. A refusal leaves the allocator unchanged.
+    /// Allocates all bytes from the first multiple of `layout.align()` at or after the region's
+    /// start up to the region's end. Fails, with `OutOfMemory`, exactly if a chunk is in use, if
+    /// that place is at or after the region's end, or if fewer than `layout.size()` bytes are left
+    /// from there on. A refusal leaves the allocator unchanged.
     #[inline(always)]
     fn allocate(&mut self, layout: Layout) -> Result<Chunk, AllocationError> {
         if self.kept_place.is_some() {
@@ -144,7 +147,7 @@ impl BaseAllocator for OneChunkAllocator {
         Ok(chunk_between(asked.place(), end))
     }
 
-    /// Gives back the chunk in use, which has to be at this place. The layout decides nothing.
+    /// Gives back the chunk in use, which has to begin at this place. The layout is ignored.
     #[inline(always)]
     fn deallocate(&mut self, _place: usize, _layout: Layout) {
         self.kept_place = None;
@@ -180,7 +183,8 @@ impl Allocator for OneChunkAllocator {
 
     ghost shrinks = { λ _ place old new answer _. MayShrink place old new answer };
 
-    /// Returns the number of bytes from the chunk's place to the region's end. The place has to be that of the chunk in use.
+    /// Returns the number of bytes from the chunk's place to the region's end. The place has to be
+    /// that of the chunk in use.
     #[inline]
     fn reserved(&self, place: usize) -> usize
         requires { self.now.kept ≡ Some place }
@@ -191,13 +195,15 @@ impl Allocator for OneChunkAllocator {
         end - place
     }
 
-    /// Gives the chunk all that is reserved for it. Fails with the first of these errors that applies:
+    /// Grows the chunk to all the bytes that are reserved for it. Fails with the first of these
+    /// errors that applies:
     ///
     /// - `GrowWouldShrink` if the new size isn't greater than the old one.
     /// - `AlignmentFailure` if the new alignment is greater than the old one.
-    /// - `OutOfMemory` if less than the new size is reserved.
+    /// - `OutOfMemory` if fewer bytes than the new size are reserved.
     ///
-    /// The allocator doesn't change. The place has to be that of the chunk in use and a multiple of the old alignment.
+    /// The allocator doesn't change. The place has to be that of the chunk in use and a multiple of
+    /// the old alignment.
     #[inline]
     fn grow(
         &mut self,
@@ -218,10 +224,11 @@ impl Allocator for OneChunkAllocator {
         Ok(chunk_between(place, end))
     }
 
-    /// Gives the chunk exactly the new size. Fails, in this order, with `ShrinkWouldGrow` if the new size isn't smaller than
-    /// the old one, and with `AlignmentFailure` if the new alignment is greater than the old one. The allocator doesn't change.
-    /// The place has to be that of the chunk in use and a multiple of the old alignment, and the old size at most what is
-    /// reserved.
+    /// Shrinks the chunk to exactly the new size. Fails, in this order, with `ShrinkWouldGrow` if
+    /// the new size isn't smaller than the old one, and with `AlignmentFailure` if the new
+    /// alignment is greater than the old one. The allocator doesn't change. The place has to be
+    /// that of the chunk in use and a multiple of the old alignment, and the old size at most what
+    /// is reserved.
     #[inline]
     fn shrink(
         &mut self,
@@ -251,11 +258,12 @@ impl Allocator for OneChunkAllocator {
         kept_is_live one.kept live place stands.keeps out };
 }
 
-/// States what the definition of the one-chunk object means for every region and every list of commands. There is exactly one
-/// answer to each request, and to each resize. A chunk that is given begins at a multiple of the requested alignment, has at
-/// least the requested size, isn't empty, and ends at the region's end. Each run from a live list that a one-chunk allocator
-/// stands for, with resizes or without, leads to another such list, which is sound. The function does nothing: its contract is
-/// the law.
+/// States what the definition of the one-chunk object means for every region and every list of
+/// commands. There is exactly one answer to each request, and to each resize. An allocated chunk
+/// begins at a multiple of the requested alignment, has at least the requested size, isn't empty,
+/// and ends at the region's end. Each run from a live list that a one-chunk allocator stands for,
+/// with resizes or without, leads to another such list, which is sound. The function does nothing:
+/// its contract is the law.
 pub fn one_chunk_object_law()
     ensures some_answer { (region : Region) → AnswersAll (one_chunk_object region).base }
     ensures one_answer { (region : Region) → AnswersOnce (one_chunk_object region).base }
@@ -291,7 +299,8 @@ pub fn one_chunk_object_law()
         → (left : OneChunk) × IsOneChunk left × (left.region ≡ one.region) × StandsFor left new }
 {}
 
-/// Returns the chunk from a place to an end. The place must not be 0, and the end must not be below it.
+/// Returns the chunk from a place to an end. The place must not be 0, and the end must not be below
+/// it.
 #[inline(always)]
 fn chunk_between(place: usize, end: usize) -> Chunk
     requires place { 0 < place }

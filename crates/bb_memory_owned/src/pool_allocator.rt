@@ -1,4 +1,5 @@
-//! Allocators that cut a region into buckets of one layout, and give a bucket for each request.
+//! Allocators that cut a region into buckets of one layout, and allocate one bucket for each
+//! request.
 ghost use Rattle.bb_memory_index_set.specs.IndexSets.{index_words, words_with_list};
 ghost use Rattle.bb_memory_owned.specs.Pool.{FreesBucket, HoldsPlace, StandsFor, counted, fresh_pool};
 ghost use Rattle.bb_memory_traits.specs.Chunk.{Chunk, first_place, region_at};
@@ -26,7 +27,7 @@ pub use laws::{pool_count_law, pool_geometry_law, pool_held_law, pool_object_law
 use std::alloc::{Allocator as LanguageAllocator, Global};
 use std::marker::Model;
 
-/// A pool whose index words aren't made yet.
+/// A pool whose index words aren't allocated yet.
 #[derive(Drop)]
 pub struct UninitPoolAllocator {
     geometry: Geometry,
@@ -44,8 +45,8 @@ impl Model for UninitPoolAllocator {
 }
 
 impl UninitPoolAllocator {
-    /// Allocates memory for the index words, and makes a pool with no bucket held. Fails only with `OutOfMemory`, if memory ran
-    /// out, and then returns the uninitialized pool unchanged.
+    /// Allocates memory for the index words, and makes a pool with no bucket held. Fails only with
+    /// `OutOfMemory`, if memory ran out, and then returns the uninitialized pool unchanged.
     pub fn init<A: LanguageAllocator>(
         self,
         alloc: A,
@@ -65,18 +66,20 @@ impl UninitPoolAllocator {
     }
 }
 
-/// Gives buckets of one layout. Words of 64 bits record which buckets are held. Memory for them is allocated once, in
-/// [`UninitPoolAllocator::init`].
+/// Allocates buckets of one layout. Words of 64 bits record which buckets are held; memory for the
+/// words is allocated once, in [`UninitPoolAllocator::init`].
 ///
 /// Example: `comments::pool` of `crates/examples`.
 pub type PoolAllocator<A> = BucketPool<Words<A>>;
 
-// Functions that don't involve index words belong to one instance, so that callers name only the type.
+// Functions that don't involve index words are defined for one allocator type only, so that callers
+// needn't name one.
 impl PoolAllocator<Global> {
-    /// Makes a pool over the region of `size` bytes at `start`, cut into buckets of this layout, whose index words
-    /// [`UninitPoolAllocator::init`] makes. The start and the bucket's size have to be greater than 0. The start plus the size,
-    /// and the start rounded up to the bucket's alignment, have to be at most `usize::MAX`. There have to be fewer than
-    /// `u32::MAX` buckets. [`PoolAllocator::can_make`] tests all of it.
+    /// Makes a pool over the region of `size` bytes at `start`, cut into buckets of this layout,
+    /// whose index words [`UninitPoolAllocator::init`] makes. The start and the bucket's size have
+    /// to be greater than 0. The start plus the size, and the start rounded up to the bucket's
+    /// alignment, have to be at most `usize::MAX`. There have to be fewer than `u32::MAX` buckets.
+    /// [`PoolAllocator::can_make`] tests all of it.
     pub fn new_uninit(bucket_layout: Layout, start: usize, size: usize) -> UninitPoolAllocator
         requires { MayBeCut (region_at start size) bucket_layout }
         ensures { IsCut (region_at start size) bucket_layout result }
@@ -102,9 +105,10 @@ impl PoolAllocator<Global> {
         end.saturating_sub(first) / stride(bucket_layout) < u32::MAX as usize
     }
 
-    /// Returns a number of bytes that is enough for the index words of a pool over a region of `size` bytes, wherever it
-    /// starts, and for their list: eight bytes for each time that the bucket's size goes into the region's. The bucket's size
-    /// has to be greater than 0, and that quotient at most `u32::MAX`.
+    /// Returns a number of bytes that is enough for the index words, and for their list, of a pool
+    /// over a region of `size` bytes that starts anywhere: eight times the quotient of `size` and
+    /// the bucket's size, rounded down. The bucket's size has to be greater than 0, and the
+    /// quotient at most `u32::MAX`.
     pub fn memory_size(bucket_layout: Layout, size: usize) -> usize
         requires filled { 0 < bucket_layout.size }
         requires quotient { size / bucket_layout.size < 2 ^ 32 }
@@ -118,7 +122,8 @@ impl PoolAllocator<Global> {
 }
 
 impl<A: LanguageAllocator> PoolAllocator<A> {
-    /// Returns the place of the first bucket: the region's start, rounded up to the bucket's alignment.
+    /// Returns the place of the first bucket: the region's start, rounded up to the bucket's
+    /// alignment.
     #[inline]
     pub fn start_address(&self) -> usize
         ensures { result ≡ first_place self.now.pool.geometry.region self.now.pool.geometry.bucket }
@@ -126,10 +131,11 @@ impl<A: LanguageAllocator> PoolAllocator<A> {
         self.geometry.first()
     }
 
-    /// Returns how many index words the last `allocate` or `allocate_zeroed` read: one if it searched for a free bucket in a
-    /// pool that has a bucket, and 0 if it was refused because of the size or the alignment. Before the first call the result
-    /// is 0. The number is at most an eighth of [`PoolAllocator::memory_size`], and at most the number of buckets divided by
-    /// 64, rounded up.
+    /// Returns how many index words the last `allocate` or `allocate_zeroed` read: one if it
+    /// searched for a free bucket in a pool that has a bucket, and 0 if it was refused because of
+    /// the size or the alignment. Before the first call the result is 0. The number is at most an
+    /// eighth of [`PoolAllocator::memory_size`], and at most the number of buckets divided by 64,
+    /// rounded up.
     #[inline]
     pub fn last_reads(&self) -> u32
         ensures value { result ≡ self.now.reads }

@@ -27,7 +27,8 @@ none_taken_at_opening scene bucket taken = elim taken [
 
 -- ONE STEP
 
--- a flag that becomes free, or has a holder then, leaves no other bucket detached by a party than before
+-- a flag that becomes free, or has a holder then, leaves no other bucket detached by a party than
+-- before
 detached_set : (state : PoolState) (at bucket sender : ℕ) (before after : Flag) → IsFlag state at before →
     ((other : ℕ) → ¬ (after ≡ DetachedBy other)) →
     slice_get (slice_set state.flags at after) bucket ≡ Some (DetachedBy sender) → IsFlag state bucket (DetachedBy sender)
@@ -94,7 +95,8 @@ none_detached_alone scene steps bucket one =
 
 -- WHO DETACHED IT
 
--- a bucket that a party has detached was detached before, or the party has detached it by one of the steps
+-- a bucket that a party has detached was detached before, or the party has detached it by one of
+-- the steps
 detached_steps : (state : PoolState) (steps : List PoolStep) (bucket sender : ℕ) →
     IsFlag (pool_after state steps) bucket (DetachedBy sender) →
     IsFlag state bucket (DetachedBy sender) ⊎ Contains (pool_history state steps) (detaching_entry sender bucket)
@@ -173,7 +175,8 @@ in_history party [] entry has = absurd (contains-none entry has)
 in_history party (first ∷ rest) entry has =
     kept_there (is_by party first.step) first entry (entries_by party rest) rest (in_history party rest entry) has
 
--- the sender of a bucket that is attached from it had detached the bucket before the steps, or detaches it by one of them
+-- the sender of a bucket that is attached from it had detached the bucket before the steps, or
+-- detaches it by one of them
 sent_in_steps : (state : PoolState) (steps : List PoolStep) (party bucket from : ℕ) →
     Contains (pool_history state steps) (entry_of (AttachFrom party bucket from) (Attaches bucket)) →
     IsFlag state bucket (DetachedBy from) ⊎ Contains (pool_history state steps) (detaching_entry from bucket)
@@ -195,7 +198,8 @@ sent_in_steps state (step ∷ steps) party bucket from (suc k, below, same) =
       | inr later ↦ inr (contains-behind entry detaching rest later)
     ]
 
--- a party's log has attached a bucket from a sender only if the sender's log has detached the bucket
+-- a party's log has attached a bucket from a sender only if the sender's log has detached the
+-- bucket
 pub sender_detached : (scene : PoolScene) (steps : List PoolStep) (party bucket from : ℕ) →
     WasAttachedFrom (log_of scene steps party) bucket from → WasDetached (log_of scene steps from) bucket
 sender_detached scene steps party bucket from (own, has) =

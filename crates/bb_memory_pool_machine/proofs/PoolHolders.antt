@@ -14,7 +14,8 @@ abbrev pub is_holder : ℕ → Option Flag → Bool
 is_holder party (Some (HeldBy holder)) = holder == party
 is_holder party _ = false
 
--- whether a party holds a bucket after entries of its log, given whether it held the bucket before them
+-- whether a party holds a bucket after entries of its log, given whether it held the bucket before
+-- them
 abbrev pub held_through : ℕ → Bool → PoolLog → Bool
 held_through bucket held log = fold (λ held entry. held_after bucket held entry.outcome) held log
 
@@ -22,7 +23,8 @@ pub either_way : {X : Type 0} (mine : Bool) (x : X) → (if mine then x else x) 
 either_way true x = refl
 either_way false x = refl
 
--- if a flag is set, and at its own bucket the same holds, then whether a party holds a bucket changes as the flags do
+-- if a flag is set, and at its own bucket the same holds, then whether a party holds a bucket
+-- changes as the flags do
 held_set : (state : PoolState) (at bucket party other : ℕ) (held now : Bool) (before after : Flag) → IsFlag state at before →
     (held ≡ is_holder party (Some before) → (if other == party then now else held) ≡ is_holder party (Some after)) →
     held ≡ is_holder party (slice_get state.flags bucket) →
@@ -67,7 +69,8 @@ step_holds state step move party bucket held (gives_detached other at idle (send
     held_set state at bucket party other held false (DetachedBy sender) Free detached (when_unheld (other == party) held)
 step_holds state step move party bucket held _ = λ before. either_way (is_by party step) held ∙ before
 
--- a figure that each step changes only by the entry of its own party is, after steps, the fold of that party's log
+-- a figure that each step changes only by the entry of its own party is, after steps, the fold of
+-- that party's log
 pub steps_fold : {F : Type 0} (Is : PoolState → F → Type 0) (after : F → PoolEntry → F) (party : ℕ) →
     ((state : PoolState) (step : PoolStep) (now : F) → Is state now → let move = pool_step state step in
     Is move.state (if is_by party step then after now (entry_of step move.outcome) else now)) →

@@ -124,7 +124,8 @@ module _ (scene : PoolScene) (flags : List Flag) (logs : List PoolLog) (bucket :
             let held : IsHeldAfter [] bucket = subst (λ (l : PoolLog). IsHeldAfter l bucket) none holds in absurd (cc)
       ]
 
-  -- if each party's log is in the list, a bucket that is taken is held after one of them, or is detached
+  -- if each party's log is in the list, a bucket that is taken is held after one of them, or is
+  -- detached
   pub taken_is_held_whole : ((party : ℕ) → party < scene.parties → (log : PoolLog) × HasLog logs party log) →
       IsTaken (left_by scene agree.steps) bucket →
       ((party : ℕ) × (log : PoolLog) × (party < scene.parties) × HasLog logs party log × IsHeldAfter log bucket)

@@ -1,4 +1,4 @@
--- The buckets that a refused pass and a miss have met.
+-- The buckets that a refused pass or a miss has found held.
 use Rattle.bb_memory_lists.proofs.SliceGets.{replicated-figure, slice_get-same, slice_get-set_apart, slice_get-set_at}
 use Rattle.bb_memory_pool_machine.proofs.PoolFlags.{taken_within}
 use Rattle.bb_memory_pool_machine.proofs.PoolRuns.{taken_is_held}

@@ -58,7 +58,8 @@ module _ (geometry : PoolGeometry) (is : IsPoolGeometry geometry) where
       matches.each bucket below ∙ weight_of_taken state bucket taken in
       at_from_count (bucket_place geometry bucket) live (omega arith)
 
-  -- a flag is set; its bucket then has the number of chunks that the flag determines, and each other bucket has its old number
+  -- a flag is set; its bucket then has the number of chunks that the flag determines, and each
+  -- other bucket has its old number
   flag_set : (flags : List Flag) (live new : List Chunk) (bucket : ℕ) (before after : Flag) → Matches geometry flags live →
       slice_get flags bucket ≡ Some before → (count_at (bucket_place geometry bucket) live ≡ taken_weight (Some before) →
       count_at (bucket_place geometry bucket) new ≡ taken_weight (Some after)) →

@@ -1,4 +1,5 @@
--- The pool machine's histories, its parties' logs, and the calls of the pool object that its steps make.
+-- The pool machine's histories, its parties' logs, and the calls of the pool object that its steps
+-- make.
 use Rattle.bb_memory_pool_machine.specs.PoolMachine.{Attach, AttachFrom, Attaches, Detach, DetachedBy, Detaches, Flag, Free, GiveBack, GiveBackDetached, Gives, IsFlag, IsInCall, Loses, Misses, NamesMade, Passed, PoolOutcome, PoolScene, PoolState, PoolStep, RefusedAtLoss, Takes, Try, TryAt, left_by, opening_state, pool_step}
 use Rattle.bb_memory_traits.specs.Chunk.{Chunk}
 use Rattle.bb_memory_traits.specs.Object.{Allocates, IsRun, Releases}
@@ -60,7 +61,8 @@ log_of scene steps party = entries_by party (history_of scene steps)
 
 -- BUCKETS AND PASSES IN A LOG
 
--- A party holds the bucket after its step had this outcome. `held` says whether the party held the bucket before.
+-- True if a party holds the bucket after a step of its own that had this outcome. `held` says
+-- whether the party held the bucket before.
 abbrev pub held_after : ℕ → Bool → PoolOutcome → Bool
 held_after bucket held (Takes other) = if other == bucket then true else held
 held_after bucket held (Gives other) = if other == bucket then false else held
@@ -68,7 +70,8 @@ held_after bucket held (Detaches other) = if other == bucket then false else hel
 held_after bucket held (Attaches other) = if other == bucket then true else held
 held_after bucket held _ = held
 
--- a party with this log holds the bucket: it has taken or attached it, and neither given it back nor detached it since
+-- a party with this log holds the bucket: it has taken or attached it, and neither given it back
+-- nor detached it since
 abbrev pub IsHeldAfter : PoolLog → ℕ → Type 0
 IsHeldAfter log bucket = fold (λ held entry. held_after bucket held entry.outcome) false log ≡ true
 
@@ -87,7 +90,8 @@ pass_after pass _ = pass
 abbrev pub pass_in : PoolLog → Option ℕ
 pass_in log = fold (λ pass entry. pass_after pass entry.outcome) None log
 
--- the bucket that a party with this log tries next by `Try`: that of its pass, or bucket 0 if the party is idle
+-- the bucket that a party with this log tries next by `Try`: that of its pass, or bucket 0 if the
+-- party is idle
 abbrev pub next_bucket : PoolLog → ℕ
 next_bucket log = unwrap_or (pass_in log) 0
 
@@ -115,16 +119,16 @@ AllAllowed history = All (λ entry. IsAllowed entry.outcome) history
 abbrev pub HasLog : List PoolLog → ℕ → PoolLog → Type 0
 HasLog logs party log = slice_get logs party ≡ Some log
 
--- Flags and logs agree: there are steps, each allowed, that leave these flags, and in which the entries of each party are exactly
--- its log.
+-- Flags and logs agree: there are steps, each allowed, that leave these flags, and in which the
+-- entries of each party are exactly its log.
 pub record LogsAgree (scene : PoolScene) (flags : List Flag) (logs : List PoolLog) : Type 0 where
   pub steps : List PoolStep
   pub allowed : AllAllowed (history_of scene steps)
   pub leaves : (left_by scene steps).flags ≡ flags
   pub each : (party : ℕ) (log : PoolLog) → HasLog logs party log → log_of scene steps party ≡ log
 
--- The flag of the bucket may be this one: some steps, each allowed, leave it so. If the flag names a party, the pool has that
--- party.
+-- The flag of the bucket may be this one: some steps, each allowed, leave it so. If the flag names
+-- a party, the pool has that party.
 pub record MayBeFound (scene : PoolScene) (bucket : ℕ) (flag : Flag) : Type 0 where
   pub steps : List PoolStep
   pub allowed : AllAllowed (history_of scene steps)
@@ -139,8 +143,8 @@ IsDetachedIn flags bucket = (sender : ℕ) × (slice_get flags bucket ≡ Some (
 abbrev pub with_entry : List PoolLog → ℕ → PoolLog → PoolEntry → List PoolLog
 with_entry logs party log entry = slice_set logs party (log ++ entry ∷ [])
 
--- An interleaving of a party's log with some logs of the others: steps, each allowed, in which the party's entries are exactly
--- its log.
+-- An interleaving of a party's log with some logs of the others: steps, each allowed, in which the
+-- party's entries are exactly its log.
 pub record Interleaving (scene : PoolScene) (party : ℕ) (log : PoolLog) : Type 0 where
   pub steps : List PoolStep
   pub allowed : AllAllowed (history_of scene steps)
@@ -155,7 +159,8 @@ pub record CommonInterleaving (scene : PoolScene) (party : ℕ) (log : PoolLog) 
 
 -- CALLS OF THE OBJECT: takings and returns
 
--- The call of the object that a step with this outcome is; the object goes from `old` to `new`.
+-- The call of the pool object that a step with this outcome makes; the live list is `old` before it
+-- and `new` after it.
 abbrev pub PoolCall : PoolGeometry → List Chunk → Layout → PoolOutcome → List Chunk → Type 0
 -- a taking is a request for the layout, which gets the bucket's chunk
 PoolCall geometry old layout (Takes bucket) new =
@@ -166,7 +171,8 @@ PoolCall geometry old layout (Gives bucket) new =
 -- any other step isn't a call
 PoolCall geometry old layout _ new = new ≡ old
 
--- a layout for each step, within the bucket's size and alignment. A taking requests its layout
+-- There is a layout for each step, within the bucket's size and alignment. A taking requests the
+-- layout of its step.
 pub record AreAsked (geometry : PoolGeometry) (steps : List PoolStep) (layouts : List Layout) : Type 0 where
   pub one_a_step : length layouts ≡ length steps
   pub within : All (IsWithin geometry.bucket) layouts
@@ -175,13 +181,14 @@ pub record AreAsked (geometry : PoolGeometry) (steps : List PoolStep) (layouts :
 abbrev pub IsCallRun : PoolGeometry → List Chunk → List Layout → PoolLog → List Chunk → Type 0
 IsCallRun geometry old layouts history new = IsRun (PoolCall geometry) old layouts (outcomes_of history) new
 
--- the takings and returns of the steps from the opening are a run of the pool object, from the empty list to this one
+-- the takings and returns of the steps from the opening are a run of the pool object, from the
+-- empty list to this one
 abbrev pub IsPoolRun : PoolScene → List PoolStep → List Layout → List Chunk → Type 0
 IsPoolRun scene steps layouts live = IsCallRun scene.geometry [] layouts (history_of scene steps) live
 
 -- REFUSED PASSES, AND MISSES
 
--- entry k of the history is the party's, and its pass is refused there
+-- in entry k of the history the party's pass is refused
 pub record IsRefusedAt (history : PoolLog) (party k : ℕ) : Type 0 where
   pub bucket : ℕ
   pub there : slice_get history k ≡ Some (entry_of (Try party) (RefusedAtLoss bucket))
@@ -192,13 +199,14 @@ IsLossAt bucket (Loses other) = other ≡ bucket
 IsLossAt bucket (RefusedAtLoss other) = other ≡ bucket
 IsLossAt bucket _ = ⊥
 
--- entry k of the history is the party's, and a loss of this bucket
+-- entry k of the history is a loss of this bucket by the party
 pub record LosesAt (history : PoolLog) (party bucket k : ℕ) : Type 0 where
   pub outcome : PoolOutcome
   pub there : slice_get history k ≡ Some (entry_of (Try party) outcome)
   pub loss : IsLossAt bucket outcome
 
--- the party is in one pass from step k to the later step `last`: the pass doesn't end between the two
+-- the party is in one pass from step k to the later step `last`: the pass doesn't end between the
+-- two
 abbrev pub IsOnePass : PoolScene → List PoolStep → ℕ → ℕ → ℕ → Type 0
 IsOnePass scene steps party k last =
     (j : ℕ) → k < j → j ≤ last → (bucket : ℕ) × IsInCall (left_by scene (take j steps)) party bucket
@@ -208,8 +216,8 @@ abbrev pub IsHeldInRun : PoolScene → List PoolStep → ℕ → Type 0
 IsHeldInRun scene steps bucket =
     (layouts : List Layout) (live : List Chunk) → IsPoolRun scene steps layouts live → IsHeld scene.geometry live bucket
 
--- The pass that is refused at step `last` found this bucket held: at some step of the pass the party lost the bucket, which was
--- held then in the run.
+-- The pass that is refused at step `last` found this bucket held: at some step of the pass the
+-- party lost the bucket, which was held then in the run.
 pub record FoundHeld (scene : PoolScene) (steps : List PoolStep) (party last bucket : ℕ) : Type 0 where
   pub step : ℕ
   pub before : step ≤ last
@@ -219,7 +227,7 @@ pub record FoundHeld (scene : PoolScene) (steps : List PoolStep) (party last buc
 
 -- DETACHED BUCKETS
 
--- entry k of the history is the party's, which attaches the bucket from the party `from`
+-- in entry k of the history the party attaches the bucket from the party `from`
 abbrev pub AttachesFromAt : PoolLog → ℕ → ℕ → ℕ → ℕ → Type 0
 AttachesFromAt history party bucket from k = slice_get history k ≡ Some (entry_of (AttachFrom party bucket from) (Attaches bucket))
 
@@ -227,6 +235,6 @@ AttachesFromAt history party bucket from k = slice_get history k ≡ Some (entry
 abbrev pub WasAttachedFrom : PoolLog → ℕ → ℕ → Type 0
 WasAttachedFrom log bucket from = (party : ℕ) × Contains log (entry_of (AttachFrom party bucket from) (Attaches bucket))
 
--- entry k of the history is the party's, and a miss of this bucket
+-- entry k of the history is a miss of this bucket by the party
 abbrev pub MissesAt : PoolLog → ℕ → ℕ → ℕ → Type 0
 MissesAt history party bucket k = slice_get history k ≡ Some (entry_of (TryAt party bucket) (Misses bucket))

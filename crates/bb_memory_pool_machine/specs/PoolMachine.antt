@@ -1,5 +1,5 @@
--- The pool machine: what any number of parties do to one flag for each bucket, one atomic step at a time. Parties and buckets
--- are numbered from 0.
+-- The pool machine: what any number of parties do to one flag for each bucket, one atomic step at a
+-- time. Parties and buckets are numbered from 0.
 pub use Rattle.bb_memory_pool_machine.specs.declared.steps.pool.Flag.{Flag}
 pub use Rattle.bb_memory_pool_machine.specs.declared.steps.pool.Flag.TheVariants.{DetachedBy, Free, HeldBy}
 pub use Rattle.bb_memory_pool_machine.specs.declared.steps.pool.PoolOutcome.{PoolOutcome}
@@ -11,13 +11,13 @@ use Rattle.std.specs.Prelude.{List, None, Option, Some, [], if◌then◌else◌,
 
 -- STATES
 
--- The state of a machine: the flag of each bucket, and for each party the bucket that its pass tries next, or None if the party
--- is idle.
+-- The state of a machine: the flag of each bucket, and for each party the bucket that its pass
+-- tries next, or None if the party is idle.
 pub record PoolState : Type 0 where
   pub flags : List Flag
   pub calls : List (Option ℕ)
 
--- the beginning of a machine: its buckets, and how many parties it has
+-- the scene in which a machine begins: its buckets, and how many parties it has
 pub record PoolScene : Type 0 where
   pub geometry : PoolGeometry
   pub parties : ℕ
@@ -88,7 +88,8 @@ with_pass state party pass = record { flags = state.flags; calls = slice_set sta
 abbrev pub taking : PoolState → ℕ → ℕ → PoolMove
 taking state party bucket = move_of (Takes bucket) (with_pass (with_flag state bucket (HeldBy party)) party None)
 
--- the party finds a flag taken: its pass moves to the next bucket, or is refused and ends if there is none
+-- the party finds a flag taken: its pass moves to the next bucket, or is refused and ends if there
+-- is none
 abbrev pub loss : PoolState → ℕ → ℕ → PoolMove
 loss state party bucket =
     if nat_lt (bucket + 1) (length state.flags) then move_of (Loses bucket) (with_pass state party (Some (bucket + 1)))
@@ -120,7 +121,8 @@ abbrev pub give_flag : PoolState → ℕ → ℕ → Option Flag → PoolMove
 give_flag state party bucket (Some (HeldBy holder)) = if holder == party then return_of state bucket else passed state
 give_flag state party bucket _ = passed state
 
--- a party tries to take one bucket whose flag is `found`: if the flag is taken, the party misses the bucket, and nothing changes
+-- a party tries to take one bucket whose flag is `found`: if the flag is taken, the party misses
+-- the bucket, and nothing changes
 abbrev pub try_one : PoolState → ℕ → ℕ → Option Flag → PoolMove
 try_one state party bucket (Some Free) = taking state party bucket
 try_one state party bucket (Some _) = move_of (Misses bucket) state
@@ -158,7 +160,8 @@ abbrev pub attach : PoolState → ℕ → ℕ → Option (Option ℕ) → PoolMo
 attach state party bucket (Some None) = attach_flag state party bucket (slice_get state.flags bucket)
 attach state party bucket _ = passed state
 
--- a party attaches a bucket whose flag is `found`, which it may if the party `from` has detached the bucket
+-- a party attaches a bucket whose flag is `found`, which it may if the party `from` has detached
+-- the bucket
 abbrev pub attach_from_flag : PoolState → ℕ → ℕ → ℕ → Option Flag → PoolMove
 attach_from_flag state party bucket from (Some (DetachedBy sender)) =
     if sender == from then attaching state party bucket else passed state

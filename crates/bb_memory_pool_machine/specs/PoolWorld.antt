@@ -25,7 +25,8 @@ pub record Steps (old : PoolWorld) (step : PoolStep) (answer : PoolOutcome) (new
 abbrev pub outcomes_of : PoolWorld → List PoolStep → List PoolOutcome
 outcomes_of world steps = histories.outcomes_of (histories.pool_history world steps)
 
--- `answer` has the outcomes of these steps in the world `old`, which becomes `new`. If memory ran out, no step was taken.
+-- `answer` has the outcomes of these steps in the world `old`, which becomes `new`. If memory ran
+-- out, no step was taken.
 pub record Replays {Z E : Type 0} (old : PoolWorld) (steps : List PoolStep) (answer : Result (Vec PoolOutcome Z) E)
     (new : PoolWorld) : Type 0 where
   pub outcomes : IfOk answer (λ found. found.items ≡ outcomes_of old steps)

@@ -13,14 +13,15 @@ use bb_memory_traits::allocator::{Allocator, BaseAllocator, Command, Reply};
 use bb_memory_traits::layout::{Chunk, Layout};
 use std::alloc::AllocError;
 
-/// Applies the commands in order, and returns one reply for each. `live` has the chunks that are in use. A new chunk is
-/// appended to it. A release removes its chunk and closes up, or empties the list if `RELEASE_EMPTIES` is true. A command that
-/// names no position of `live` is passed over, and so is every resize. Each command does to the allocator what the call itself
-/// does.
+/// Applies the commands in order, and returns one reply for each. `live` has the chunks that are in
+/// use. An allocation appends its chunk. A release removes its chunk, and the chunks after it move
+/// up; if `RELEASE_EMPTIES` is true, a release empties the list. A release of a position that
+/// `live` doesn't have is skipped, and so is every resize. Each command changes the allocator as
+/// the call itself does.
 ///
-/// The allocator has to stand for the live list. Memory for the replies and for `live` is reserved first, from `live`'s
-/// allocator. Fails with `AllocError` only because memory ran out. Then no command is applied, and the allocator and the list
-/// are as before.
+/// The allocator has to stand for the live list. Memory for the replies and for `live` is reserved
+/// first, from `live`'s allocator. If memory runs out, the call fails with `AllocError`, which is
+/// its only error: no command is applied, and the allocator and the list are unchanged.
 ///
 /// Example: `comments::run_of_a_bump` of `crates/examples`.
 pub fn run_base<A: BaseAllocator>(
@@ -38,12 +39,13 @@ pub fn run_base<A: BaseAllocator>(
     run::<A, Base>(allocator, live, commands)
 }
 
-/// Applies the commands in order, including resizes, and returns one reply for each, as [`run_base`] does. A resize replaces
-/// its chunk's length in `live`. It is passed over if `live` doesn't have the position, if the chunk's place isn't a multiple
-/// of the old alignment, and, for a shrink, if the old size exceeds what is reserved for the chunk.
+/// Applies the commands in order, including resizes, and returns one reply for each, as
+/// [`run_base`] does. A resize replaces its chunk's length in `live`. A resize is skipped if `live`
+/// doesn't have the position, if the chunk's place isn't a multiple of the old alignment, or, for a
+/// shrink, if the old size exceeds what is reserved for the chunk.
 ///
-/// The allocator has to stand for the live list. Fails with `AllocError` only because memory ran out. Then the allocator and
-/// the list are as before.
+/// The allocator has to stand for the live list. If memory runs out, the call fails with
+/// `AllocError`, which is its only error, and the allocator and the list are unchanged.
 ///
 /// Example: `comments::run_of_one_chunk` of `crates/examples`.
 pub fn run_full<A: Allocator>(
@@ -86,7 +88,7 @@ fn run<A: BaseAllocator, C: Applier<A>>(
 
 /// Applies the commands of a run to an allocator of type `A`.
 trait Applier<A: BaseAllocator> {
-    /// The steps of the object by which an allocator of this value answers.
+    /// The steps of the object that describes an allocator of this value.
     ghost Steps: { A → List Chunk → Command → Reply → List Chunk → Type 0 };
 
     /// Applies one command.
@@ -96,13 +98,13 @@ trait Applier<A: BaseAllocator> {
         ensures { Applies A.BaseAllocator (Steps allocator.old)
             command result allocator.old allocator.new live.old live.new };
 
-    /// Allocators of one geometry answer by the same object.
+    /// Allocators of one geometry have the same steps.
     ghost fixed: { (one other : A) → A.geometry one ≡ A.geometry other
         → (live left : List Chunk) (command : Command) (reply : Reply)
         → Steps one live command reply left → Steps other live command reply left };
 }
 
-/// Applies requests and releases, and passes over each resize.
+/// Applies requests and releases, and skips each resize.
 struct Base;
 
 impl<A: BaseAllocator> Applier<A> for Base {
@@ -161,7 +163,8 @@ impl<A: Allocator> Applier<A> for Full {
         same (A.fixed one other same) };
 }
 
-/// Returns the chunk at a position of a live list if its place is a multiple of the layout's alignment.
+/// Returns the chunk at a position of a live list if its place is a multiple of the layout's
+/// alignment.
 fn aligned_at(live: &[Chunk], position: usize, layout: Layout) -> Option<Chunk>
     ensures there { IfSome result (MayBeGrown live.now position layout) }
     ensures nowhere { result ≡ None → (chunk : Chunk) → ¬ MayBeGrown live.now position layout chunk }
@@ -196,7 +199,8 @@ fn apply_grow<A: Allocator>(
     }
 }
 
-/// Shrinks the chunk at a position if its place is a multiple of the old alignment and the old size is reserved.
+/// Shrinks the chunk at a position if its place is a multiple of the old alignment and the old size
+/// is reserved.
 fn apply_shrink<A: Allocator>(
     allocator: &mut A,
     live: &mut Vec<Chunk>,

@@ -1,5 +1,5 @@
--- The numbers of the parties in one list. If no number that was made is in the list twice, they are different ones. If the list
--- has as many parties as were made, it has each number.
+-- The numbers of the parties in one list. If no number that was made is in the list twice, the
+-- numbers in the list differ. If the list has as many parties as were made, it has each number.
 use Rattle.bb_memory_lists.proofs.ListEntries.{HasOne, contains-behind, contains-first, one_of_figure}
 use Rattle.bb_memory_seats.proofs.Seatings.{one_apart, one_same}
 use Rattle.bb_memory_seats.specs.Seats.{HaveLogs, Numbered, times_in}
@@ -81,7 +81,8 @@ module _ {P E : Type 0} (of : P → Numbered E) where
   abbrev number : P → ℕ
   number party = (of party).number
 
-  -- a party is in the list once, and two parties at different positions with the same number count twice
+  -- a party is in the list once, and two parties at different positions with the same number count
+  -- twice
   stands_once : (items : List P) (i : ℕ) (one : P) → slice_get items i ≡ Some one → 1 ≤ times_in (number one) (map of items)
   stands_once [] i one at = absurd (cc)
   stands_once (party ∷ items) zero one at =

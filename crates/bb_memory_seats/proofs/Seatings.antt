@@ -1,4 +1,5 @@
--- How parties are spread over the views of seats: each in one, while seats are split and joined, and while one party steps.
+-- How parties are spread over the views of seats: each in one, while seats are split and joined,
+-- and while one party steps.
 use Rattle.atomic_table.proofs.Lists.{at_set, at_snoc}
 use Rattle.bb_memory_lists.proofs.SliceGets.{slice_get-replicate, slice_get-set_other, slice_get-set_same}
 use Rattle.bb_memory_seats.specs.Seats.{AreSeated, HaveLogs, Numbered, View, alone, first_of, fresh_from, head_of, numbered, one_if, others_of, seat_of, standing_for, tail_of, times_in, total}
@@ -102,7 +103,8 @@ module _ {S E : Type 0} (made : ℕ) (logs : List (List E)) (views : List (View 
   abbrev Known : View S E → Type 0
   Known view = HaveLogs made logs view.parties
 
-  -- the log of the one party of a seat becomes another, whatever is detached there, before and after
+  -- the log of the one party of a seat becomes another, whatever is detached there, before and
+  -- after
   pub seated_with : (scene : S) (number : ℕ) (log new : List E) (before after : List ℕ) →
       AreSeated made logs views → get_elem? views seat ≡ some (seat_of scene (numbered number log ∷ []) before) →
       AreSeated made (slice_set logs number new) (set views seat (seat_of scene (numbered number new ∷ []) after))

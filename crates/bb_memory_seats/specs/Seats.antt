@@ -1,5 +1,5 @@
--- Seats of a table that threads share. Each seat has a view: the parties that it stands for, with their logs. Each party is in
--- exactly one view.
+-- Seats of a table that threads share. Each seat has a view: the parties that it stands for, with
+-- their logs. Each party is in exactly one view.
 use Rattle.atomic_table.specs.Seated.{TableId}
 use Rattle.atomic_table.specs.Table.{Me}
 use Rattle.std.specs.Prelude.{Bool, List, Some, [], false, slice_get, suc, true, vec_capacity, vec_len, zero, ℕ, ◌++◌, ◌+◌, ◌<◌, ◌==◌, ◌∷◌, ◌≡◌, ◌≤◌}
@@ -16,8 +16,9 @@ pub record Numbered (E : Type 0) : Type 0 where
 abbrev pub numbered : {E : Type 0} → ℕ → List E → Numbered E
 numbered number log = record { number = number; log = log }
 
--- The view of a seat: the parties that the seat stands for, with their logs, and the numbers of the items that are detached at
--- it, in transit from one party to another. A seat stands for more than one party only while parties are made or meet.
+-- The view of a seat: the parties that the seat stands for, with their logs, and the numbers of the
+-- items that are detached at it, in transit from one party to another. A seat stands for more than
+-- one party only while parties are made or meet.
 pub record View (S E : Type 0) : Type 0 where
   pub scene : S
   pub parties : List (Numbered E)
@@ -152,7 +153,7 @@ pub record IsAt (whose here : TableId) (stands : Type 0) : Type 0 where
   pub table : here ≡ whose
   pub seat : stands
 
--- A seat that made a step is at the same table after it, and `tells` says what the step left.
+-- A seat that made a step is at the same table afterwards, and `tells` says what the step left.
 pub record Stays (was is : TableId) (tells : Type 0) : Type 0 where
   pub table : is ≡ was
   pub step : tells

@@ -1,4 +1,5 @@
--- Each bucket of a shared pool has a word of its own, which encodes its mark. The effect of a step on that word on the marks.
+-- Each bucket of a shared pool has a word of its own, which encodes its mark. Also how a step on
+-- that word changes the marks.
 use Rattle.atomic_table.specs.Table.{Allows, Me, State}
 use Rattle.bb_memory_pool_machine.specs.PoolLogs.{IsDetachedIn, LogsAgree, PoolLog, is_taken}
 use Rattle.bb_memory_pool_machine.specs.PoolMachine.{NamesMade, PoolScene}
@@ -63,7 +64,7 @@ pub found_in : (words : List ℕ) (marks : List Flag) (bucket : ℕ) (mark : Fla
     slice_get marks bucket ≡ Some mark → get_or words (word_of bucket) 0 ≡ as_word mark
 found_in words marks bucket mark have at =
     ap (λ (all : List ℕ). get_or all (word_of bucket) 0) have
-    ∙ get_or-append-add (replicate 8 0) (map as_word marks) bucket 0
+    ∙ get_or-append-add (replicate 16 0) (map as_word marks) bucket 0
     ∙ get_or-map as_word marks bucket Free 0 (slice_get_within marks bucket mark at)
     ∙ ap as_word (get_or_from_slice_get marks bucket mark Free at)
 
@@ -80,8 +81,8 @@ pub changed : (words : List ℕ) (marks : List Flag) (bucket : ℕ) (mark : Flag
     set words (word_of bucket) (as_word mark) ≡ words_of (slice_set marks bucket mark)
 changed words marks bucket mark have =
     ap (λ (all : List ℕ). set all (word_of bucket) (as_word mark)) have
-    ∙ set-append-add (replicate 8 0) (map as_word marks) bucket (as_word mark)
-    ∙ ap (λ (all : List ℕ). replicate 8 0 ++ all) (sym (map-set as_word marks bucket mark))
+    ∙ set-append-add (replicate 16 0) (map as_word marks) bucket (as_word mark)
+    ∙ ap (λ (all : List ℕ). replicate 16 0 ++ all) (sym (map-set as_word marks bucket mark))
 
 -- the words stay if a bucket's word is written as it was
 pub made_again : (words : List ℕ) (marks : List Flag) (bucket : ℕ) (mark : Flag) → words ≡ words_of marks →
@@ -97,7 +98,7 @@ zeros (suc n) = ap (λ (all : List ℕ). 0 ∷ all) (zeros n)
 
 pub all_free : (buckets : ℕ) → replicate (words_for buckets) 0 ≡ words_of (replicate buckets Free)
 all_free buckets =
-    sym (replicate-append-replicate 8 buckets 0) ∙ ap (λ (all : List ℕ). replicate 8 0 ++ all) (zeros buckets)
+    sym (replicate-append-replicate 16 buckets 0) ∙ ap (λ (all : List ℕ). replicate 16 0 ++ all) (zeros buckets)
 
 -- WORDS
 

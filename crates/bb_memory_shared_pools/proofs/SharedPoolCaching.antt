@@ -1,5 +1,5 @@
--- Lists of cached buckets, which lose their last one or get one more; how requests are answered then; and which buckets are
--- out.
+-- Lists of cached buckets that lose their last bucket or get one more; how requests are then
+-- answered; and which buckets are in use.
 use Rattle.bb_memory_pool_machine.specs.PoolLogs.{IsHeldAfter, PoolLog}
 use Rattle.bb_memory_shared_pools.proofs.SharedPoolLaws.{held_below}
 use Rattle.bb_memory_shared_pools.proofs.SharedPoolRequests.{not_within, refused_unasked, unasked}

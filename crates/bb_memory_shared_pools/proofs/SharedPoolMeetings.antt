@@ -1,4 +1,5 @@
--- A load by a seat of several parties: how they agree with the flags, and what two of them know of each other.
+-- A load by a seat of several parties: how the parties agree with the flags, and what two of them
+-- know about each other.
 use Rattle.atomic_table.proofs.Lists.{set_again}
 use Rattle.atomic_table.specs.Table.{Allows, Me, State, keeps, step}
 use Rattle.bb_memory_pool_machine.proofs.PoolLogFacts.{interleaved_logs, logs_apart}

@@ -8,10 +8,10 @@ use Rattle.bb_memory_seats.specs.Seats.{number_of, view_log}
 use Rattle.bb_memory_shared_pools.proofs.SharedPoolRequests.{HasAsked}
 use Rattle.bb_memory_shared_pools.proofs.SharedPoolTries.{held-append, hint-append, hint_through, test_below, test_not_below}
 use Rattle.bb_memory_shared_pools.specs.SharedPoolNextFit.{hint_after, miss_at, misses, probed, refused_search, start_of, taking_at, taking_search}
-use Rattle.bb_memory_shared_pools.specs.SharedPoolRule.{AfterGain, AfterMiss, AfterRefusal, AfterSearchWin, IsInSearch, IsSeatOfIdle, SeatView}
+use Rattle.bb_memory_shared_pools.specs.SharedPoolRule.{AfterGain, AfterMiss, AfterRefusal, AfterSearchWin, IsInSearch, IsSeatOfIdle, SeatView, probes_before}
 use Rattle.bb_memory_shared_pools.specs.declared.shared_pool.party.Hint.{Hint}
 use Rattle.std.proofs.Common.{Bool, None, Some, add-one, ap, append-nil, append_assoc, arith, false, inl, inr, refl, subst, suc, sym, true, zero, ℕ, ◌%◌, ◌++◌, ◌+◌, ◌-◌, ◌<◌, ◌∙◌, ◌≡◌, ◌≤◌}
-use Rattle.std.proofs.Math.Nat.{add-mod_left, mod-eq_of_lt}
+use Rattle.std.proofs.Math.Nat.{add-mod_left, add-zero, mod-eq_of_lt}
 use Rattle.std.proofs.lemmas.Bool.{cases_lt}
 use Rattle.std.specs.Prelude.{if◌then◌else◌, ◌==◌}
 use borrow.Author.Count.{below_more}
@@ -35,6 +35,18 @@ start_below buckets first some = elim (cases_lt first buckets) [
 pub probe_ahead : (buckets first start probe : ℕ) → start_of buckets first ≡ start → start + probe < buckets →
     probed buckets first probe ≡ start + probe
 probe_ahead buckets first start probe is below = ap (λ (s : ℕ). (s + probe) % buckets) is ∙ mod-eq_of_lt below
+
+-- the first probe of a search that begins at a bucket of the pool
+pub first_probe : (buckets first : ℕ) → first < buckets → probed buckets first 0 ≡ first
+first_probe buckets first below =
+    probe_ahead buckets first first 0 (start_here buckets first below) (omega (arith, below)) ∙ add-zero first
+
+-- the probes of a search before its later ones
+pub probes_one : (buckets first : ℕ) → first < buckets → probes_before buckets first ≡ 1
+probes_one buckets first below = ap (λ (b : Bool). if b then 1 else 0) (test_below first buckets below)
+
+pub probes_none : (buckets first : ℕ) → buckets ≤ first → probes_before buckets first ≡ 0
+probes_none buckets first past = ap (λ (b : Bool). if b then 1 else 0) (test_not_below first buckets past)
 
 pub probe_behind : (buckets first start probe rest : ℕ) → start_of buckets first ≡ start → start + probe ≡ buckets + rest →
     rest < buckets → probed buckets first probe ≡ rest

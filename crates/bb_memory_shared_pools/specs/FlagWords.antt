@@ -5,17 +5,17 @@ use Rattle.std.specs.Prelude.{List, Some, map, replicate, slice_get, ℕ, ◌%�
 
 -- WORDS
 
--- The word of a bucket's flag. The first 8 words are no flag, and after them the flags are in the order of the buckets.
+-- The word of a bucket's flag. The first 16 words are no flag, and after them the flags are in the order of the buckets.
 abbrev pub word_of : ℕ → ℕ
-word_of bucket = 8 + bucket
+word_of bucket = 16 + bucket
 
 -- the bucket whose flag this word is
 abbrev pub bucket_of : ℕ → ℕ
-bucket_of word = word - 8
+bucket_of word = word - 16
 
 -- how many words the flags of that many buckets take
 abbrev pub words_for : ℕ → ℕ
-words_for buckets = 8 + buckets
+words_for buckets = 16 + buckets
 
 -- the word that encodes this mark, which names the holder, or the party that has detached the bucket
 abbrev pub as_word : Flag → ℕ
@@ -23,9 +23,9 @@ as_word Free = 0
 as_word (HeldBy party) = 2 * party + 1
 as_word (DetachedBy party) = 2 * party + 2
 
--- all words of a table with these marks. The first 8, which are no flag, stay zero
+-- all words of a table with these marks. The first 16, which are no flag, stay zero
 abbrev pub words_of : List Flag → List ℕ
-words_of marks = replicate 8 0 ++ map as_word marks
+words_of marks = replicate 16 0 ++ map as_word marks
 
 -- MARKS
 

@@ -12,8 +12,8 @@ use Rattle.bb_memory_traits.specs.declared.allocator.AllocationError.TheVariants
 use Rattle.bb_memory_traits.specs.declared.layout.Layout.{Layout}
 use Rattle.std.specs.Prelude.{All, Err, IfOk, IsErr, List, None, Ok, OnErr, Result, Some, [], length, slice_get, suc, take, zero, ℕ, ◌%◌, ◌++◌, ◌+◌, ◌<◌, ◌↔◌, ◌∷◌, ◌≡◌, ◌≢◌, ◌≤◌}
 
--- A shared pool: its table of words, by which no two pools are the same, and its scene, that is its buckets and how many parties
--- it has.
+-- A shared pool: its table of words, which differs from that of any other pool, and its scene,
+-- which is its buckets and the number of its parties.
 pub record SharedPool : Type 0 where
   pub table : TableId
   pub scene : PoolScene
@@ -44,7 +44,7 @@ pub record AreFresh (allocator : SharedPool) (count : ℕ) (parties : List PoolP
   pub fresh : (number : ℕ) → number < count → slice_get parties number ≡ Some (fresh_party allocator number)
   pub theirs : All (λ party. party.allocator ≡ allocator) parties
 
--- the party whose log has these entries more
+-- the party with these entries added to its log
 abbrev pub with_entries : PoolParty → PoolLog → PoolParty
 with_entries party entries = record { allocator = party.allocator; number = party.number; log = party.log ++ entries }
 
@@ -230,7 +230,8 @@ pub record AreOf (pool : SharedPool) (party : PoolParty) (detached : TakenBucket
   pub its_party : party.allocator ≡ pool
   pub its_bucket : detached.allocator ≡ pool
 
--- the party, which didn't hold the bucket of this number, has attached it: its log has this step, and it holds one bucket more
+-- the party, which didn't hold the bucket of this number, has attached it: its log has this step,
+-- and it holds one more bucket
 pub record HasGained (pool : SharedPool) (old : PoolParty) (number : ℕ) (step : PoolLog) (new : PoolParty) : Type 0 where
   pub logged : new ≡ with_entries old step
   pub party : new.allocator ≡ pool

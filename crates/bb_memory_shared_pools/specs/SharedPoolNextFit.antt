@@ -17,24 +17,27 @@ use Rattle.std.specs.Prelude.{Bool, Err, Ok, Result, [], fold, if◌then◌else�
 abbrev pub part_of : PoolScene → ℕ → ℕ
 part_of scene number = number * scene.geometry.buckets / scene.parties
 
--- The rover after the taking of a bucket: at the bucket after it. The rover stays if the search began at that bucket, and not
--- at the rover.
+-- The rover after the taking of a bucket: the next bucket. But the rover stays if the search began
+-- at the taken bucket and not at the rover.
 abbrev pub rover_on : Hint → ℕ → ℕ
 rover_on hint bucket = if bucket == hint.bucket && not (bucket == hint.rover) then hint.rover else bucket + 1
 
--- The rover after a return: at the bucket where the next search would have begun. The rover stays if that bucket is at most 128
--- ahead of it.
+-- The rover after a return that moves the hint: the bucket at which the next search would have
+-- begun. But the rover stays if that bucket is at most 128 ahead of it.
 abbrev pub rover_back : Hint → ℕ
 rover_back hint = if nat_lt hint.bucket hint.rover || nat_lt (hint.rover + 128) hint.bucket then hint.bucket else hint.rover
 
--- The next search begins where it would have begun, even after a return of this bucket: at a bucket at most 128 before this one
--- that came back since the party's last taking. It did if it is before the rover.
+-- The next search still begins at the hint's bucket after a return of this bucket: the hint's
+-- bucket is at most 128 before this one, and came back since the party's last taking, which is so
+-- if it is before the rover.
 abbrev pub stays_at : Hint → ℕ → Bool
 stays_at hint bucket =
     nat_lt hint.bucket hint.rover && nat_lt hint.bucket bucket && not (nat_lt (hint.bucket + 128) bucket)
 
--- The hint after one more step: after a return at the bucket that came back, unless it stays as above, and then a rover after
--- that bucket moves to it; after a taking at the rover.
+-- The hint after one more step. After a taking, the next search begins at the rover. After a
+-- return, the next search begins at the bucket that came back, unless `stays_at` holds: then it
+-- begins where it would have begun, and a rover after the bucket that came back moves to that
+-- bucket.
 abbrev pub hint_after : Hint → PoolOutcome → Hint
 hint_after hint (Takes bucket) = record { bucket = rover_on hint bucket; rover = rover_on hint bucket }
 hint_after hint (Gives bucket) = if stays_at hint bucket
@@ -68,7 +71,7 @@ miss_at party bucket = entry_of (TryAt party bucket) (Misses bucket) ∷ []
 abbrev pub start_of : ℕ → ℕ → ℕ
 start_of buckets first = if nat_lt first buckets then first else 0
 
--- the bucket that a probe tries, where probes are counted from 0: after the last bucket comes bucket 0
+-- the bucket that a probe tries; probes count from 0, and bucket 0 follows the last bucket
 abbrev pub probed : ℕ → ℕ → ℕ → ℕ
 probed buckets first probe = (start_of buckets first + probe) % buckets
 

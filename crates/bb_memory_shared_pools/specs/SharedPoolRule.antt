@@ -16,7 +16,7 @@ use Rattle.bb_memory_shared_pools.specs.declared.shared_pool.party.Hint.{Hint}
 use Rattle.bb_memory_traits.specs.Chunk.{IsRegion, region_at}
 use Rattle.bb_memory_traits.specs.PoolObject.{pool_geometry}
 use Rattle.bb_memory_traits.specs.declared.layout.Layout.{Layout}
-use Rattle.std.specs.Prelude.{Bool, IsFalse, IsTrue, List, MatchBool, None, Some, [], length, slice_get, ℕ, ◌++◌, ◌<◌, ◌↔◌, ◌∷◌, ◌≡◌, ◌≢◌, ◌≤◌}
+use Rattle.std.specs.Prelude.{Bool, IsFalse, IsTrue, List, MatchBool, None, Some, [], if◌then◌else◌, length, nat_lt, slice_get, ℕ, ◌++◌, ◌<◌, ◌↔◌, ◌∷◌, ◌≡◌, ◌≢◌, ◌≤◌}
 use mathlib.Core.Path.{refl}
 use native.Mathlib.Nat.{zero-lt-suc}
 
@@ -325,6 +325,10 @@ pub record AfterRefusal (scene : PoolScene) (number : ℕ) (log refusal : PoolLo
 pub record IsInSearch (scene : PoolScene) (number : ℕ) (log : PoolLog) (first probe : ℕ) (me : Me ℕ SeatView) : Type 0 where
   pub ended : AfterCall scene number log (misses scene.geometry.buckets number first probe) me
   pub held : scene.parties ≡ 1 → (earlier : ℕ) → earlier < probe → IsHeldAfter log (probed scene.geometry.buckets first earlier)
+
+-- how many probes a search makes before its later ones: one of bucket `first`, if the pool has that bucket
+abbrev pub probes_before : ℕ → ℕ → ℕ
+probes_before buckets first = if nat_lt first buckets then 1 else 0
 
 -- a search took this bucket at some probe, and the party didn't hold it
 pub record AfterSearchWin (scene : PoolScene) (number : ℕ) (log : PoolLog) (first : ℕ)

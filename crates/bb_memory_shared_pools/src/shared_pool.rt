@@ -36,16 +36,19 @@ pub use fixed_size::SharedFixedSizePoolAllocator;
 pub use party::PoolParty;
 use std::alloc::Global;
 
-/// Gives buckets of one layout to any number of threads. The pool is made for a fixed number of parties, and each thread that
-/// takes or gives back buckets has a party. No call waits for another, and none allocates memory once the pool is made.
+/// Allocates buckets of one layout for any number of threads. The pool is made for a fixed number
+/// of parties, and each thread that takes or gives back buckets has a party. No call waits for
+/// another, and none allocates memory once the pool is made.
 ///
-/// Of the two requests, begin with `allocate_next_fit`: its search begins at the party's hint, so buckets that other parties
-/// hold elsewhere cost it nothing. `allocate` tries the buckets from bucket 0 each time.
+/// Prefer `allocate_next_fit` to `allocate`: its search begins at the party's hint, so it loses no
+/// time at buckets that other parties hold elsewhere. `allocate` tries the buckets from bucket 0
+/// each time.
 ///
-/// The contract of each call is about the party's log: the list of the atomic steps that the party made, each with what it
-/// found. At any time, some interleaving of the party's log with some logs of the others is one that the pool machine allows. A
-/// user who has all parties gets more from `meet_all`: one interleaving has their logs and no other steps:
-/// [`shared_pool_meeting_law`].
+/// The contract of each call is about the party's log: the list of the atomic steps that the party
+/// made, each with what it found. At any time, some interleaving of the party's log with some logs
+/// of the others is one that the pool machine allows. A user who has all parties gets more from
+/// `meet_all`: one interleaving has their logs and no other steps, as [`shared_pool_meeting_law`]
+/// states.
 ///
 /// Example: `comments::shared_pool` of `crates/examples`.
 pub type SharedPoolAllocator = SharedBucketPool<0, 0>;
@@ -107,7 +110,7 @@ pub fn shared_pool_law()
         → (bucket < party.allocator.scene.geometry.buckets)
         × IsHeld party.allocator.scene.geometry live bucket }
 
-    // That list is sound: its chunks are inside the region, and no two overlap.
+    // The list that the run leaves is sound: its chunks are inside the region, and no two overlap.
     ensures sound { (party : PoolParty) (is : IsParty party) (layouts : List Layout)
         (live : List Chunk) → IsHistoryRun party is layouts live
         → IsSound party.allocator.scene.geometry.region live }
@@ -140,7 +143,7 @@ pub fn shared_pool_law()
         → IsHeldAfter a.log bucket ⊎ IsHeldAfter b.log bucket
         → IsHeld scene.geometry live bucket }
 
-    // No bucket is held after the logs of two parties that met.
+    // No bucket is held after both logs of two parties that met.
     ensures apart { (a b : PoolParty) (bucket : ℕ)
         → AreInterleaved a b → a.number ≢ b.number
         → IsHeldAfter a.log bucket → ¬ IsHeldAfter b.log bucket }

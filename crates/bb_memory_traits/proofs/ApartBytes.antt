@@ -1,4 +1,4 @@
--- The bytes of a chunk: of one that is apart from the one that is written over, and in two parts.
+-- The bytes of a chunk that is apart from the written one, and the bytes of a chunk in two parts.
 use Rattle.bb_memory_traits.specs.Chunk.{AreApart, Chunk, IsInside, chunk_end}
 use Rattle.bb_memory_traits.specs.HeldBytes.{ChangesOnly, HeldBytes, bytes_in, held_region}
 use Rattle.std.proofs.Common.{List, ap, arith, drop, inl, inr, sym, take, ℕ, ⊎_elim, ◌++◌, ◌+◌, ◌-◌, ◌∙◌, ◌≡◌, ◌≤◌, ◌⊎◌}

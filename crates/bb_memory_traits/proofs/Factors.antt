@@ -1,4 +1,5 @@
--- The factors of a stride, an odd number and a power of two: how a product modulo 2 ^ 64 and a rotation divide by both.
+-- The factors of a stride, an odd number and a power of two: how a product modulo 2 ^ 64 and a
+-- rotation divide by both.
 use Rattle.bb_memory_traits.specs.Geometry.{IsFactored}
 use Rattle.std.proofs.Common.{ap, arith, inl, inr, pow_pos, rules, subst, sym, w64, ℕ, ◌%◌, ◌*◌, ◌+◌, ◌-◌, ◌/◌, ◌<◌, ◌^◌, ◌∙◌, ◌≡◌, ◌≢◌, ◌≤◌}
 use Rattle.std.proofs.Math.Nat.{add-mod-mod, add-mul, div-one, dvd-mul_left, le-mul_of_pos_right, lt_of_mul-lt-mul_right, mod-add-mod, mod-eq_of_lt, mod-lt, mod-mod_of_dvd, mul-div_cancel, mul-le-mul_right, mul-lt-mul_of_pos_right, mul-mod_left, mul-mul-mul_comm, mul-one, mul_assoc, mul_comm, mul_right_comm, zero-mul}

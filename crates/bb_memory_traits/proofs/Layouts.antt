@@ -1,4 +1,4 @@
--- Which layouts there are.
+-- The sizes and alignments that form a layout.
 use Rattle.bb_memory_traits.proofs.LeastPlaces.{least_place-is}
 use Rattle.bb_memory_traits.proofs.PowersOfTwo.{power_of_two-from_test, power_of_two-positive, power_of_two-test}
 use Rattle.bb_memory_traits.specs.Chunk.{Layout}
@@ -33,7 +33,8 @@ power-divides low high p q le = elim (cases_lt q.0 p.0) [
       (2 ^ (q.0 - p.0), q.1 ∙ ap (λ j. 2 ^ j) parts ∙ pow-add 2 (q.0 - p.0) p.0 ∙ ap (λ m. 2 ^ (q.0 - p.0) * m) (sym p.1))
 ]
 
--- a size and a power of two are a layout exactly if the size is at most what the alignment leaves of 2 ^ 63
+-- a size and a power of two are a layout exactly if the size is at most what the alignment leaves
+-- of 2 ^ 63
 pub valid-up_to : (size align : ℕ) → IsTrue (is_power_of_two align) → align < 2 ^ 64 →
     (align ≤ 2 ^ 63) × (IsLayout size align ↔ (size ≤ 2 ^ 63 - align))
 valid-up_to size align test small =

@@ -61,7 +61,8 @@ least_place-multiple v align positive = grind (arith, least_place-is, rest_of)
 pub least_place-beyond : (v align k : ℕ) → 0 < align → k * align ≤ v + (align - 1) → k * align ≤ least_place v align
 least_place-beyond v align k positive near = grind (arith, le-div, least_place-quotient, mul-le-mul_right)
 
--- the address before the least place has the low bits of the mask set, and the others of the address before the number
+-- the address before the least place has the low bits of the mask set, and the others of the
+-- address before the number
 pub least_place-behind : (v align : ℕ) → IsPowerOfTwo align → 0 < v → bit_or (v - 1) (align - 1) + 1 ≡ least_place v align
 least_place-behind v align (k, is) some =
     let rounds = least_place-rounds v align (power_of_two-positive align (k, is)) in

@@ -1,4 +1,5 @@
--- The buckets of a region, as it is measured.
+-- The buckets of a geometry with its measures: the first place, the stride and the stride's
+-- factors.
 use Rattle.bb_memory_traits.proofs.Layouts.{layout-plain}
 use Rattle.bb_memory_traits.proofs.PoolGeometries.{bucket_place-aligned, first_place-above, stride-above}
 use Rattle.bb_memory_traits.specs.Chunk.{Chunk, IsChunk, IsInside}

@@ -1,4 +1,4 @@
--- Where the buckets of a pool are.
+-- The places of a pool's buckets.
 use Rattle.bb_memory_traits.proofs.LeastPlaces.{least_place-is}
 use Rattle.bb_memory_traits.specs.Chunk.{Layout, Region, first_place, region_end}
 use Rattle.bb_memory_traits.specs.PoolObject.{FillsRegion, IsPoolGeometry, PoolGeometry, bucket_place, pool_geometry, stride}

@@ -1,4 +1,4 @@
--- Runs, one step longer, and what each step of one keeps.
+-- Runs that are one step longer, and what each step of a run keeps.
 use Rattle.bb_memory_traits.specs.Object.{IsRun}
 use Rattle.std.proofs.Common.{List, [], refl, subst, sym, ◌++◌, ◌∷◌}
 

@@ -2,7 +2,7 @@
 use Rattle.bb_memory_traits.specs.Chunk.{Chunk, Region}
 use Rattle.std.specs.Prelude.{IfOk, List, OnErr, Result, drop, length, replicate, slice_range, take, ℕ, ◌+◌, ◌-◌, ◌≡◌}
 
--- bytes from a place on
+-- the bytes of a region: where they start, and the bytes from there on
 pub record HeldBytes : Type 0 where
   pub start : ℕ
   pub bytes : List ℕ
@@ -23,7 +23,7 @@ bytes_in held chunk = slice_range held.bytes (chunk.place - held.start) (chunk.p
 abbrev pub bytes_behind : HeldBytes → Chunk → List ℕ
 bytes_behind held chunk = drop (chunk.place - held.start + chunk.len) held.bytes
 
--- the chunk then has these bytes, and every other one is as it was
+-- the chunk has these bytes in `new`, and every other byte is as in `old`
 pub record ChangesOnly (old new : HeldBytes) (chunk : Chunk) (bytes : List ℕ) : Type 0 where
   pub start : new.start ≡ old.start
   pub size : length new.bytes ≡ length old.bytes
@@ -31,7 +31,7 @@ pub record ChangesOnly (old new : HeldBytes) (chunk : Chunk) (bytes : List ℕ) 
   pub before : bytes_before new chunk ≡ bytes_before old chunk
   pub behind : bytes_behind new chunk ≡ bytes_behind old chunk
 
--- the chunk's bytes are then zero, and every other one is as it was
+-- the chunk's bytes are zero in `new`, and every other byte is as in `old`
 abbrev pub ZeroesOnly : HeldBytes → HeldBytes → Chunk → Type 0
 ZeroesOnly old new chunk = ChangesOnly old new chunk (replicate chunk.len 0)
 

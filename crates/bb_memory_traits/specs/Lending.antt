@@ -5,8 +5,9 @@ use Rattle.bb_memory_traits.specs.contracts.region.Region.{the_row}
 use Rattle.std.specs.Borrow.{Array, Fml, Lends, MutBor, u8}
 use Rattle.std.specs.Prelude.{List, drop, length, take, ℕ, ◌++◌, ◌+◌, ◌-◌}
 
--- the bytes before the chunk, those that were written in it, and those after it, cut to the old length, since a
--- borrower writes exactly the bytes that it was lent
+-- the region after `bytes` were written in the chunk: the bytes before the chunk, the written ones,
+-- and those after it. The result is cut to the old length, since a borrower writes exactly the
+-- bytes that it was lent.
 abbrev pub written : HeldBytes → Chunk → List ℕ → HeldBytes
 written held chunk bytes = record {
   start = held.start;
@@ -14,6 +15,6 @@ written held chunk bytes = record {
       ++ (bytes ++ drop (chunk.place - held.start + length bytes) held.bytes));
 }
 
--- the region ends with what the borrower left in the chunk
+-- at the end of the loan, the region has in the chunk the bytes that the borrower left there
 abbrev pub LendsChunk : MutBor HeldBytes → Chunk → MutBor (List ℕ) → Fml
 LendsChunk lender chunk lent = Lends the_row (Array u8 0) lender lent (written lender.now chunk)

@@ -12,17 +12,19 @@ reserved_at region place = region_end region - place
 abbrev pub rest_from : Region → ℕ → Chunk
 rest_from region place = record { place = place; len = reserved_at region place }
 
--- there is a byte at the layout's place, and the layout's size ends inside the region; an exact fit is room enough
+-- the region has room for the layout: it has a byte at the layout's first place, and at least the
+-- layout's size from there on
 pub record HasRoom (region : Region) (layout : Layout) : Type 0 where
   pub begins : first_place region layout < region_end region
   pub ends : first_place region layout + layout.size ≤ region_end region
 
--- the layout's place is at or after the region's end, or its size ends after it
+-- the region has no room for the layout: the layout's first place is at or after the region's end,
+-- or fewer bytes than its size are left from there on
 abbrev pub LacksRoom : Region → Layout → Type 0
 LacksRoom region layout =
     (region_end region ≤ first_place region layout) ⊎ (region_end region < first_place region layout + layout.size)
 
--- Answers that the one-chunk object may give to a request, and when.
+-- The answers that the one-chunk object may give to a request on a live list, and when.
 abbrev pub MayAllocate : Region → List Chunk → Layout → Result Chunk AllocationError → Type 0
 MayAllocate region live layout (Ok chunk) =
     (live ≡ []) × HasRoom region layout × (chunk ≡ rest_from region (first_place region layout))
@@ -32,27 +34,30 @@ MayAllocate region live layout (Err SizeIsZero) = ⊥
 MayAllocate region live layout (Err SizeTooLarge) = ⊥
 MayAllocate region live layout (Err AlignmentFailure) = ⊥
 
--- A chunk that grows gets all that is reserved. No resize makes the alignment greater.
+-- The answers to a grow of the chunk at `place`: the grown chunk has all the bytes that are
+-- reserved for it, and the new alignment must not be greater than the old one.
 abbrev pub MayGrow : Region → ℕ → Layout → Layout → Result Chunk AllocationGrowError → Type 0
 MayGrow region place old = MayGrowAt (reserved_at region place) old.align (reserved_at region place) place old
 
--- A chunk that shrinks has the new size. No resize makes the alignment greater.
+-- The answers to a shrink of the chunk at `place`: the shrunk chunk has exactly the new size, and
+-- the new alignment must not be greater than the old one.
 abbrev pub MayShrink : ℕ → Layout → Layout → Result Chunk AllocationShrinkError → Type 0
 MayShrink place old = MayShrinkAt old.align place old
 
--- the list decides nothing for a resize
+-- the one-chunk object over a region; its answers to resizes don't depend on the live list
 abbrev pub one_chunk_object : Region → ResizableObject
 one_chunk_object region =
     resizable_object_of (MayAllocate region) (reserved_at region) (λ live. MayGrow region) (λ live. MayShrink)
 
 -- STANDS FOR
 
--- the allocator's region, and the place of the chunk in use
+-- a one-chunk allocator: its region, and the place of the chunk in use, or None
 pub record OneChunk : Type 0 where
   pub region : Region
   pub kept : Option ℕ
 
--- the one chunk over the region that starts here and has this many bytes, with the place that it keeps
+-- the one chunk over the region that starts here and has this many bytes, with the place that it
+-- keeps
 abbrev pub one_chunk_of : ℕ → ℕ → Option ℕ → OneChunk
 one_chunk_of start size kept = record { region = region_at start size; kept = kept }
 
@@ -61,17 +66,19 @@ pub record HasByteAt (region : Region) (place : ℕ) : Type 0 where
   pub above : region.start ≤ place
   pub below : place < region_end region
 
--- a place that is kept is inside the region
+-- the invariant of a one-chunk allocator: the region is valid, and has a byte at the kept place, if
+-- there is one
 pub record IsOneChunk (one : OneChunk) : Type 0 where
   pub region : IsRegion one.region
   pub kept : ForSome one.kept (HasByteAt one.region)
 
--- no chunk is in use if no place is kept, and otherwise one chunk, at that place
+-- if no place is kept, no chunk is in use; otherwise one chunk is in use, at that place
 abbrev pub IsKept : Option ℕ → List Chunk → Type 0
 IsKept None live = live ≡ []
 IsKept (Some place) live = (chunk : Chunk) × (live ≡ chunk ∷ []) × (chunk.place ≡ place)
 
--- the live list may be that of the one chunk's allocated chunks
+-- the allocator stands for this live list: the list is sound, and has exactly the chunk at the kept
+-- place, if there is one
 pub record StandsFor (one : OneChunk) (live : List Chunk) : Type 0 where
   pub sound : IsSound one.region live
   pub keeps : IsKept one.kept live

@@ -1,10 +1,11 @@
--- The geometry of a pool, and the pool object: chunks in buckets, each resized in its bucket and given back by itself.
+-- The geometry of a pool, and the pool object: chunks in buckets, each resized in its bucket and
+-- given back by itself.
 use Rattle.bb_memory_traits.specs.Chunk.{AlignmentFailure, AllocationError, Chunk, Layout, OutOfMemory, Region, SizeIsZero, SizeTooLarge, first_place, region_end}
 use Rattle.bb_memory_traits.specs.LeastPlace.{least_place}
 use Rattle.bb_memory_traits.specs.Object.{AllocationGrowError, AllocationShrinkError, MayGrowAt, MayShrinkAt, ResizableObject, resizable_object_of}
 use Rattle.std.specs.Prelude.{Err, List, Ok, Result, Some, min, slice_get, ℕ, ◌*◌, ◌+◌, ◌<◌, ◌↔◌, ◌≡◌, ◌≤◌}
 
--- Where the buckets of a region are. Buckets are numbered from 0.
+-- The buckets of a region, numbered from 0.
 
 -- the region that is cut, the layout of each bucket, and how many buckets there are
 pub record PoolGeometry : Type 0 where
@@ -16,7 +17,7 @@ pub record PoolGeometry : Type 0 where
 abbrev pub pool_geometry : Region → Layout → ℕ → PoolGeometry
 pool_geometry region bucket buckets = record { region = region; bucket = bucket; buckets = buckets }
 
--- how far each bucket is from the next
+-- the distance from the beginning of each bucket to that of the next one
 abbrev pub stride : Layout → ℕ
 stride bucket = least_place bucket.size bucket.align
 
@@ -42,7 +43,7 @@ pub record IsCut (whole : Region) (layout : Layout) (geometry : PoolGeometry) : 
 abbrev pub at_most : ℕ → PoolGeometry → PoolGeometry
 at_most constant geometry = pool_geometry geometry.region geometry.bucket (min geometry.buckets constant)
 
--- a bucket has a byte, and the region has room for each of its buckets
+-- a bucket has at least one byte, and the region has room for each of the buckets
 pub record IsPoolGeometry (geometry : PoolGeometry) : Type 0 where
   pub filled : 0 < geometry.bucket.size
   pub room : (i : ℕ) → i < geometry.buckets → HasBucket geometry.region geometry.bucket i
@@ -53,11 +54,11 @@ pub record IsAt (live : List Chunk) (position place : ℕ) : Type 0 where
   pub there : slice_get live position ≡ Some chunk
   pub placed : chunk.place ≡ place
 
--- some chunk of the list has the place of bucket i
+-- bucket i is held: some chunk of the list begins at its place
 abbrev pub IsHeld : PoolGeometry → List Chunk → ℕ → Type 0
 IsHeld geometry live i = (position : ℕ) × IsAt live position (bucket_place geometry i)
 
--- the size and the alignment are at most the bucket's
+-- the layout fits into a bucket: its size and its alignment are at most the bucket's
 pub record IsWithin (bucket layout : Layout) : Type 0 where
   pub size : layout.size ≤ bucket.size
   pub align : layout.align ≤ bucket.align
@@ -66,13 +67,14 @@ pub record IsWithin (bucket layout : Layout) : Type 0 where
 abbrev pub chunk_in : PoolGeometry → ℕ → Layout → Chunk
 chunk_in geometry i layout = record { place = bucket_place geometry i; len = layout.size }
 
--- a request for the layout may get bucket i, as its size and alignment are small enough, and the bucket isn't held
+-- a request for the layout may get bucket i: its size and alignment are small enough, the bucket
+-- exists, and it isn't held
 pub record MayGive (geometry : PoolGeometry) (live : List Chunk) (layout : Layout) (i : ℕ) : Type 0 where
   pub within : IsWithin geometry.bucket layout
   pub bucket : i < geometry.buckets
   pub free : ¬ IsHeld geometry live i
 
--- Answers that the pool object may give, and when.
+-- The answers that the pool object may give to a request on a live list, and when.
 abbrev pub MayAllocate : PoolGeometry → List Chunk → Layout → Result Chunk AllocationError → Type 0
 -- any bucket that isn't held
 MayAllocate geometry live layout (Ok chunk) = (i : ℕ) × MayGive geometry live layout i × (chunk ≡ chunk_in geometry i layout)
@@ -84,15 +86,18 @@ MayAllocate geometry live layout (Err OutOfMemory) =
 -- no call fails with this error
 MayAllocate geometry live layout (Err SizeIsZero) = ⊥
 
--- a chunk that grows has exactly the new size, and no alignment is greater than the bucket's
+-- the answers to a grow of the chunk at `place`: the grown chunk has exactly the new size, and the
+-- new alignment must not be greater than the bucket's
 abbrev pub MayGrow : Layout → ℕ → Layout → Layout → Result Chunk AllocationGrowError → Type 0
 MayGrow bucket place old new = MayGrowAt bucket.size bucket.align new.size place old new
 
--- a chunk that shrinks has exactly the new size, and no alignment is greater than the bucket's
+-- the answers to a shrink: the shrunk chunk has exactly the new size, and the new alignment must
+-- not be greater than the bucket's
 abbrev pub MayShrink : Layout → ℕ → Layout → Layout → Result Chunk AllocationShrinkError → Type 0
 MayShrink bucket = MayShrinkAt bucket.align
 
--- Each bucket is reserved for its chunk as a whole. The list decides nothing for a resize, and a release closes up.
+-- The pool object of a geometry. The whole bucket is reserved for its chunk. The answers to resizes
+-- don't depend on the live list, and a release removes one chunk.
 abbrev pub pool_object : PoolGeometry → ResizableObject
 pool_object geometry =
     resizable_object_of (MayAllocate geometry) (λ place. geometry.bucket.size)

@@ -1,28 +1,29 @@
--- Promises of calls that request a chunk or a longer one: all that `allocate` and `grow` promise.
+-- Promises of the calls that request a chunk or grow one: all that `allocate` and `grow` promise.
 use Rattle.bb_memory_traits.specs.Chunk.{AllocationError, Chunk, Fits, IsInside, Layout, Region}
 use Rattle.bb_memory_traits.specs.Object.{AllocationGrowError}
 use Rattle.std.specs.Prelude.{IfOk, List, OnErr, Result, Some, [], slice_get, slice_set, ℕ, ◌%◌, ◌++◌, ◌<◌, ◌∷◌, ◌≡◌, ◌≤◌}
 
--- The words of a `BaseAllocator` that say what a request does.
+-- The ghost items of a `BaseAllocator` that describe a request.
 pub record RequestWords (Allocator Geometry Note : Type 0) : Type 1 where
-  -- the allocator may have given exactly these chunks
+  -- exactly these chunks may be in use
   pub stands_for : Allocator → List Chunk → Type 0
   -- the chunk at the place may be given back
   pub may_release : Allocator → ℕ → Type 0
   pub geometry : Allocator → Geometry
   pub region_of : Geometry → Region
-  -- answers on a live list
+  -- the answers that a request may have on a live list
   pub may_allocate : Geometry → List Chunk → Layout → Result Chunk AllocationError → Type 0
   -- the note that an allocator keeps, and the note after a request
   pub note : Allocator → Note
   pub note_after : Geometry → Layout → Note → Note
-  -- the promise by the value
+  -- the further promise about values
   pub takes : Allocator → Layout → Result Chunk AllocationError → Allocator → Type 0
 
 -- A request for the layout: `old` gave this answer, and is `new` afterwards.
 pub record Requested {Allocator Geometry Note : Type 0} (words : RequestWords Allocator Geometry Note)
     (old : Allocator) (layout : Layout) (result : Result Chunk AllocationError) (new : Allocator) : Type 0 where
-  -- each live list that `old` stood for: the answer is allowed there, and `new` stands for the list after it
+  -- each live list that `old` stood for: the answer is allowed there, and `new` stands for the list
+  -- after it
   pub answer : (live : List Chunk) → words.stands_for old live → words.may_allocate (words.geometry old) live layout result
   pub appended : IfOk result (λ chunk. (live : List Chunk) → words.stands_for old live
       → words.stands_for new (live ++ chunk ∷ []))
@@ -34,19 +35,20 @@ pub record Requested {Allocator Geometry Note : Type 0} (words : RequestWords Al
   pub note : words.note new ≡ words.note_after (words.geometry old) layout (words.note old)
   pub value : words.takes old layout result new
 
--- The words of an `Allocator` of one value that say what growing a chunk does.
+-- The ghost items of an `Allocator`, at one value of it, that describe how a chunk is grown.
 pub record GrowWords (Allocator : Type 0) : Type 1 where
-  -- the allocator may have given exactly these chunks
+  -- exactly these chunks may be in use
   pub stands_for : Allocator → List Chunk → Type 0
   pub region : Region
   -- the number of bytes that are reserved for the chunk at a place
   pub reserved_at : ℕ → ℕ
-  -- answers on a live list
+  -- the answers that a grow may have on a live list
   pub may_grow : List Chunk → ℕ → Layout → Layout → Result Chunk AllocationGrowError → Type 0
-  -- the promise by the value
+  -- the further promise about values
   pub grows : Allocator → ℕ → Layout → Layout → Result Chunk AllocationGrowError → Allocator → Type 0
 
--- A grow of the chunk at the place from one layout to another: `old` gave this answer, and is `new` afterwards.
+-- A grow of the chunk at the place from one layout to another: `old` gave this answer, and is `new`
+-- afterwards.
 pub record Grown {Allocator : Type 0} (words : GrowWords Allocator) (old : Allocator) (place : ℕ) (from to : Layout)
     (result : Result Chunk AllocationGrowError) (new : Allocator) : Type 0 where
   -- each live list that `old` stood for, with a chunk at the place

@@ -1,4 +1,5 @@
-//! The promises of allocators over a region, and commands to any of them.
+//! The traits of allocators over a region, the errors of their calls, and commands with their
+//! replies.
 ghost use Rattle.bb_memory_traits.specs.Chunk.{AllocationError, Chunk, IsInside, IsSound, Layout, Region};
 ghost use Rattle.bb_memory_traits.specs.HeldBytes.{ZeroesAnswered, held_region, part_behind};
 ghost use Rattle.bb_memory_traits.specs.Object.{AllocationGrowError, AllocationShrinkError, PlacesDiffer, released};
@@ -21,9 +22,14 @@ pub enum AllocationError {
     /// The alignment is greater than the bucket's: only for a pool.
     #[error("the requested alignment is not supported")]
     AlignmentFailure,
-    /// For a bump: the chunk would end after the region. For the one chunk: a chunk is in use, or the region has too little
-    /// from the least place of the alignment on. For a pool: every bucket is held or, if it is shared, each was found held at
-    /// some step of the pass. For the heap and for makers: memory ran out.
+    /// There is no room. The reason depends on the allocator:
+    ///
+    /// - A bump: the chunk would end after the region.
+    /// - The one chunk: a chunk is in use, or the region has no byte or too few bytes from the
+    ///   first multiple of the alignment on.
+    /// - A pool: every bucket is held. If threads share the pool, each bucket was found held at
+    ///   some step of the search.
+    /// - The heap, and constructors that allocate: memory ran out.
     #[error("there is not enough memory available")]
     OutOfMemory,
 }
@@ -34,10 +40,11 @@ pub enum AllocationGrowError {
     /// The new size isn't greater than the old one.
     #[error("the new size is not greater than the old size")]
     GrowWouldShrink,
-    /// The new alignment is greater than the bucket's, for a pool, or than the old one, for the one chunk.
+    /// The new alignment is greater than the bucket's (a pool) or than the old one (the one chunk).
     #[error("the requested alignment is not supported")]
     AlignmentFailure,
-    /// The new size is greater than what is reserved for the chunk. For the heap: memory ran out.
+    /// The new size is greater than the number of bytes that are reserved for the chunk. For the
+    /// heap: memory ran out.
     #[error("there is not enough memory available")]
     OutOfMemory,
 }
@@ -48,7 +55,7 @@ pub enum AllocationShrinkError {
     /// The new size isn't smaller than the old one.
     #[error("the new size is not smaller than the old size")]
     ShrinkWouldGrow,
-    /// The new alignment is greater than the bucket's, for a pool, or than the old one, for the one chunk.
+    /// The new alignment is greater than the bucket's (a pool) or than the old one (the one chunk).
     #[error("the requested alignment is not supported")]
     AlignmentFailure,
     /// The new size is 0: only for the heap.
@@ -56,29 +63,30 @@ pub enum AllocationShrinkError {
     SizeIsZero,
 }
 
-/// A command to an allocator. The number is a position in the live list, from 0.
+/// A command to an allocator. Each `usize` is a position in the live list, counted from 0.
 #[derive(Debug, Clone, Copy, PartialEq, Eq)]
 pub enum Command {
     /// Requests a chunk.
     Allocate(Layout),
     /// Gives back the chunk at a position.
     Release(usize),
-    /// Gives the chunk at a position a larger size: the old layout, then the new one.
+    /// Grows the chunk at a position, from the first layout to the second.
     Grow(usize, Layout, Layout),
-    /// Gives the chunk at a position a smaller size: the old layout, then the new one.
+    /// Shrinks the chunk at a position, from the first layout to the second.
     Shrink(usize, Layout, Layout),
 }
 
 /// The reply to a command.
 #[derive(Debug, Clone, Copy, PartialEq, Eq)]
 pub enum Reply {
-    /// The chunk that was given, or the resized one.
+    /// The allocated chunk, or the resized one.
     Chunk(Chunk),
-    /// The chunk at the position was given back, or all chunks if a release gives back all at once.
+    /// The chunk at the position was given back, or all chunks if `RELEASE_EMPTIES` is true.
     Released,
-    /// The command was passed over: the live list doesn't have the position, or the run makes no resize of this kind.
+    /// The command was skipped: the live list doesn't have the position, or the run doesn't make
+    /// the resize.
     Passed,
-    /// The request was refused: no chunk was given.
+    /// The request was refused: no chunk was allocated.
     Refused(AllocationError),
     /// The chunk at the position wasn't grown.
     GrowRefused(AllocationGrowError),
@@ -88,23 +96,27 @@ pub enum Reply {
 
 /// An allocator over one region, with one owner.
 ///
-/// Its contract is about live lists: the chunks in use, in the order in which they were given. An allocator *stands for* a live
-/// list if its state may be the result of having given exactly those chunks. Every clause holds for each list that the
-/// allocator stands for, and each allocator stands for at least one.
+/// The contract is about live lists: the chunks in use, in the order in which they were allocated.
+/// An allocator *stands for* a live list if exactly those chunks may be in use in its state. Every
+/// clause holds for each list that the allocator stands for, and each allocator stands for at least
+/// one.
 ///
-/// An object that holds only live chunks states the answers that the allocator may give (`geometry`, `may_allocate`). So a
-/// crate may bring an allocator with an object of its own.
+/// The answers to requests are those of an object whose only state is the live list (`geometry`,
+/// `may_allocate`). A crate may bring an allocator with an object of its own.
 pub trait BaseAllocator {
     /// True if a release gives back all chunks at once.
     const RELEASE_EMPTIES: bool;
 
     ghost RELEASE_EMPTIES: { Bool };
 
-    /// The facts that are fixed when an allocator is made: its region, and everything else on which its answers depend.
+    /// The facts that are fixed when an allocator is made: its region, and everything else on which
+    /// its answers depend.
     ghost Geometry: { Type 0 };
 
+    /// The geometry of an allocator.
     ghost geometry: { Self → Geometry };
 
+    /// The region of an allocator with this geometry.
     ghost region_of: { Geometry → Region };
 
     /// The answers that an allocator of this geometry may give to a request on a live list.
@@ -116,26 +128,28 @@ pub trait BaseAllocator {
     /// The chunk at this place may be given back.
     ghost may_release: { Self → ℕ → Type 0 };
 
-    /// The note that an allocator keeps about past requests, besides the chunks in use. An allocator without a note has `Unit
-    /// {0}` here.
+    /// A note that an allocator keeps about past requests, in addition to the chunks in use. An
+    /// allocator that keeps none has `Unit {0}` here.
     ghost Note: { Type 0 };
 
+    /// The note of an allocator.
     ghost note: { Self → Note };
 
-    /// The note after a request for a layout, whatever the answer is.
+    /// The note after a request for a layout, whether the request succeeds or not.
     ghost note_after: { Geometry → Layout → Note → Note };
 
-    /// The promise of a request that is only about values: the allocator before the request, the layout, the answer, and the
-    /// allocator afterwards. An allocator that leaves it out promises only the clauses below.
+    /// A further promise of `allocate`, about the values: the allocator before the request, the
+    /// layout, the answer, and the allocator afterwards. An allocator that leaves it out promises
+    /// only the other clauses of `allocate`.
     ghost takes: { Self → Layout → Result Chunk AllocationError → Self
         → Type 0 } = { λ old layout result new. Unit {0} };
 
-    /// The promise of a release that is only about values: the allocator before the release, the place, the layout, and the
-    /// allocator afterwards.
+    /// A further promise of `deallocate`, about the values: the allocator before the release, the
+    /// place, the layout, and the allocator afterwards.
     ghost frees: { Self → ℕ → Layout → Self → Type 0 } = { λ old place layout new. Unit {0} };
 
-    /// Allocates a chunk of at least `layout.size()` bytes, at a place that is a multiple of `layout.align()`. After a refusal
-    /// the allocator stands for the same lists as before.
+    /// Allocates a chunk of at least `layout.size()` bytes, at a place that is a multiple of
+    /// `layout.align()`. After a refusal the allocator stands for the same lists as before.
     fn allocate(&mut self, layout: Layout) -> Result<Chunk, AllocationError>
         ensures answer { (live : List Chunk) → stands_for self.old live
             → may_allocate (geometry self.old) live layout result }
@@ -151,8 +165,8 @@ pub trait BaseAllocator {
         ensures note { note self.new ≡ note_after (geometry self.old) layout (note self.old) }
         ensures value { takes self.old layout result self.new };
 
-    /// Gives back the chunk at this place, or all chunks if `RELEASE_EMPTIES` is true. A chunk in use has to begin at the place
-    /// (a bump accepts any place). The layout decides nothing.
+    /// Gives back the chunk at this place, or all chunks if `RELEASE_EMPTIES` is true. A chunk in
+    /// use has to begin at the place (a bump accepts any place). The layout has no effect.
     fn deallocate(&mut self, place: usize, layout: Layout)
         requires { may_release self.old place }
         ensures released { (live : List Chunk) (position : ℕ) (chunk : Chunk)
@@ -162,9 +176,9 @@ pub trait BaseAllocator {
         ensures note { note self.new ≡ note self.old }
         ensures value { frees self.old place layout self.new };
 
-    /// Allocates a chunk as `allocate` does, with all its promises (`Requested`), and makes the chunk's bytes zero. Every other
-    /// byte of the region is unchanged, and after a refusal all bytes are. The region's start and size have to be those with
-    /// which the allocator was made.
+    /// Allocates a chunk as `allocate` does, with all its promises (`Requested`), and zeroes the
+    /// chunk's bytes. All other bytes of the region are unchanged; after a refusal, all bytes are.
+    /// The region's start and size have to be those with which the allocator was made.
     fn allocate_zeroed(
         &mut self,
         layout: Layout,
@@ -188,12 +202,13 @@ pub trait BaseAllocator {
         Ok(chunk)
     }
 
-    /// Does nothing: its contract is the proof that each value stands for some live list, so that no clause is empty.
+    /// Does nothing: its contract is the proof that each allocator stands for some live list, so
+    /// that no clause is vacuous.
     fn stands_for_some_list(&self)
         ensures { (live : List Chunk) × stands_for self.now live };
 
-    /// Does nothing: its contract is the proof that each chunk that a request may get is inside the region, at a multiple of
-    /// the requested alignment, and at least as long as requested.
+    /// Does nothing: its contract is the proof that each chunk that a request may get is inside the
+    /// region, at a multiple of the requested alignment, and at least as long as requested.
     fn answers_fit(&self)
         ensures inside { (live : List Chunk) (layout : Layout) (chunk : Chunk)
             → stands_for self.now live → may_allocate (geometry self.now) live layout (Ok chunk)
@@ -215,11 +230,13 @@ pub trait BaseAllocator {
         → IsSound (region_of (geometry allocator)) live };
 }
 
-/// An allocator whose chunks can be resized in place. A release removes only its chunk from the list, and no two chunks of a
-/// list that the allocator stands for have the same place. A resize never changes the allocator: only the answer determines how
-/// much of the bytes reserved for a chunk may be used.
+/// An allocator whose chunks can be resized in place. A release removes only its chunk from the
+/// list, and no two chunks of a list that the allocator stands for have the same place. A resize
+/// never changes the allocator: its answer says how many of the bytes reserved for the chunk may be
+/// used.
 pub trait Allocator: BaseAllocator {
-    /// The facts on which the answers to resizes depend. The geometry fixes them, by the law `fixed`.
+    /// The facts on which the answers to resizes depend. The geometry fixes them, by the law
+    /// `fixed`.
     ghost ResizeKey: { Type 0 };
 
     ghost resize_key: { Self → ResizeKey };
@@ -227,20 +244,21 @@ pub trait Allocator: BaseAllocator {
     /// The number of bytes that are reserved for the chunk at a place.
     ghost reserved_at: { ResizeKey → ℕ → ℕ };
 
-    /// The answers that an allocator of this key may give on a live list to a resize of the chunk at a place, from an old layout
-    /// to a new one.
+    /// The answers that an allocator of this key may give on a live list to a resize of the chunk
+    /// at a place, from an old layout to a new one.
     ghost may_grow: { ResizeKey → List Chunk → ℕ → Layout → Layout
         → Result Chunk AllocationGrowError → Type 0 };
 
     ghost may_shrink: { ResizeKey → List Chunk → ℕ → Layout → Layout
         → Result Chunk AllocationShrinkError → Type 0 };
 
-    /// The promise of `grow` that is only about values: the allocator before the call, the place, the old layout and the new
-    /// one, the answer, and the allocator afterwards. An allocator that leaves it out promises only the clauses below.
+    /// A further promise of `grow`, about the values: the allocator before the call, the place, the
+    /// old layout and the new one, the answer, and the allocator afterwards. An allocator that
+    /// leaves it out promises only the other clauses of `grow`.
     ghost grows: { Self → ℕ → Layout → Layout → Result Chunk AllocationGrowError → Self
         → Type 0 } = { λ one place old new result after. Unit {0} };
 
-    /// The same for `shrink`.
+    /// A further promise of `shrink`, about the same values as `grows`.
     ghost shrinks: { Self → ℕ → Layout → Layout → Result Chunk AllocationShrinkError → Self
         → Type 0 } = { λ one place old new result after. Unit {0} };
 
@@ -249,7 +267,8 @@ pub trait Allocator: BaseAllocator {
         requires { Self.may_release self.now place }
         ensures { result ≡ reserved_at (resize_key self.now) place };
 
-    /// Gives the live chunk at this place a larger size. The place has to be a multiple of the old alignment.
+    /// Grows the live chunk at this place to at least `new.size()` bytes, without moving it. The
+    /// place has to be a multiple of the old alignment. The allocator doesn't change.
     fn grow(&mut self, place: usize, old: Layout, new: Layout) -> Result<Chunk, AllocationGrowError>
         requires live { Self.may_release self.old place }
         requires aligned { place % old.align ≡ 0 }
@@ -268,8 +287,9 @@ pub trait Allocator: BaseAllocator {
         ensures unchanged { self.new ≡ self.old }
         ensures value { grows self.old place old new result self.new };
 
-    /// Gives the live chunk at this place a smaller size. The place has to be a multiple of the old alignment, and the old
-    /// size at most what is reserved.
+    /// Shrinks the live chunk at this place to at least `new.size()` and fewer than `old.size()`
+    /// bytes, without moving it. The place has to be a multiple of the old alignment, and the old
+    /// size at most what is reserved. The allocator doesn't change.
     fn shrink(
         &mut self,
         place: usize,
@@ -294,9 +314,10 @@ pub trait Allocator: BaseAllocator {
         ensures unchanged { self.new ≡ self.old }
         ensures value { shrinks self.old place old new result self.new };
 
-    /// Grows a chunk as `grow` does, with all its promises (`Grown`), and zeroes the bytes after its old size, up to the end of
-    /// the returned chunk. Every other byte of the region is unchanged, and after a refusal all bytes are. The region's start
-    /// and size have to be those with which the allocator was made.
+    /// Grows a chunk as `grow` does, with all its promises (`Grown`), and zeroes the bytes after
+    /// its old size, up to the end of the returned chunk. All other bytes of the region are
+    /// unchanged; after a refusal, all bytes are. The region's start and size have to be those with
+    /// which the allocator was made.
     fn grow_zeroed(
         &mut self,
         place: usize,

@@ -1,4 +1,4 @@
-//! Where the buckets of a region are.
+//! The buckets of a region: their places and their numbers.
 ghost use Rattle.bb_memory_traits.specs.Chunk.{Chunk, IsInside, IsRegion, first_place, region_at};
 ghost use Rattle.bb_memory_traits.specs.Geometry.{Admits, IsCutAtMost, IsPlaceOfBucket, MayBeCut, TellsPlace};
 ghost use Rattle.bb_memory_traits.specs.PoolObject.{IsCut, IsPoolGeometry, MayGrow, MayShrink, bucket_place, pool_geometry, stride};
@@ -21,7 +21,8 @@ fn inverse_of(odd: usize) -> usize
     ensures { odd * result % 2 ^ 64 ≡ 1 }
 {
     let mut inverse: usize = 1;
-    // `odd * inverse + rest` is 1 modulo 2^64, before and after each step. The rest is even, and six squares of it are 0.
+    // `odd * inverse + rest` is 1 modulo 2^64, before and after each step. The rest is even, so
+    // squaring it six times gives 0.
     let mut rest = 1usize.wrapping_sub(odd);
     for _step in 0..6u32 {
         inverse = inverse.wrapping_mul(rest.wrapping_add(1));
@@ -30,8 +31,9 @@ fn inverse_of(odd: usize) -> usize
     inverse
 }
 
-/// A region cut into buckets of one layout: all that it has room for, or the first of them. The stride is an odd number times
-/// two to the power of `shift`, and `inverse` is the inverse of the odd number modulo 2^64.
+/// A region cut into buckets of one layout: all the buckets that it has room for, or only the first
+/// of them. The stride is an odd number times two to the power of `shift`, and `inverse` is the
+/// inverse of the odd number modulo 2^64.
 #[derive(Debug, Drop)]
 pub struct Geometry {
     region_start: usize,
@@ -59,7 +61,8 @@ impl Model for Geometry {
 }
 
 impl Geometry {
-    /// Returns all the buckets of this layout that the region of `size` bytes at `start` has room for.
+    /// Returns all the buckets of this layout that the region of `size` bytes at `start` has room
+    /// for.
     pub fn new(bucket_layout: Layout, start: usize, size: usize) -> Self
         requires { MayBeCut (region_at start size) bucket_layout }
         ensures { IsCut (region_at start size) bucket_layout result }
@@ -124,7 +127,8 @@ impl Geometry {
         self.first
     }
 
-    /// Refuses a request if its size is greater than the bucket's or, otherwise, if its alignment is.
+    /// Checks that a request fits into a bucket. Fails, in this order, with `SizeTooLarge` if the
+    /// size is greater than the bucket's, and with `AlignmentFailure` if the alignment is.
     #[inline(always)]
     pub fn admit(&self, layout: Layout) -> Result<(), AllocationError>
         ensures { Admits self.now.bucket layout result }
@@ -138,9 +142,10 @@ impl Geometry {
         Ok(())
     }
 
-    /// Returns the number of strides in a distance, if that is a multiple of the stride, and otherwise a number that no bucket
-    /// has. The product with the inverse divides by the stride's odd factor, and the rotation by its power of two. Both can be
-    /// undone modulo 2^64, so no two distances have the same result.
+    /// Returns the number of strides in a distance, if that is a multiple of the stride, and
+    /// otherwise a number that no bucket has. The product with the inverse divides by the stride's
+    /// odd factor, and the rotation by its power of two. Both can be undone modulo 2^64, so no two
+    /// distances have the same result.
     #[inline(always)]
     pub fn whole_strides(&self, distance: usize) -> usize
         ensures whole { distance % stride self.now.bucket ≡ 0
@@ -160,7 +165,8 @@ impl Geometry {
             → place ≡ bucket_place self.now other → other ≡ number) }
         ensures none { IfNone result (¬ IsPlaceOfBucket self.now place) }
     {
-        // The distance of a place before the first bucket wraps, to more strides than there are buckets.
+        // The distance of a place before the first bucket wraps, to more strides than there are
+        // buckets.
         let number = self.whole_strides(place.wrapping_sub(self.first()));
         if number >= self.count() as usize {
             return None;
@@ -168,7 +174,8 @@ impl Geometry {
         Some(number as u32)
     }
 
-    /// Returns the place of the bucket of this number, or `None` if there is no bucket of this number.
+    /// Returns the place of the bucket of this number, or `None` if there is no bucket of this
+    /// number.
     pub fn place_at(&self, number: u32) -> Option<usize>
         ensures { TellsPlace self.now number result }
     {
@@ -178,7 +185,7 @@ impl Geometry {
         Some(self.chunk(number as usize, 0).place())
     }
 
-    /// Returns the first `len` bytes of a bucket.
+    /// Returns the first `len` bytes of the bucket of this number.
     #[inline(always)]
     pub fn chunk(&self, bucket: usize, len: usize) -> Chunk
         requires below { bucket < self.now.buckets }
@@ -193,7 +200,10 @@ impl Geometry {
         Chunk::new_unchecked(place, len)
     }
 
-    /// Answers a `grow` of the chunk at `place`. The pool doesn't change.
+    /// Answers a `grow` of the chunk at `place`, which has to be the place of a bucket. Fails, in
+    /// this order, with `GrowWouldShrink` if the new size isn't greater than the old one, with
+    /// `AlignmentFailure` if the new alignment is greater than the bucket's, and with `OutOfMemory`
+    /// if the new size is. The pool doesn't change.
     #[inline]
     pub fn grow(&self, place: usize, old: Layout, new: Layout) -> Result<Chunk, AllocationGrowError>
         requires { IsPlaceOfBucket self.now place }
@@ -213,7 +223,10 @@ impl Geometry {
         Ok(Chunk::new_unchecked(place, new.size()))
     }
 
-    /// Answers a `shrink` of the chunk at `place`. The pool doesn't change.
+    /// Answers a `shrink` of the chunk at `place`, which has to be the place of a bucket. The old
+    /// size has to be at most the bucket's. Fails, in this order, with `ShrinkWouldGrow` if the new
+    /// size isn't smaller than the old one, and with `AlignmentFailure` if the new alignment is
+    /// greater than the bucket's. The pool doesn't change.
     #[inline]
     pub fn shrink(
         &self,

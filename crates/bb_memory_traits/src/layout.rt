@@ -1,4 +1,5 @@
-//! Layouts, which callers request, and chunks, which allocators give. Sizes and lengths are in bytes.
+//! Layouts, which callers request, and chunks, which allocators return. Sizes and lengths are in
+//! bytes.
 ghost use Rattle.bb_memory_traits.specs.LeastPlace.{IsLeastPlace, IsUsual, least_place};
 ghost use Rattle.std.specs.Align.{IsLayout};
 ghost use Rattle.std.specs.Int.{IsPowerOfTwo};
@@ -10,8 +11,8 @@ mod chunk;
 pub use chunk::{Chunk, given_law, parts_law};
 use thiserror::Error;
 
-/// A size in bytes and an alignment, as in `core::alloc::Layout`: the alignment is a power of two, and the size rounded up to a
-/// multiple of it is at most `isize::MAX`.
+/// A size in bytes and an alignment, as in `core::alloc::Layout`: the alignment is a power of two,
+/// and the size rounded up to a multiple of it is at most `isize::MAX`.
 ///
 /// Example: `comments::layout` of `crates/examples`.
 #[derive(Debug, Clone, Copy, PartialEq, Eq)]
@@ -21,14 +22,15 @@ pub struct Layout {
     pub ghost valid: { IsLayout size align },
 }
 
-/// The alignment isn't a power of two, or the size rounded up to it is too large.
+/// The error of [`Layout::from_size_align`]: the alignment isn't a power of two, or the size
+/// rounded up to a multiple of it exceeds `isize::MAX`.
 #[derive(Debug, Clone, Copy, PartialEq, Eq, Error)]
 #[error("the alignment is no power of two or the rounded size is too large")]
 pub struct LayoutError {}
 
 impl Layout {
-    /// Returns the layout of this size and alignment. Fails exactly if the alignment isn't a power of two, or the size rounded
-    /// up to a multiple of the alignment exceeds `isize::MAX`.
+    /// Returns the layout of this size and alignment. Fails exactly if the alignment isn't a power
+    /// of two, or the size rounded up to a multiple of the alignment exceeds `isize::MAX`.
     #[inline]
     pub fn from_size_align(size: usize, align: usize) -> Result<Layout, LayoutError>
         ensures accepted { IsOk result ↔ IsLayout size align }
@@ -44,8 +46,9 @@ impl Layout {
         Ok(Layout { size, align })
     }
 
-    /// Returns the layout of this size and alignment if both are at most this layout's. Then the only test is whether the
-    /// alignment is a power of two. Returns `None` if it isn't, or if one of the two numbers is greater.
+    /// Returns the layout of this size and alignment, or `None` if one of the two is greater than
+    /// this layout's or the alignment isn't a power of two. No further test is needed: what is
+    /// within a layout is one.
     #[inline(always)]
     pub fn within(self, size: usize, align: usize) -> Option<Layout>
         ensures some { IsSome result
@@ -61,7 +64,7 @@ impl Layout {
         Some(Layout { size, align })
     }
 
-    /// Returns the layout of no bytes, for a call in which the layout decides nothing.
+    /// Returns the layout of 0 bytes at alignment 1, for a call that ignores the layout.
     #[inline]
     pub fn empty() -> Layout
         ensures size { result.size ≡ 0 }
@@ -88,9 +91,9 @@ impl Layout {
     }
 }
 
-/// States which layouts there are, in plain words: the alignment is a power of two, and the size rounded up to a multiple of it
-/// is at most `isize::MAX`. A multiple of an alignment is a multiple of each smaller alignment. The function does nothing: its
-/// contract is the law.
+/// States which sizes and alignments form a layout: the alignment is a power of two, and the size
+/// rounded up to a multiple of it is at most `isize::MAX`. A multiple of an alignment is also a
+/// multiple of each smaller alignment. The function does nothing: its contract is the law.
 pub fn layout_law()
     ensures valid { (size align : ℕ)
         → IsLayout size align ↔ (IsPowerOfTwo align × (least_place size align < 2 ^ 63)) }
@@ -98,8 +101,8 @@ pub fn layout_law()
         → place % wider.align ≡ 0 → place % layout.align ≡ 0 }
 {}
 
-/// Returns the least multiple of `align` that is at least `v`, or `None` if that exceeds `usize::MAX`. The alignment has to be
-/// a power of two, like that of a [`Layout`].
+/// Returns the least multiple of `align` that is at least `v`, or `None` if that exceeds
+/// `usize::MAX`. The alignment has to be a power of two, like that of a [`Layout`].
 ///
 /// Example: `comments::rounding` of `crates/examples`.
 #[inline(always)]
@@ -113,8 +116,9 @@ pub fn round_up(v: usize, align: usize) -> Option<usize>
     Some(v.checked_add(mask)? & !mask)
 }
 
-/// States that the least place is what its name says: the least multiple of the alignment that is at least the number. There is
-/// only one. The function does nothing: its contract is the law.
+/// States that `least_place` is what its name says: the least multiple of the alignment that is at
+/// least the number. There is only one such multiple. The function does nothing: its contract is
+/// the law.
 pub fn least_place_law()
     ensures is_least { (v align : ℕ) → 0 < align → IsLeastPlace v align (least_place v align) }
     ensures one { (v align place : ℕ) → 0 < align → IsLeastPlace v align place

@@ -8,7 +8,8 @@ ghost use Rattle.std.specs.Prelude.{IsTrue, List, Some, [], length, map, slice_g
 use crate::layout::Chunk;
 use std::marker::Model;
 
-/// The memory that an allocator gives out: bytes at places from a start on. It has one owner.
+/// The memory that an allocator divides into chunks: bytes at consecutive places, from a start on.
+/// A region has one owner.
 ///
 /// Example: `comments::region` of `crates/examples`.
 #[derive(Drop)]
@@ -30,8 +31,8 @@ impl Model for Region {
 }
 
 impl Region {
-    /// Makes a region of these bytes, from `start` on. The start has to be greater than 0, and start plus length at most
-    /// `usize::MAX`; [`Region::can_make`] tests both.
+    /// Makes a region of these bytes, the first of which is at `start`. The start has to be greater
+    /// than 0, and start plus length at most `usize::MAX`; [`Region::can_make`] tests both.
     pub fn new(start: usize, bytes: Vec<u8>) -> Region
         requires { IsRegion (region_at start (vec_len bytes)) }
         ensures { result ≡ record { start = start; bytes = bytes.items } }
@@ -39,8 +40,8 @@ impl Region {
         Region { start, bytes }
     }
 
-    /// Returns whether there is a region of `len` bytes from `start` on: the start is greater than 0, and start plus length is
-    /// at most `usize::MAX`.
+    /// Returns whether there is a region of `len` bytes from `start` on: the start is greater than
+    /// 0, and start plus length is at most `usize::MAX`.
     pub fn can_make(start: usize, len: usize) -> bool
         ensures { IsTrue result ↔ IsRegion (region_at start len) }
     {
@@ -82,8 +83,8 @@ impl Region {
         &self.bytes.as_slice()[from..from + c.len()]
     }
 
-    /// Lends the bytes of a chunk, which has to be inside the region. The region then has the bytes that are written there, and
-    /// every other byte is unchanged.
+    /// Lends the bytes of a chunk, which has to be inside the region. The region then has the bytes
+    /// that are written there, and every other byte is unchanged.
     #[inline]
     pub fn chunk_mut(&mut self, c: Chunk) -> &mut [u8]
         requires { IsInside (held_region self.old) c }
@@ -95,8 +96,8 @@ impl Region {
         self.bytes.slice_mut(from..from + c.len())
     }
 
-    /// Writes a whole chunk, which has to be inside the region and as long as the bytes. Every other byte is unchanged, and so
-    /// are the bytes of every chunk that is apart from this one.
+    /// Writes a whole chunk, which has to be inside the region and as long as the bytes. Every
+    /// other byte is unchanged, and so are the bytes of every chunk that is apart from this one.
     pub fn write(&mut self, c: Chunk, bytes: &[u8])
         requires inside { IsInside (held_region self.old) c }
         requires len { length bytes.now ≡ c.len }
@@ -122,8 +123,8 @@ impl Region {
         self.chunk_mut(c).copy_from_slice(bytes);
     }
 
-    /// Makes the bytes of a chunk zero, which has to be inside the region. Every other byte is unchanged, and so are the bytes
-    /// of every chunk that is apart from this one.
+    /// Zeroes the bytes of a chunk, which has to be inside the region. Every other byte is
+    /// unchanged, and so are the bytes of every chunk that is apart from this one.
     #[inline]
     pub fn zero(&mut self, c: Chunk)
         requires { IsInside (held_region self.old) c }
@@ -140,9 +141,10 @@ impl Region {
     }
 }
 
-/// States in plain words what [`Region::chunk_mut`] promises about the bytes that it lends. If bytes of the chunk's length are
-/// written there, the chunk has these, and every other byte is as it was. So each chunk inside the region that is apart from it
-/// keeps its bytes. The function does nothing: its contract is the law.
+/// States in plain words what [`Region::chunk_mut`] promises about the bytes that it lends. If
+/// bytes of the chunk's length are written there, the chunk has those bytes, and every other byte
+/// is as it was. So each chunk of the region that is apart from this one keeps its bytes. The
+/// function does nothing: its contract is the law.
 pub fn region_law()
     ensures written { (held : HeldBytes) (chunk : Chunk) (bytes : List ℕ)
         → IsInside (held_region held) chunk → length bytes ≡ chunk.len
@@ -153,8 +155,8 @@ pub fn region_law()
         → bytes_in new other ≡ bytes_in old other }
 {}
 
-/// States what the chunks of a sound list hold while one of them is written: its contents are set, and those of the others are
-/// unchanged. The function does nothing: its contract is the law.
+/// States what the chunks of a sound list contain after one of them is written: that chunk has the
+/// new bytes, and the others are unchanged. The function does nothing: its contract is the law.
 pub fn live_bytes_law()
     ensures inside { (held : HeldBytes) (live : List Chunk) (i : ℕ) (chunk : Chunk)
         → IsSound (held_region held) live → slice_get live i ≡ Some chunk
@@ -175,7 +177,8 @@ pub fn live_bytes_law()
         → map (bytes_in new) live ≡ slice_set (map (bytes_in old) live) i bytes }
 {}
 
-/// States that a chunk's bytes are those of its parts, one after the other. The function does nothing: its contract is the law.
+/// States that a chunk's bytes are those of its parts, one after the other. The function does
+/// nothing: its contract is the law.
 pub fn split_bytes_law()
     ensures { (held : HeldBytes) (place n m : ℕ) → held.start ≤ place
         → bytes_in held (record { place = place; len = n + m })

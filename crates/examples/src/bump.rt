@@ -4,7 +4,7 @@ ghost use Rattle.std.specs.Prelude.{◌≡◌};
 use bb_memory::bump_allocator::{AllocationError, BaseAllocator, BumpAllocator};
 use bb_memory::layout::Layout;
 
-/// A layout of 48 bytes at multiples of 4.
+/// Returns the layout of 48 bytes at multiples of 4.
 pub fn forty_eight() -> Layout
     ensures size { result.size ≡ 48 }
     ensures align { result.align ≡ 4 }

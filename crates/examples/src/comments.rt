@@ -1,4 +1,5 @@
-//! The examples that the doc comments of the libraries name. Only contracts decide each `prove!`.
+//! The examples that the doc comments of the libraries name. Each `prove!` follows only from
+//! contracts.
 #![tactic(auto, unfolding(bb_memory_traits::specs::LeastPlace::least_place))]
 
 ghost use Rattle.bb_memory.specs.Chunk.{region_at};
@@ -97,7 +98,8 @@ pub fn one_chunk_held() -> Result<(), AllocationError> {
     Ok(())
 }
 
-/// A bucket of 128 bytes at multiples of 8. The region of 1024 bytes at 4096 has room for eight.
+/// Returns the layout of a bucket: 128 bytes at multiples of 8. The region of 1024 bytes at 4096
+/// has room for eight.
 pub(super) fn bucket_128() -> Layout
     ensures cut { MayBeCut (region_at 4096 1024) result }
     ensures eight { (geometry : PoolGeometry) → IsCut (region_at 4096 1024) result geometry
@@ -171,8 +173,8 @@ pub fn shared_pool(alloc: Global) -> Result<(), AllocationError> {
     Ok(())
 }
 
-/// Gives back a bucket that a caller holds, and takes another one. The caller has to meet the conditions of
-/// `deallocate_bucket`.
+/// Gives back a bucket that a caller holds, and takes another one. The caller has to meet the
+/// conditions of `deallocate_bucket`.
 pub fn shared_pool_exchanged<'p>(
     pool: &'p SharedPoolAllocator,
     party: &mut PoolParty,

@@ -1,8 +1,8 @@
-//! Examples of the documents, proved: straight-line calls with literals. Only contracts decide each `prove!`, and this crate
-//! has no proof files.
+//! Proved examples for the pages and doc comments: straight-line calls with literals. Each `prove!`
+//! follows only from contracts, and this crate has no proof files.
 //!
-//! The modules: `first`, `bump`, `one_chunk`, `pools` and `tenants_and_vectors`, and `comments`, the examples of the libraries'
-//! comments.
+//! The modules: `first`, `bump`, `one_chunk`, `pools` and `tenants_and_vectors`, and `comments`,
+//! the examples of the libraries' comments.
 #![tactic(auto)]
 
 pub mod bump;

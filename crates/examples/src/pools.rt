@@ -54,7 +54,7 @@ pub fn greatest_kept(pool: &mut FixedSizePoolAllocator<16>) -> Result<(), Alloca
     Ok(())
 }
 
-/// One bucket more is held after an accepted request, and one less after a return.
+/// After an accepted request one more bucket is held, and after a return one fewer.
 pub fn held_counted(
     pool: &mut FixedSizePoolAllocator<16>,
     layout: Layout,
@@ -67,7 +67,7 @@ pub fn held_counted(
     Ok(())
 }
 
-/// A return by the place of the bucket leaves one held bucket less.
+/// Giving a bucket back by its place leaves one held bucket fewer.
 pub fn counted_by_bucket(
     pool: &mut PoolAllocator<Global>,
     layout: Layout,
@@ -107,7 +107,8 @@ fn one_more(
     pool.allocate(layout)
 }
 
-/// Gives two places back, one after the other. The first one stays free when the other one goes back.
+/// Gives two places back, one after the other. The first one stays free when the other one goes
+/// back.
 fn give_two(pool: &mut FixedSizePoolAllocator<16>, one: usize, other: usize)
     requires one { HoldsPlace pool.old.pool one }
     requires other { HoldsPlace pool.old.pool other }

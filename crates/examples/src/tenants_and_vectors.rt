@@ -1,4 +1,5 @@
-//! Layers over an allocator: tenants, each with a budget, and a vector of bytes that can move to another region.
+//! Layers over an allocator: tenants, each with a budget, and a vector of bytes that can move to
+//! another region.
 #![tactic(auto, unfolding(bb_memory_traits::specs::LeastPlace::least_place))]
 
 ghost use Rattle.layers.specs.ByteVectors.{LivesIn};
@@ -14,7 +15,8 @@ use layers::byte_vector::{ByteVec, PushError};
 use layers::tenants::{AdmitError, Tenants};
 use std::alloc::{AllocError, Global};
 
-/// Two tenants share a pool. The first gets 48 of its 100 bytes, and is refused 101 more, although the pool has them.
+/// Two tenants share a pool. The first gets 48 of its 100 bytes, and is refused 101 more, although
+/// the pool has them.
 pub fn two_tenants(alloc: Global) -> Result<(), AdmitError> {
     let pool = FixedSizePoolAllocator::<8>::new(bucket_128(), 4096, 1024);
     let mut tenants = Tenants::new(alloc, pool, 1024);

@@ -1,6 +1,7 @@
-//! Reads a trace of processes that share a pool in a file, and has the proved machine take the same steps, by the library
-//! `file_traces`. The exit status is 0 if the machine allows each change of a word and of a lock, and 1 at the first difference.
-//! It is 2 if a line is unreadable, 3 if the input fails, and 4 if memory runs out.
+//! Reads a trace of processes that share a pool in a file, and has the proved machine take the same
+//! steps. The library `file_traces` does both. The exit status is 0 if the machine allows each
+//! change of a word and of a lock, and 1 at the first difference. It is 2 if a line is unreadable,
+//! 3 if the input fails, and 4 if memory runs out.
 #![tactic(auto)]
 
 use file_traces::traces::{End, end_of};

@@ -1,9 +1,10 @@
-//! Traces of the C code of a pool in a file, which `trace.c` of the library for C writes: which word or lock each instruction
-//! changed. The proved machine follows a trace, and has to change the same words.
+//! Traces of the C code of a pool in a file, which `trace.c` of the library for C writes: which
+//! word or lock each instruction changed. The proved machine follows a trace, and has to change the
+//! same words.
 //!
 //! The modules, in the order in which to read them:
 //!
-//! - `which_word`: which word of the file is which flag or slot of the machine.
+//! - `which_word`: the flag or slot of the machine that each word of the file is.
 //! - `lines`: the lines of a trace.
 //! - `replay`: the machine follows the lines.
 //! - `traces`: from the bytes of a trace to its end.

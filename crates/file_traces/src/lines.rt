@@ -1,14 +1,15 @@
-//! The lines of a trace: `trace.c` of the library for C says what each has.
+//! The lines of a trace. `trace.c` of the library for C defines them.
 
 use crate::which_word::{flag_of, slot_of};
 use bb_memory_file_machine::steps::Slot;
 use bb_memory_pool_machine::steps::Flag;
 use scripts::words::{Numbers, is_word, to_u32, words};
 
-/// A call that a process makes, by the party of a number where it names one.
+/// A call that a process makes, with the number of the party that makes it if the trace names one.
 #[derive(Debug, Clone, Copy, PartialEq, Eq)]
 pub enum Call {
-    /// The process is in no call, or in one that only looks or opens.
+    /// A call that changes nothing: it only looks, or opens the file. The machine's process is in
+    /// no call meanwhile.
     Looks,
     Join,
     Close,
@@ -72,11 +73,11 @@ pub enum Returned {
     Message { bucket: u32, length: u32 },
 }
 
-/// The event of a process that a line has.
+/// An event of a process, as a line of a trace has it.
 #[derive(Debug, Clone, Copy, PartialEq, Eq)]
 pub enum Event {
     Begins(Call),
-    /// The slot of the process's take has what the take has found in it.
+    /// At this moment, the slot of the process's take has what the take found in it.
     Looks,
     Changes(Change),
     Returns(Returned),
@@ -92,7 +93,7 @@ pub struct Line {
 }
 
 impl Line {
-    /// Returns true if a word or a lock has changed.
+    /// Returns whether the event is a change of a word or of a lock.
     pub fn is_change(self) -> bool {
         match self.event {
             Event::Changes(_) => true,
@@ -101,7 +102,7 @@ impl Line {
     }
 }
 
-/// The figures of a trace.
+/// The figures in the first line of a trace.
 #[derive(Debug, Clone, Copy, PartialEq, Eq)]
 pub struct Figures {
     pub processes: u32,
@@ -110,7 +111,7 @@ pub struct Figures {
     pub slots: u32,
 }
 
-/// Parses the first line of a trace.
+/// Parses the first line of a trace, or returns `None` if it is unreadable.
 pub fn read_figures(text: &[u8]) -> Option<Figures> {
     let (name, numbers) = words(text)?;
     match numbers {
@@ -126,7 +127,7 @@ pub fn read_figures(text: &[u8]) -> Option<Figures> {
     }
 }
 
-/// Parses a line after the first.
+/// Parses a line after the first, or returns `None` if it is unreadable.
 pub fn read_line(text: &[u8]) -> Option<Line> {
     let (name, numbers) = words(text)?;
     let (process, event) = match numbers {
@@ -154,7 +155,7 @@ pub fn read_line(text: &[u8]) -> Option<Line> {
     })
 }
 
-/// Returns the event of a line that names only a process.
+/// Returns the event of a line of this name that has only a process.
 fn event_of_one(name: &[u8]) -> Option<Event> {
     if is_word(name, b"open") || is_word(name, b"show") {
         Some(Event::Begins(Call::Looks))

@@ -1,34 +1,37 @@
-//! The machine follows the lines of a trace.
+//! A replay: the machine follows the lines of a trace.
 //!
-//! A line has a change of a word or of a lock. The process takes steps of the machine until one changes something. That has to be
-//! the same change.
+//! If a line has a change of a word or of a lock, the process takes steps of the machine until one
+//! changes something, and that has to be the same change.
 
 use crate::lines::{Call, Change, Event, Figures, Line, Returned};
 use bb_memory_file_machine::steps::{FileOutcome, FileStep, FileWorld, Place, Slot};
 use bb_memory_pool_machine::steps::Flag;
 use std::alloc::{AllocError, Global};
 
-/// The most steps without a change that a process takes in a row. A settler takes two for each slot, and one for each bucket.
+/// The most steps without a change that a process takes in a row. A settler takes two for each
+/// slot, and one for each bucket.
 const MOST_MOVES: u32 = 100_000;
 
-/// How a line differs from what the machine allows.
+/// The difference between a line and what the machine allows.
 #[derive(Debug, Clone, Copy, PartialEq, Eq)]
 pub enum Difference {
-    /// There is no such process, or its call has not ended, or it is in none.
+    /// There is no such process, or the event doesn't fit the call that the process is in, or it is
+    /// in no call.
     NotInTurn,
-    /// The word or the lock was not as the line says.
+    /// Before the change, the word or the lock wasn't as the line says.
     OtherBefore,
-    /// The machine's process, in this place, takes this step, with this outcome. The code has done something else.
+    /// The machine's process, which is at this place, takes this step with this outcome. The C code
+    /// did something else.
     OtherStep {
         place: Place,
         step: FileStep,
         outcome: FileOutcome,
     },
-    /// The machine's process takes no step that changes something.
+    /// The machine's process takes no step that changes a word or a lock.
     NoChange,
-    /// The call returned, and the machine's process is in this place.
+    /// The call returned, but the machine's process is at this place.
     OtherReturn(Place),
-    /// The process is dead, and has the lock of this number.
+    /// The process is dead, but still has the lock of this number.
     KeepsLock(u32),
 }
 
@@ -67,7 +70,7 @@ impl Replay {
         })
     }
 
-    /// Follows a line.
+    /// Follows a line. Fails if the line differs from what the machine allows.
     pub fn follow(&mut self, line: Line) -> Result<(), Difference> {
         let Line { process, event } = line;
         let Some(found) = self.processes.get(process as usize).copied() else {
@@ -239,7 +242,7 @@ impl Replay {
         })
     }
 
-    /// Tests that a process is in no call, and that something holds.
+    /// Tests that a process is in no call, and that `holds` is true.
     fn expect_outside(&self, process: u32, holds: bool) -> Result<(), Difference> {
         let place = self.place(process)?;
         if holds && place == Place::Outside {
@@ -296,7 +299,8 @@ fn step_for(process: u32, found: Process, place: Place, change: Change) -> FileS
     }
 }
 
-/// Returns the first step of a call. A call that makes one step, and has made it, takes no other one.
+/// Returns the first step of a call. A call that makes one step, and has made it, takes no other
+/// one.
 fn first_step(process: u32, found: Process, change: Change) -> FileStep {
     let none = FileStep::Next { process };
     let Some(call) = found.call else {
@@ -361,7 +365,8 @@ fn first_step(process: u32, found: Process, change: Change) -> FileStep {
     }
 }
 
-/// Returns the step by which a process that closes the file begins to leave: with the number that the change names.
+/// Returns the step by which a process that closes the file begins to leave: with the number that
+/// the change names.
 fn leaving(process: u32, change: Change) -> FileStep {
     match change {
         Change::Unlock { party } => FileStep::Leave { process, party },
@@ -392,7 +397,8 @@ fn exchanged(process: u32, change: Change) -> FileStep {
     }
 }
 
-/// Returns the step of a settler that goes over the flags. Only a reap with detached buckets attaches one.
+/// Returns the step of a settler that goes over the flags. Only a reap with detached buckets
+/// attaches one.
 fn recovered(process: u32, found: Process, change: Change) -> FileStep {
     match (found.call, change) {
         (

@@ -1,20 +1,20 @@
-//! From the bytes of a trace to its end.
+//! The replay of a whole trace, from its bytes on.
 
 use crate::lines::{read_figures, read_line};
 use crate::replay::{Difference, Replay};
 use scripts::words::first_line;
 use std::alloc::Global;
 
-/// The end of a trace.
+/// The result of following a trace. Lines are numbered as in the input.
 #[derive(Debug, Clone, Copy, PartialEq, Eq)]
 pub enum End {
     /// The machine allows each change.
     Same { lines: usize, changes: usize },
-    /// A line is unreadable.
+    /// The line of this number is unreadable.
     Unreadable(usize),
     /// The machine doesn't allow what a line says.
     Difference { line: usize, difference: Difference },
-    /// Memory was refused.
+    /// Memory ran out.
     OutOfMemory,
 }
 

@@ -1,10 +1,12 @@
-//! Which word of the file is which flag or slot of the machine. No proof ties the file to the machine: this table is trusted.
+//! The table of the file's words: which flag or slot of the machine each word is. No proof ties the
+//! file to the machine, so this table is trusted.
 
 use bb_memory_file_machine::steps::Slot;
 use bb_memory_pool_machine::steps::Flag;
 use scripts::words::to_u32;
 
-/// Returns what the word of a flag says: 0 is a free bucket, 2k + 1 one that party k holds, and 2k + 2 one that k has detached.
+/// Returns the flag that a word encodes: 0 is free, 2k + 1 is held by party k, and 2k + 2 is
+/// detached by party k. Returns `None` if k doesn't fit into 32 bits.
 pub fn flag_of(word: usize) -> Option<Flag> {
     if word == 0 {
         return Some(Flag::Free);
@@ -17,8 +19,9 @@ pub fn flag_of(word: usize) -> Option<Flag> {
     }
 }
 
-/// Returns what the word of a slot says: 0 is an empty slot. Otherwise the high 32 bits are the length of a message, and the low
-/// 32 bits are the number of its bucket, plus 1.
+/// Returns the content of a slot that a word encodes: 0 is an empty slot. Otherwise the high 32
+/// bits are the length of a message, and the low 32 bits are the number of its bucket, plus 1.
+/// Returns `None` if the low 32 bits of such a word are 0.
 pub fn slot_of(word: usize) -> Option<Slot> {
     if word == 0 {
         return Some(Slot::Empty);

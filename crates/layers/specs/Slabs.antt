@@ -12,16 +12,17 @@ use Rattle.std.specs.Prelude.{Err, IfErr, List, Ok, OnErr, OnOk, Result, [], len
 abbrev pub Answers : Type 1
 Answers = Layout → Result Chunk AllocationError → Type 0
 
--- a layout of `size` bytes at any place
+-- the layout has `size` bytes and alignment 1, so its chunk may be at any place
 pub record IsOfBytes (layout : Layout) (size : ℕ) : Type 0 where
   pub many : layout.size ≡ size
   pub align : layout.align ≡ 1
 
--- a request for `size` bytes may have this answer: not every layout of them rules it out
+-- a request for `size` bytes may have this answer: not every layout of `size` bytes rules it out
 pub record MayAnswer (may_answer : Answers) (size : ℕ) (answer : Result Chunk AllocationError) : Type 0 where
   pub may : ¬ ((layout : Layout) → IsOfBytes layout size → ¬ may_answer layout answer)
 
--- There is a layout of `size` bytes, and a single request for it, for any alignment, made this note of the one before.
+-- There is a layout of `size` bytes at alignment 1, and a single request for it turned the note
+-- `old` into `new`.
 pub record IsAskedOnce {Note : Type 0} (note_after : Layout → Note → Note) (size : ℕ) (old new : Note) : Type 0 where
   pub some : IsLayout size 1
   pub once : (layout : Layout) → IsOfBytes layout size → new ≡ note_after layout old
@@ -45,7 +46,8 @@ IsUnasked (insert.Layout error) = Unit {0}
 IsUnasked (insert.List error) = Unit {0}
 IsUnasked _ = ⊥
 
--- the allocator's note after an answer: it gets one request, or none if the refusal is the layer's own
+-- the allocator's note after an answer: it gets one request, or none if the refusal is the layer's
+-- own
 abbrev pub NotesRequest : {Note : Type 0} → (Layout → Note → Note) → ℕ → Result (Unit {0}) InsertError → Note → Note → Type 0
 NotesRequest note_after size (Err (insert.Layout error)) old new = new ≡ old
 NotesRequest note_after size (Err (insert.List error)) old new = new ≡ old
@@ -64,19 +66,20 @@ pub record HasOneMore (may_answer : Answers) (size : ℕ) (old new : List Chunk)
 abbrev pub records_in : HeldBytes → List Chunk → List (List ℕ)
 records_in held chunks = map (bytes_in held) chunks
 
--- a region then has these records in these chunks, and begins and ends at the same places
+-- the region `new` has these records in these chunks, and begins and ends at the same places as
+-- `old`
 pub record HoldsThen (old new : HeldBytes) (chunks : List Chunk) (records : List (List ℕ)) : Type 0 where
   pub written : records_in new chunks ≡ records
   pub region : held_region new ≡ held_region old
 
--- the allocator below, the chunks that are in use, and the record in each
+-- the value of a slab: the allocator below, the chunks that are in use, and the record in each
 pub record Records (A : Type 0) : Type 0 where
   pub allocator : A
   pub chunks : List Chunk
   pub records : List (List ℕ)
 
--- A request to store these bytes: the records before it, its answer, and the records then. The words of the allocator below are
--- its geometry and the answers that it may give.
+-- The effect of a request to store these bytes on a slab, and the result. `geometry_of` and
+-- `may_allocate` are those of the allocator below.
 pub record Stores {A G : Type 0} (geometry_of : A → G) (may_allocate : G → List Chunk → Answers)
     (old : Records A) (bytes : List ℕ) (result : Result (Unit {0}) InsertError) (new : Records A) : Type 0 where
   pub appended : OnOk result (new.records ≡ old.records ++ bytes ∷ [])

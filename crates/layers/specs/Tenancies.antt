@@ -9,8 +9,9 @@ use Rattle.layers.specs.declared.tenants.LeaseError.{LeaseError}
 use Rattle.layers.specs.declared.tenants.LeaseError.TheVariants as lease
 use Rattle.std.specs.Prelude.{Err, List, Ok, Option, if◌then◌else◌, length, map, nat_eq, position, remove, slice_index_or, sum, sum_by, ℕ, ◌&&◌, ◌+◌, ◌<◌, ◌==◌, ◌≤◌}
 
--- the allocator below, how many bytes all limits may be together, the limit of each tenant by its number, and the leases, in
--- the order in which they were given
+-- the value of tenants: the allocator below, the whole, which is the most bytes that all limits
+-- together may have, the limit of each tenant by its number, and the leases, in the order in which
+-- they were given
 pub record Tenancy (A : Type 0) : Type 0 where
   pub allocator : A
   pub whole : ℕ
@@ -41,7 +42,7 @@ limit_of limits tenant = slice_index_or limits tenant 0
 abbrev pub lease_at : ℕ → ℕ → List Lease → Option ℕ
 lease_at tenant place leases = position (λ lease. nat_eq lease.tenant tenant && nat_eq lease.chunk.place place) leases
 
--- one lease less, with the allocator that took the chunk back
+-- the tenancy without the lease at this position, and with the allocator that took the chunk back
 abbrev pub without_lease : {A : Type 0} → Tenancy A → A → ℕ → Tenancy A
 without_lease old allocator position = record old { allocator = allocator; leases = remove old.leases position }
 
@@ -56,7 +57,7 @@ pub record HasLeft {A : Type 0} (old : Tenancy A) (tenant size : ℕ) : Type 0 w
   pub known : tenant < length old.limits
   pub within : used_by tenant old.leases + size ≤ limit_of old.limits tenant
 
--- the reason why a tenant wasn't given a chunk, if an allocator may give this answer
+-- the reason why a tenant got no chunk; `may_answer` says which answers the allocator may give
 abbrev pub LeaseFails : {A : Type 0} → Answers → Tenancy A → ℕ → Layout → LeaseError → Type 0
 LeaseFails may_answer old tenant layout lease.NoTenant = length old.limits ≤ tenant
 LeaseFails may_answer old tenant layout lease.OverLimit =

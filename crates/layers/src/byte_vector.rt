@@ -1,4 +1,5 @@
-//! A vector of bytes that lives at an offset of a region, and can move to another region with its bytes.
+//! A vector of bytes that lives at an offset of a region, and can move to another region with its
+//! bytes.
 ghost use Rattle.bb_memory_traits.specs.Chunk.{AreApart, Chunk, IsInside};
 ghost use Rattle.bb_memory_traits.specs.HeldBytes.{bytes_in, held_region};
 ghost use Rattle.bb_memory_traits.specs.declared.layout.LayoutError.{LayoutError};
@@ -16,14 +17,16 @@ use thiserror::Error;
 /// The reasons why `push` fails.
 #[derive(Debug, Clone, Copy, Error)]
 pub enum PushError {
+    /// No layout has as many bytes as the chunk, or one more.
     #[error("too long: {0}")]
     TooLong(LayoutError),
+    /// The chunk is full, and the allocator doesn't grow it, with this error.
     #[error("no room: {0}")]
     Full(AllocationGrowError),
 }
 
-/// A vector of bytes at an offset of a region. Its place moves with the region to which it is copied, and it grows in its
-/// chunk.
+/// A vector of bytes in a chunk of a region. The vector stores its offset from the region's start,
+/// so the offset stays valid wherever the region starts. The vector grows in its chunk.
 ///
 /// Example: `tenants_and_vectors::moved_vector` of `crates/examples`.
 #[derive(Clone, Copy)]
@@ -67,7 +70,7 @@ impl ByteVec {
         self.len
     }
 
-    /// Returns the byte at a position.
+    /// Returns the byte at a position, which has to be less than the length.
     pub fn get(&self, region: &Region, at: usize) -> u8
         requires at { at < self.now.len }
         requires inside { self.now.offset + self.now.capacity ≤ length region.now.bytes }
@@ -76,8 +79,9 @@ impl ByteVec {
         region.bytes()[self.offset + at]
     }
 
-    /// Makes room for another byte, if there is none, by growing the chunk in place. Fails only if there is no room: with
-    /// `TooLong` if no layout has one more byte, otherwise with the error of the allocator's grow.
+    /// Makes room for another byte, if there is none, by growing the chunk in place. Fails only if
+    /// there is no room: with `TooLong` if no layout has one more byte, otherwise with the error of
+    /// the allocator's grow.
     pub fn reserve<A: Allocator>(
         &mut self,
         allocator: &mut A,
@@ -102,8 +106,8 @@ impl ByteVec {
         Ok(())
     }
 
-    /// Appends a byte, and grows a full chunk first. Fails only if the chunk is full, with the errors of `reserve`. A refusal
-    /// changes nothing.
+    /// Appends a byte, and grows a full chunk first. Fails only if the chunk is full, with the
+    /// errors of `reserve`. A refusal changes nothing.
     pub fn push<A: Allocator>(
         &mut self,
         allocator: &mut A,
@@ -142,8 +146,9 @@ impl ByteVec {
         region.write(behind, &[byte]);
     }
 
-    /// Copies the vector to a chunk of another region, which has to have room for its bytes. The copy has the chunk's room. The
-    /// bytes of the other region outside the chunk are unchanged.
+    /// Copies the vector to a chunk of another region, which has to have room for the vector's
+    /// bytes. The copy has room for as many bytes as the chunk has. The bytes of the other region
+    /// outside the chunk are unchanged.
     pub fn copy_to(&self, region: &Region, other: &mut Region, chunk: Chunk) -> ByteVec
         requires inside { self.now.offset + self.now.capacity ≤ length region.now.bytes }
         requires there { IsInside (held_region other.old) chunk }

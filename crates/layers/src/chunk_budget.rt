@@ -1,4 +1,4 @@
-//! A budget of chunks for one tenant of an allocator.
+//! A limit on the number of chunks in use, over any allocator.
 use bb_memory_lists::lists::{append_law, remove_law};
 use bb_memory_traits::allocator::{
     AllocationError, AllocationGrowError, AllocationShrinkError, Allocator, BaseAllocator,
@@ -6,7 +6,8 @@ use bb_memory_traits::allocator::{
 use bb_memory_traits::layout::{Chunk, Layout};
 use std::marker::Model;
 
-/// An allocator with at most `budget` chunks in use. It is an allocator itself, so budgets nest.
+/// An allocator with at most `budget` chunks in use. A budget is itself an allocator, so budgets
+/// nest.
 #[derive(Drop)]
 pub struct ChunkBudget<A: BaseAllocator + Drop> {
     inner: A,
@@ -44,8 +45,8 @@ impl<A: BaseAllocator + Drop> ChunkBudget<A> {
         }
     }
 
-    /// Returns the number of chunks that are in use: the length of each live list that the allocator stands for, and at most
-    /// the budget.
+    /// Returns the number of chunks that are in use: the length of each live list that the
+    /// allocator stands for, and at most the budget.
     pub fn out(&self) -> usize
         ensures value { result ≡ self.now.out }
         ensures within { result ≤ self.now.budget }
@@ -73,7 +74,8 @@ impl<A: BaseAllocator + Drop> BaseAllocator for ChunkBudget<A> {
 
     ghost region_of = { λ g. A.region_of g.inner };
 
-    // If fewer chunks are in use than the budget, the answer is that of the allocator below; otherwise the request is refused.
+    // If fewer chunks are in use than the budget, the answer is that of the allocator below;
+    // otherwise the request is refused.
     ghost may_allocate = { λ g live layout answer.
         ((length live < g.budget) × A.may_allocate g.inner live layout answer)
         ⊎ ((g.budget ≤ length live) × (answer ≡ Err OutOfMemory)) };
@@ -94,7 +96,8 @@ impl<A: BaseAllocator + Drop> BaseAllocator for ChunkBudget<A> {
 
     ghost frees = { λ old place layout new. A.frees old.inner place layout new.inner };
 
-    /// Allocates from the allocator below. Fails with `OutOfMemory` if the budget is spent, and then makes no request.
+    /// Allocates from the allocator below. Fails with `OutOfMemory` if the budget is spent, and
+    /// then makes no request.
     fn allocate(&mut self, layout: Layout) -> Result<Chunk, AllocationError> {
         if self.out == self.budget {
             return Err(AllocationError::OutOfMemory);

@@ -16,17 +16,22 @@ use thiserror::Error;
 /// The reasons why `insert` fails.
 #[derive(Debug, Drop, Error)]
 pub enum InsertError {
+    /// Memory for the list of records ran out.
     #[error("no memory for the list of records")]
     List(AllocError),
+    /// No layout has as many bytes as the record.
     #[error("the record is too long: {0}")]
     Layout(LayoutError),
+    /// The allocator refused the request, with this error.
     #[error("no chunk: {0}")]
     Refused(AllocationError),
+    /// The allocator gave a chunk that is longer than the record.
     #[error("the allocator gave a longer chunk than the record")]
     NoExactChunk,
 }
 
-/// Records of bytes, each in a chunk of an allocator's region. A record is named by its position, from 0.
+/// Records of bytes, each in a chunk of an allocator's region. A record is named by its position,
+/// from 0.
 #[derive(Drop)]
 pub struct Slab<A: Allocator + Drop> {
     allocator: A,
@@ -39,7 +44,7 @@ impl<A: Allocator + Drop> Model for Slab<A> {
     ghost use Rattle.layers.specs.Slabs.{Records, records_in};
     ghost use Rattle.std.specs.Prelude.{◌≡◌};
 
-    // A slab is its records, with their allocator and the chunks in which they are.
+    // The value of a slab: its records, with their allocator and the chunks that they are in.
     ghost Value = { Records A };
 
     ghost view = { λ s. record {
@@ -53,7 +58,8 @@ impl<A: Allocator + Drop> Model for Slab<A> {
 }
 
 impl<A: Allocator + Drop> Slab<A> {
-    /// Makes an empty slab. The allocator must have no chunk in use, and the region has to be the allocator's.
+    /// Makes an empty slab. The allocator must have no chunk in use, and the region has to be the
+    /// allocator's.
     pub fn new(alloc: Global, allocator: A, region: Region) -> Self
         requires fresh { A.stands_for allocator [] }
         requires same_region { held_region region ≡ A.region_of (A.geometry allocator) }
@@ -75,9 +81,10 @@ impl<A: Allocator + Drop> Slab<A> {
         self.chunks.len()
     }
 
-    /// Stores one more record, after the others. Fails, in this order, with `Layout` if no layout has this many bytes, with
-    /// `List` if memory ran out, with `Refused` if the allocator refuses, and with `NoExactChunk` if it gives a longer chunk. A
-    /// refusal changes nothing. The allocator gets one request, and only after the first two tests.
+    /// Stores a record after the others. Fails, in this order, with `Layout` if no layout has this
+    /// many bytes, with `List` if memory ran out, with `Refused` if the allocator refuses, and with
+    /// `NoExactChunk` if it gives a longer chunk. A refusal changes nothing. The allocator gets one
+    /// request, and only after the first two tests.
     #[tactic(auto, using(bb_memory_traits::proofs::Layouts::same_layout))]
     pub fn insert(&mut self, bytes: &[u8]) -> Result<(), InsertError>
         ensures stores { Stores A.geometry A.may_allocate self.old bytes.now result self.new }
@@ -119,7 +126,8 @@ impl<A: Allocator + Drop> Slab<A> {
         overwrite(&mut self.region, &self.chunks, position, bytes);
     }
 
-    /// Removes a record, and gives its chunk back. Those after it move up. The allocator gets no request.
+    /// Removes a record, and gives its chunk back. The records after it move up. The allocator gets
+    /// no request.
     pub fn remove(&mut self, position: usize)
         requires { position < length self.old.records }
         ensures leaves { self.new ≡ record {
@@ -193,8 +201,9 @@ pub(crate) fn give_back<A: Allocator>(inner: &mut A, chunk: Chunk)
     inner.deallocate(chunk.place(), Layout::empty());
 }
 
-/// States two laws. An allocator that may give a longer chunk for a layout may give one for the layout's size. Removing a chunk
-/// from a list removes its record. The function does nothing: its contract is the law.
+/// States two laws. An allocator that may give a longer chunk for a layout may give one for the
+/// layout's size. Removing a chunk from a list removes its record. The function does nothing: its
+/// contract is the law.
 #[tactic(auto, using(bb_memory_lists::specs::Hints::parts_of_lists))]
 fn records_law<A: Allocator>()
     ensures longer { (geometry : A.Geometry) (live : List Chunk) (size : ℕ) (layout : Layout)

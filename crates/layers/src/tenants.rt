@@ -15,8 +15,10 @@ use thiserror::Error;
 /// The reasons why `admit` fails.
 #[derive(Debug, Drop, Error)]
 pub enum AdmitError {
+    /// All limits together would exceed the whole.
     #[error("the limits would exceed the whole")]
     OverWhole,
+    /// Memory for the list of limits ran out.
     #[error("no memory for the list of limits")]
     List(AllocError),
 }
@@ -24,14 +26,19 @@ pub enum AdmitError {
 /// The reasons why `allocate` fails.
 #[derive(Debug, Drop, Error)]
 pub enum LeaseError {
+    /// No tenant has the number.
     #[error("no tenant has this number")]
     NoTenant,
+    /// The requested bytes would exceed the tenant's limit.
     #[error("the tenant's limit would be exceeded")]
     OverLimit,
+    /// Memory for the list of leases ran out.
     #[error("no memory for the list of leases")]
     List(AllocError),
+    /// The allocator refused the request, with this error.
     #[error("no chunk: {0}")]
     Refused(AllocationError),
+    /// The allocator gave a chunk so long that the tenant's limit would be exceeded.
     #[error("the allocator gave a longer chunk than asked, which exceeds the tenant's limit")]
     TooLong,
 }
@@ -67,8 +74,9 @@ impl Lease {
     }
 }
 
-/// Tenants that share an allocator. Each is named by its number, from 0 in the order of their admission, and has a limit in
-/// bytes, which the sum of its chunks never exceeds. The limits together are at most a whole that the maker fixed.
+/// Tenants that share an allocator. Each is named by its number, from 0 in the order of their
+/// admission, and has a limit in bytes, which its chunks together never exceed. All limits together
+/// are at most a whole, which `new` fixes.
 ///
 /// Example: `tenants_and_vectors::two_tenants` of `crates/examples`.
 #[derive(Drop)]
@@ -84,7 +92,8 @@ impl<A: Allocator + Drop> Model for Tenants<A> {
     ghost use Rattle.layers.specs.Tenancies.{Tenancy, chunks_of, limit_of, used_by};
     ghost use Rattle.std.specs.Prelude.{sum, ℕ, ◌≡◌, ◌≤◌};
 
-    // Tenants are their allocator, the whole, the limit of each, and the chunks that they hold.
+    // The value of tenants: their allocator, the whole, the limit of each, and the chunks that they
+    // hold.
     ghost Value = { Tenancy A };
 
     ghost view = { λ t. record {
@@ -100,8 +109,8 @@ impl<A: Allocator + Drop> Model for Tenants<A> {
 }
 
 impl<A: Allocator + Drop> Tenants<A> {
-    /// Makes a tenancy without tenants. The allocator must have no chunk in use, and all limits together will be at most
-    /// `whole` bytes.
+    /// Makes a tenancy without tenants. The allocator must have no chunk in use, and all limits
+    /// together will be at most `whole` bytes.
     pub fn new(alloc: Global, allocator: A, whole: usize) -> Self
         requires fresh { A.stands_for allocator [] }
         ensures empty { result
@@ -116,8 +125,9 @@ impl<A: Allocator + Drop> Tenants<A> {
         }
     }
 
-    /// Admits a tenant with a limit in bytes, and returns its number. Fails with `OverWhole` exactly if all limits together
-    /// would exceed the whole, and otherwise with `List` if memory ran out.
+    /// Admits a tenant with a limit in bytes, and returns its number. Fails with `OverWhole`
+    /// exactly if all limits together would exceed the whole, and otherwise with `List` if memory
+    /// ran out.
     pub fn admit(&mut self, limit: usize) -> Result<usize, AdmitError>
         ensures number { IfOk result (λ number. number ≡ length self.old.limits) }
         ensures within { OnOk result (sum self.old.limits + limit ≤ self.old.whole) }
@@ -138,7 +148,7 @@ impl<A: Allocator + Drop> Tenants<A> {
         Ok(number)
     }
 
-    /// Returns how many bytes all limits may be together.
+    /// Returns the whole: the most bytes that all limits together may have.
     pub fn whole(&self) -> usize
         ensures value { result ≡ self.now.whole }
         ensures within { sum self.now.limits ≤ result }
@@ -153,7 +163,8 @@ impl<A: Allocator + Drop> Tenants<A> {
         self.limits.get(tenant).copied().unwrap_or(0)
     }
 
-    /// Returns how many bytes a tenant uses: those of the chunks that it holds, which are within its limit.
+    /// Returns how many bytes a tenant uses: those of the chunks that it holds, which are within
+    /// its limit.
     pub fn used(&self, tenant: usize) -> usize
         ensures value { result ≡ used_by tenant self.now.leases }
         ensures within { result ≤ limit_of self.now.limits tenant }
@@ -166,8 +177,8 @@ impl<A: Allocator + Drop> Tenants<A> {
             .sum()
     }
 
-    /// Returns how many bytes are in use: those of all chunks that the allocator has given. The number is the sum of what each
-    /// tenant uses, and at most the whole.
+    /// Returns how many bytes are in use: those of all chunks that the allocator has given. The
+    /// number is the sum of what each tenant uses, and at most the whole.
     pub fn out(&self) -> usize
         ensures value { result ≡ bytes_out self.now.leases }
         ensures within { result ≤ self.now.whole }
@@ -192,10 +203,11 @@ impl<A: Allocator + Drop> Tenants<A> {
     /// - `OverLimit` exactly if the requested bytes would exceed the tenant's limit.
     /// - `List` if memory ran out.
     /// - `Refused` if the allocator refuses the layout.
-    /// - `TooLong` if the allocator gives a chunk so much longer that the limit would be exceeded. The chunk is then given
-    ///   back.
+    /// - `TooLong` if the allocator gives a chunk so much longer that the limit would be exceeded.
+    ///   The chunk is then given back.
     ///
-    /// A refusal changes nothing. The allocator gets one request, and only after the first three tests.
+    /// A refusal changes nothing. The allocator gets one request, and only after the first three
+    /// tests.
     pub fn allocate(&mut self, tenant: usize, layout: Layout) -> Result<Chunk, LeaseError>
         ensures given { IfOk result (λ chunk. A.may_allocate (A.geometry self.old.allocator)
             (chunks_of self.old.leases) layout (Ok chunk)) }
@@ -253,8 +265,8 @@ impl<A: Allocator + Drop> Tenants<A> {
         Ok(left)
     }
 
-    /// Gives back the chunk at a place, if the tenant holds it. Otherwise the call fails, and nothing changes. The allocator
-    /// gets no request.
+    /// Gives back the chunk at a place, if the tenant holds it. Otherwise the call fails, and
+    /// nothing changes. The allocator gets no request.
     pub fn deallocate(&mut self, tenant: usize, place: usize) -> Result<(), NotHeld>
         ensures held { IsOk result ↔ IsSome (lease_at tenant place self.old.leases) }
         ensures returned { IfSome (lease_at tenant place self.old.leases) (λ position.
@@ -283,8 +295,9 @@ impl<A: Allocator + Drop> Tenants<A> {
         self.leases.remove(position);
     }
 
-    /// Does nothing: its contract is the proof that the allocator stands for exactly the chunks that the tenants hold. So these
-    /// are inside its region and apart.
+    /// Does nothing: its contract is the proof that the allocator stands for exactly the chunks
+    /// that the tenants hold. So these chunks are inside the allocator's region, and no two
+    /// overlap.
     pub fn law(&self)
         ensures stands { A.stands_for self.now.allocator (chunks_of self.now.leases) }
         ensures sound { IsSound (A.region_of (A.geometry self.now.allocator))

@@ -1,4 +1,5 @@
--- One sample that is in use, after a run of calls, and one that a call of the run loans or publishes.
+-- One sample that is in use, after a run of calls, and one that a call of the run loans or
+-- publishes.
 use Rattle.bb_memory_traits.specs.Chunk.{Chunk}
 use Rattle.bb_memory_traits.specs.Object.{IsRun}
 use Rattle.loan_book.proofs.BookLeads.{Change, change_of, last_one, no_change, one_less, one_loan, one_publish, step-sound}
@@ -34,7 +35,8 @@ nothing-waits : (book : Book) (id n : ℕ) → HasOrIsGone book id (after n) →
 nothing-waits book id n kept = let none : n ≡ n - 0 = omega arith in subst (λ k. HasOrIsGone book id (after k)) none kept
 
 module _ (old : Book) (is : IsBook old) (id : ℕ) where
-  -- a publish of another sample, or of one that isn't unpublished, and a return of another keep what a sample waits for
+  -- a publish of another sample, or of one that isn't unpublished, and a return of another keep
+  -- what a sample waits for
   change-keeps : {new : Book} {made : LoanCall} {told : LoanReply} (left : Option (Option ℕ)) → Change old made told new →
       is_return_of id made ≡ false → (is_publish_of id made ≡ true → left ≢ Some None) → HasOrIsGone old id left →
       HasOrIsGone new id left
@@ -111,7 +113,8 @@ module _ (may : Answers) (new : Book) (id : ℕ) where
   out-waits zero (gone, used) = (λ out. absurd (gone out), λ some. absurd (omega arith))
   out-waits (suc n) (i, sample, at, waits) = (λ out. omega arith, λ some. (i, sample, at))
 
-  -- a sample that waits for `returns` returns is in use after a run exactly if fewer of its calls return it
+  -- a sample that waits for `returns` returns is in use after a run exactly if fewer of its calls
+  -- return it
   pub run-returns : (old : Book) (calls : List LoanCall) (replies : List LoanReply) (returns : ℕ) → IsBook old →
       HasReturns old id (Some returns) → IsRun (BookStep may) old calls replies new →
       IsOut new id ↔ (returns_in id calls < returns)
@@ -146,7 +149,8 @@ module _ (may : Answers) (new : Book) (id : ℕ) where
       (change_of may old mid made told step) other (λ publish. absurd (cc)) unpublished) in
       (λ there. let left = out.0 there in omega arith, λ nothing. out.1 (omega arith))
 
-  -- a sample that was never published is in use after a run that doesn't publish it exactly if none of its calls returns it
+  -- a sample that was never published is in use after a run that doesn't publish it exactly if none
+  -- of its calls returns it
   pub run-unpublished : (old : Book) (calls : List LoanCall) (replies : List LoanReply) → IsBook old → IsUnpublished old id →
       publishes_in id calls ≡ 0 → IsRun (BookStep may) old calls replies new → IsOut new id ↔ (returns_in id calls ≡ 0)
   run-unpublished old [] [] is unpublished none same =

@@ -52,7 +52,8 @@ loaned_before_now book id position sample is here =
     let given : sample.id < book.loaned = rw read at below in
     omega (arith, here.has_id)
 
--- the sample of this id is in use with these returns to come; if `returns` is None, the sample is gone, and its id was used up
+-- the sample of this id is in use with these returns to come; if `returns` is None, the sample is
+-- gone, and its id was used up
 abbrev pub HasOrIsGone : Book → ℕ → Option (Option ℕ) → Type 0
 HasOrIsGone book id None = (¬ IsOut book id) × (id < book.loaned)
 HasOrIsGone book id (Some returns) = HasReturns book id returns

@@ -1,4 +1,5 @@
--- Books: the chunks of their samples, what each change keeps, and that the allocator stands for the chunks in use.
+-- Books: the chunks of their samples, what each change keeps, and that the allocator stands for the
+-- chunks in use.
 use Rattle.bb_memory_lists.proofs.SliceGets.{length-set_at}
 use Rattle.bb_memory_traits.specs.Chunk.{Chunk}
 use Rattle.loan_book.specs.Book.{Book, IsBook, IsLoanBook, Sample, book_of, chunks_of, loaned_before, returns_to_come}

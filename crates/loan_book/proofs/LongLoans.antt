@@ -1,4 +1,4 @@
--- Loans whose chunks are long enough, with one call more.
+-- Loans whose chunks are long enough, after one more call.
 use Rattle.bb_memory_traits.specs.Chunk.{Chunk}
 use Rattle.loan_book.specs.Calls.{AreLongEnough, LoanCall, LoanReply}
 use Rattle.loan_book.specs.declared.run.LoanCall.TheVariants.{Loan}

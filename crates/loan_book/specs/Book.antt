@@ -1,4 +1,5 @@
--- Books: how many samples were loaned so far, and those that are in use. Loan books: an allocator, and its book.
+-- Books: how many samples were loaned so far, and those that are in use. Loan books: an allocator,
+-- and its book.
 use Rattle.bb_memory_traits.specs.Chunk.{Chunk}
 use Rattle.bb_memory_traits.specs.declared.layout.Layout.{Layout}
 use Rattle.loan_book.specs.declared.book.Sample as declared
@@ -82,8 +83,8 @@ pub record IsLoanBook {A : Type 0} (stands_for : A → List Chunk → Type 0) (a
   pub book : IsBook (book_of next out)
   pub next_fits : ForSome next (λ id. id < 2 ^ 64)
 
--- after every call the allocator stands for exactly the chunks of the samples that are in use, and has
--- its old geometry
+-- after every call the allocator stands for exactly the chunks of the samples that are in use, and
+-- has its old geometry
 pub record StillStands {A Geometry : Type 0} (stands_for : A → List Chunk → Type 0) (geometry_of : A → Geometry)
     (old new : LoanBook A) : Type 0 where
   pub stands : stands_for new.allocator (chunks_out new.book)

@@ -1,4 +1,5 @@
--- The answers that a loan book may give to each call, and the book after it. A refusal names the first reason that applies.
+-- The answers that a loan book may give to each call, and the book after it. A refusal names the
+-- first reason that applies.
 use Rattle.bb_memory_traits.specs.Chunk.{Chunk}
 use Rattle.bb_memory_traits.specs.declared.allocator.AllocationError.{AllocationError}
 use Rattle.bb_memory_traits.specs.declared.layout.Layout.{Layout}
@@ -76,8 +77,8 @@ BookStep may_allocate old (call.GiveBack id) (Refused error) new = GivesBack old
 BookStep may_allocate old (call.IsOut id) (Out answer) new = (IsTrue answer ↔ IsOut old id) × (new ≡ old)
 BookStep may_allocate old made reply new = ⊥
 
--- What the allocator noted before a call and after its reply. A loan that the allocator answered made one request to it. No
--- other call made a request to it.
+-- The notes of the allocator before a call and after its reply. A loan that the allocator answered
+-- made one request to the allocator. No other call made a request.
 abbrev pub NotesCall : {Note : Type 0} → (Layout → Note → Note) → LoanCall → LoanReply → Note → Note → Type 0
 NotesCall note_after (call.Loan size) (Loaned id chunk) old new = IsAskedOnce note_after size old new
 NotesCall note_after (call.Loan size) (Refused (refused.Allocation error)) old new = IsAskedOnce note_after size old new

@@ -20,11 +20,13 @@ struct Sample {
     returns: Option<u32>,
 }
 
-/// The samples that are in use, over an allocator that the book owns. A sample's id is the number of samples that were loaned
-/// before it. Its chunk goes back to the allocator when the last of its readers has returned it.
+/// The samples that are in use, over an allocator that the book owns. A sample's id is the number
+/// of samples that were loaned before it. Its chunk goes back to the allocator when the last of its
+/// readers has returned it.
 ///
-/// The samples are kept in the order of their ids, which is the order of the loans, so a sample is found by binary search.
-/// One that leaves moves those before it or those after it, whichever are fewer: the oldest and the newest move none.
+/// The samples are kept in the order of their ids, which is the order of the loans, so a sample is
+/// found by binary search. Removing a sample moves those before it or those after it, whichever are
+/// fewer; removing the oldest or the newest moves none.
 ///
 /// Example: `comments::loans` of `crates/examples`.
 #[derive(Drop)]
@@ -44,8 +46,8 @@ impl<A: Allocator> Model for LoanBook<A> {
 }
 
 impl<A: Allocator> LoanBook<A> {
-    /// Makes a book over this allocator, which must have no chunk in use. The records of samples take their memory from
-    /// `alloc`.
+    /// Makes a book over this allocator, which must have no chunk in use. The records of samples
+    /// take their memory from `alloc`.
     pub fn new(alloc: Global, allocator: A) -> Self
         requires { A.stands_for allocator [] }
         ensures allocator { result.allocator ≡ allocator }
@@ -59,8 +61,8 @@ impl<A: Allocator> LoanBook<A> {
         }
     }
 
-    /// Loans a chunk of at least `size` bytes, at any place, and returns the sample's id and its chunk. Ids count up from 0 in
-    /// the order of the loans, and a failed loan uses up no id.
+    /// Loans a chunk of at least `size` bytes, at any place, and returns the sample's id and its
+    /// chunk. Ids count up from 0 in the order of the loans, and a failed loan uses up no id.
     ///
     /// Fails with the first of these errors that applies:
     ///
@@ -69,7 +71,8 @@ impl<A: Allocator> LoanBook<A> {
     /// - `Memory` if memory for the sample's record ran out.
     /// - `Allocation` if the allocator refused.
     ///
-    /// A refusal leaves the book unchanged. The allocator gets one request, and only after the first three tests.
+    /// A refusal leaves the book unchanged. The allocator gets one request, and only after the
+    /// first three tests.
     pub fn loan(&mut self, size: usize) -> Result<(u64, Chunk), LoanError>
         ensures answer { Loans (A.may_allocate (A.geometry self.old.allocator))
             self.old.book size result self.new.book }
@@ -119,8 +122,9 @@ impl<A: Allocator> LoanBook<A> {
 
     /// Publishes a sample that is in use: it then waits for one return of each of its readers.
     ///
-    /// Fails, in this order, with `UnknownSample` if no sample of this id is in use, with `AlreadyPublished` if it was
-    /// published before, and with `NoReaders` if `readers` is 0. A refusal leaves everything unchanged.
+    /// Fails, in this order, with `UnknownSample` if no sample of this id is in use, with
+    /// `AlreadyPublished` if it was published before, and with `NoReaders` if `readers` is 0. A
+    /// refusal leaves everything unchanged.
     pub fn publish(&mut self, id: u64, readers: u32) -> Result<(), LoanError>
         ensures answer { Publishes self.old.book id readers result self.new.book }
         ensures unknown_sample { (result ≡ Err LoanError.UnknownSample)
@@ -148,10 +152,12 @@ impl<A: Allocator> LoanBook<A> {
         Ok(())
     }
 
-    /// Returns a sample once. If that was the last return that it waited for, its chunk goes back to the allocator, and the
-    /// result is true. A sample that was never published waits for one return. The allocator gets no request.
+    /// Gives a sample back once. If that was the last return that the sample waited for, its chunk
+    /// goes back to the allocator, and the result is true. A sample that was never published waits
+    /// for one return. The allocator gets no request.
     ///
-    /// Fails, with `UnknownSample`, exactly if no sample of this id is in use. A refusal leaves everything unchanged.
+    /// Fails, with `UnknownSample`, exactly if no sample of this id is in use. A refusal leaves
+    /// everything unchanged.
     pub fn give_back(&mut self, id: u64) -> Result<bool, LoanError>
         ensures answer { GivesBack self.old.book id result self.new.book }
         ensures unknown_sample { (result ≡ Err LoanError.UnknownSample)
@@ -186,9 +192,10 @@ impl<A: Allocator> LoanBook<A> {
         self.find(id).is_some()
     }
 
-    /// Does nothing: its contract is the proof of what holds for every loan book. The allocator stands for exactly the chunks
-    /// of the samples that are in use. These are sound: each is inside the allocator's region, and no two overlap. The ids of
-    /// the samples rise, and each sample waits for a return. Each answer that a loan may have leads to one book.
+    /// Does nothing: its contract is the proof of what holds for every loan book. The allocator
+    /// stands for exactly the chunks of the samples that are in use. These are sound: each is
+    /// inside the allocator's region, and no two overlap. The ids of the samples rise, and each
+    /// sample waits for a return. Each answer that a loan may have leads to one book.
     pub fn law(&self)
         ensures stands { A.stands_for self.now.allocator (chunks_out self.now.book) }
         ensures sound { IsSound (A.region_of (A.geometry self.now.allocator))
@@ -203,7 +210,8 @@ impl<A: Allocator> LoanBook<A> {
         let _ = &self.next;
     }
 
-    /// Finds the sample of this id: its position, and how many returns it waits for, or `None` if it wasn't published yet.
+    /// Finds the sample of this id: its position, and how many returns it waits for, or `None` if
+    /// it wasn't published yet.
     fn find(&self, id: u64) -> Option<(usize, Option<u32>)>
         ensures found { IfSome result (λ found. (sample : Sample)
             × IsAt self.now.book id found.0 sample × (sample.returns ≡ found.1)) }
@@ -230,7 +238,8 @@ impl<A: Allocator> LoanBook<A> {
         self.out[position].returns = Some(returns);
     }
 
-    /// Removes the sample at a position, and gives its chunk back. The layout of a return decides nothing.
+    /// Removes the sample at a position, and gives its chunk back. The layout that is passed with
+    /// the chunk has no effect.
     fn take_out(&mut self, position: usize)
         requires { position < length self.old.book.out }
         ensures book { self.new.book ≡ without self.old.book position }

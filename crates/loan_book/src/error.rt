@@ -23,7 +23,7 @@ pub enum LoanError {
     /// The sample was published before.
     #[error("the sample was already published")]
     AlreadyPublished,
-    /// The sample is to be published for 0 readers.
+    /// The number of readers is 0.
     #[error("the number of readers is zero")]
     NoReaders,
 }

@@ -6,9 +6,10 @@ ghost use Rattle.std.specs.Prelude.{Bool, IsTrue, Result, ℕ, ◌↔◌, ◌≡
 use crate::error::LoanError;
 use crate::run::{LoanCall, LoanReply};
 
-/// States that a book has exactly one answer to each `publish` and each `give_back`, and leads to one book. A `loan` may have
-/// several: the allocator chooses the chunk, and memory may run out. Each of its answers also leads to one book, by
-/// [`LoanBook::law`](crate::LoanBook::law). The function does nothing: its contract is the law.
+/// States that a book has exactly one answer to each `publish` and each `give_back`, and leads to
+/// one book. A `loan` may have several: the allocator chooses the chunk, and memory may run out.
+/// Each of its answers also leads to one book, by [`LoanBook::law`](crate::LoanBook::law). The
+/// function does nothing: its contract is the law.
 pub fn one_answer_law()
     ensures publish { (book : Book) (id readers : ℕ)
         (one other : Result (Unit {0}) LoanError) (new next : Book) → IsBook book
@@ -20,8 +21,8 @@ pub fn one_answer_law()
         → (one ≡ other) × (new ≡ next) }
 {}
 
-/// States that errors, calls and replies are equal, by `==`, exactly if they are the same variant with the same fields. The
-/// function does nothing: its contract is the law.
+/// States that errors, calls and replies are equal, by `==`, exactly if they are the same variant
+/// with the same fields. The function does nothing: its contract is the law.
 pub fn equality_law()
     ensures errors { (one other : LoanError)
         → IsTrue (⟦<LoanError as PartialEq>⟧.eq one other) ↔ (one ≡ other) }

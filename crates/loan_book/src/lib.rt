@@ -1,5 +1,5 @@
-//! Samples that are loaned from an allocator and have several readers: a sample goes back to the allocator when the last
-//! of its readers has returned it. The crate depends only on the trait
+//! Samples that are loaned from an allocator and have several readers: a sample goes back to the
+//! allocator when the last of its readers has returned it. The crate depends only on the trait
 //! [`Allocator`](bb_memory_traits::allocator::Allocator), and names no allocator.
 //!
 //! The modules, in the order in which to read them:

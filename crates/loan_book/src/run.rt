@@ -17,13 +17,13 @@ use std::alloc::{AllocError, Global};
 /// A call of a loan book.
 #[derive(Debug, Clone, Copy, PartialEq, Eq)]
 pub enum LoanCall {
-    /// A loan of a size in bytes.
+    /// Loans a sample of this size in bytes.
     Loan(usize),
-    /// The sample of an id is published for a number of readers.
+    /// Publishes the sample of this id for a number of readers.
     Publish(u64, u32),
-    /// The sample of this id is returned once.
+    /// Gives the sample of this id back once.
     GiveBack(u64),
-    /// Requests whether the sample of this id is in use.
+    /// A query whether the sample of this id is in use.
     IsOut(u64),
 }
 
@@ -71,13 +71,16 @@ fn apply<A: Allocator>(book: &mut LoanBook<A>, call: LoanCall) -> LoanReply
     }
 }
 
-/// Makes the calls in order, and returns one reply for each call. Afterwards the allocator stands for exactly the chunks of the
-/// samples that are in use. The allocator gets one request for each loan that it answers, and none from any other call. The ids
-/// that are given count up from the number of samples that were loaned before. A published sample that waited for returns is
-/// still in use exactly if fewer of the calls return it. So a sample that a call publishes for r readers goes back at the r-th
-/// return after that call, and not before. A sample that a call loans, and none publishes, goes back at its first return.
+/// Makes the calls in order, and returns one reply for each call. Afterwards the allocator stands
+/// for exactly the chunks of the samples that are in use. The allocator gets one request for each
+/// loan that it answers, and none from any other call. The ids that are given count up from the
+/// number of samples that were loaned before. A published sample that waited for returns is still
+/// in use exactly if fewer of the calls return it. So a sample that a call publishes for r readers
+/// goes back at the r-th return after that call, and not before. A sample that a call loans, and
+/// none publishes, goes back at its first return.
 ///
-/// Memory for the replies is reserved first, from `alloc`. If it runs out, no call is made, and everything is as before.
+/// Memory for the replies is reserved first, from `alloc`. If it runs out, no call is made, and
+/// everything is as before.
 pub fn run_loans<A: Allocator>(
     alloc: Global,
     book: &mut LoanBook<A>,

@@ -1,6 +1,6 @@
-//! Reads a script from standard input, drives an allocator, a machine of steps or a loan book with it, and writes a line for
-//! each reply. The library `script_kinds` defines scripts and their replies; this program has the standard streams and the exit
-//! status.
+//! Reads a script from standard input, drives an allocator, a machine of steps or a loan book with
+//! it, and writes a line for each reply. The library `script_kinds` defines scripts and their
+//! replies; this program has the standard streams and the exit status.
 #![tactic(auto)]
 
 use script_kinds::run;

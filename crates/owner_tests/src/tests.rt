@@ -1,5 +1,5 @@
-//! Typed calls through wrappers without clauses, so that a test's own proof carries none of the library's. Almost all tests are
-//! in `out_of_memory`: with ample memory they are ordinary tests.
+//! Typed calls through wrappers without clauses, so that a test's own proof carries none of the
+//! library's. Almost all tests are in `out_of_memory`: with ample memory they are ordinary tests.
 mod checks;
 mod kinds;
 mod out_of_memory;

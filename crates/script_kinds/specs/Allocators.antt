@@ -84,8 +84,8 @@ live_rules rules = record {
   state_text = λ state. rules.state_text state.allocator (length state.live);
 }
 
--- The replies are a run over the allocator's geometry, which doesn't change, and the allocator stands
--- for the live list that the run leaves.
+-- The replies are a run over the allocator's geometry, which doesn't change, and the allocator
+-- stands for the live list that the run leaves.
 pub record Runs {A G : Type 0} (geometry_of : A → G) (Steps : G → List Chunk → Command → Reply → List Chunk → Type 0)
     (stands_for : A → List Chunk → Type 0) (old : A) (live : List Chunk) (commands : List Command)
     (replies : List Reply) (new : A) (left : List Chunk) : Type 0 where

@@ -50,7 +50,8 @@ loan_reply_line (reply.Out false) = name_line (codes "no")
 loan_reply_line (reply.Refused error) = name_line (loan_refusal_name error)
 
 -- The replies are a run of a book over the pool object of the pool's geometry, and none says that
--- memory for a record ran out. The pool stands for exactly the chunks of the samples that are in use.
+-- memory for a record ran out. The pool stands for exactly the chunks of the samples that are in
+-- use.
 pub record LoansRun (old : LoanBook CountedPool) (calls : List LoanCall)
     (replies : List LoanReply) (new : LoanBook CountedPool) : Type 0 where
   pub run : IsRun (BookStep (MayAllocate old.allocator.pool.geometry)) old.book calls replies new.book

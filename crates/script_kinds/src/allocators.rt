@@ -1,4 +1,5 @@
-//! Allocators that a script drives: the parts common to all of them, a bump, and a one-chunk allocator.
+//! Allocators that a script drives: the parts common to all of them, a bump, and a one-chunk
+//! allocator.
 ghost use Rattle.bb_memory_owned.specs.OneChunk.{StandsFor as OneChunkStandsFor};
 ghost use Rattle.bb_memory_traits.specs.BumpObject.{StandsFor as BumpStandsFor};
 ghost use Rattle.bb_memory_traits.specs.Chunk.{Chunk};

@@ -1,4 +1,4 @@
-//! A pool that a script drives, and a fixed one.
+//! Pools that a script drives: the pool on words, and the pool of fixed size.
 ghost use Rattle.bb_memory_owned.specs.Pool.{StandsFor};
 ghost use Rattle.script_kinds.specs.Allocators.{IsPoolPlan, fixed_rules, pool_numbers, pool_rules};
 ghost use Rattle.std.specs.Prelude.{IfSome, Some, ◌≡◌};
@@ -19,7 +19,8 @@ pub struct PoolPlan {
     bucket: Layout,
 }
 
-/// Parses `KIND START SIZE BUCKET ALIGN`.
+/// Parses `KIND START SIZE BUCKET ALIGN`, or returns `None` if the words are others or there is no
+/// such pool.
 pub fn pool_plan(kind: &[u8], name: &[u8], numbers: Numbers) -> Option<PoolPlan>
     ensures written { IfSome result (λ plan. IsPoolPlan plan
         × (name.now ≡ kind.now) × (numbers ≡ pool_numbers plan)) }

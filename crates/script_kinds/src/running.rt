@@ -1,4 +1,4 @@
-//! From the bytes of a script to the bytes of its replies.
+//! The run from the bytes of a script to the bytes of its replies.
 ghost use Rattle.script_kinds.specs.Kinds.{kinds};
 ghost use Rattle.scripts.specs.Scripts.{BeginsOutput, IsAnswered, IsLeft, IsUnreadable};
 ghost use Rattle.scripts.specs.Words.{unreadable_text};
@@ -32,9 +32,10 @@ type AllKinds = (
     ),
 );
 
-/// Reads a script to its end, checks every line of it, and then runs it: makes the value that it drives, gives it the commands
-/// in order, and writes a line for each reply to the writer, which is then flushed. `docs/script-format.md` defines the lines
-/// of a script, the reply to each, and when each [`Status`] is returned; its scripts are examples.
+/// Reads a script to its end, checks every line of it, and then runs it: makes the value that it
+/// drives, gives it the commands in order, and writes a line for each reply to the writer, which is
+/// then flushed. `docs/script-format.md` defines the lines of a script, the reply to each, and when
+/// each [`Status`] is returned; its scripts are examples.
 pub fn run<R: Read + Drop, W: Write>(alloc: Global, mut reader: R, writer: &mut W) -> Status
     ensures done { result ≡ Status.Done → (input : List ℕ) × (text : List ℕ)
         × IsLeft input (R.remaining reader) × IsAnswered kinds input text

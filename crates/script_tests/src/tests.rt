@@ -1,5 +1,5 @@
-//! Scripts with what they write, each row by its name, faults of readers, of writers and of memory, the machines that scripts
-//! step, and traces of pools in files.
+//! Tests of scripts and their output, each a named row of a table; of faults of readers, writers
+//! and memory; of the machines that scripts step; and of traces of pools in files.
 mod checks;
 mod faults;
 mod out_of_memory;

@@ -1,4 +1,4 @@
--- The words of a line: there is one way only to read them.
+-- The words of a line: there is only one way to read them.
 use Rattle.scripts.proofs.Numbers.{own}
 use Rattle.scripts.specs.Words.{AreNumbers, AreWords, Numbers, StartsWith, Words, list_of, numbers_text}
 use Rattle.scripts.specs.declared.words.Numbers.TheVariants.{Five, Four, One, Three, Two, Zero}

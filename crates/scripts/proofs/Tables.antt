@@ -57,7 +57,8 @@ unreadable_empty table = (
       (λ one (header, after, starts, read). let cut : [] ≡ words_text (header_words one.rules header) ∷ after = starts.cut in cc),
 )
 
--- a line that is the first unreadable one to other kinds is so also with a kind more that doesn't read the first line
+-- a line that is the first unreadable one to other kinds is so also with a kind more that doesn't
+-- read the first line
 unreadable_later : (one : Kind) (others : List Kind) (first : List ℕ) (rest : List (List ℕ)) (number : ℕ)
     → (HasHeaderOf (first ∷ rest) one → ⊥) → IsUnreadableAt others (first ∷ rest) number
     → IsUnreadableAt (one ∷ others) (first ∷ rest) number

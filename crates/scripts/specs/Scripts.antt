@@ -1,4 +1,5 @@
--- Scripts of any kind: the rules of a kind, what a run writes and how it ends, and the output for an input by a table of kinds.
+-- Scripts of any kind: the rules of a kind, what a run writes and how it ends, and the output for
+-- an input by a table of kinds.
 use Rattle.scripts.specs.Words.{MayStand, Words, lines_of, unreadable_text, words, words_text}
 pub use Rattle.scripts.specs.declared.driving.Line.{Line}
 use Rattle.scripts.specs.declared.driving.Line.TheVariants.{Command, Show}
@@ -12,8 +13,8 @@ use Rattle.std.specs.List.{flat_map}
 use Rattle.std.specs.Prelude.{All, Bool, IfSome, IsTrue, List, None, Option, Some, [], codes, map, not, slice_get, take, true, ℕ, ◌&&◌, ◌++◌, ◌-◌, ◌∷◌, ◌≡◌, ◌≢◌, ◌⊎◌}
 use Rattle.std.specs.Str.{bytes_eq}
 
--- The rules of a kind of scripts. A script drives something, whose states are S. A header O makes
--- it, and it runs commands C, each with a reply R.
+-- The rules of a kind of scripts. A script drives a value whose states are S. A header O makes the
+-- value, which then runs commands C, each with a reply R.
 pub record Rules (S O C R : Type 0) : Type 1 where
   -- the first word of a script
   pub name : List ℕ
@@ -27,9 +28,9 @@ pub record Rules (S O C R : Type 0) : Type 1 where
   pub command_words : C → Words
   -- a script may have `show`
   pub can_show : Bool
-  -- a header makes something of this state
+  -- a header makes a value in this state
   pub starts : O → S → Type 0
-  -- commands that run in a state have these replies, and leave this state
+  -- commands that run in the first state have these replies, and leave the second state
   pub runs : S → List C → List R → S → Type 0
   -- the text that is written for a reply
   pub reply_text : R → List ℕ
@@ -102,8 +103,8 @@ IsFirstUnreadable IsReadable lines index =
 abbrev pub AreScript : {S O C R : Type 0} → Rules S O C R → List (List ℕ) → List (Line C) → Type 0
 AreScript rules lines script = All (IsLine rules) script × (lines ≡ map (line_text rules) script)
 
--- A single line: a command waits. A `show` runs all commands that wait, and writes their replies,
--- and then the state.
+-- The effect of one line: a command is added to the waiting ones. A `show` runs all waiting
+-- commands, and writes their replies and then the state.
 abbrev pub IsStep : {S O C R : Type 0} → Rules S O C R → S → List C → Line C → List ℕ → S → List C → Type 0
 IsStep rules old waiting (Command command) text new left = (new ≡ old) × (left ≡ waiting ++ command ∷ []) × (text ≡ [])
 IsStep {S} {O} {C} {R} rules old waiting Show text new left =

@@ -1,4 +1,5 @@
--- The lines of an input, and the words of a line: a name, and numbers in decimal, with a space between each two.
+-- The lines of an input, and the words of a line: a name, and numbers in decimal, with a space
+-- between each two.
 use Rattle.bb_memory_traits.specs.Chunk.{Region, region_at}
 pub use Rattle.scripts.specs.declared.words.Bounds.{Bounds}
 use Rattle.scripts.specs.declared.words.Labelled.{Labelled}

@@ -1,4 +1,4 @@
-//! From the bytes of an input to the bytes of its replies, by a table of kinds.
+//! The run from the bytes of an input to the bytes of its replies, by a table of kinds.
 ghost use Rattle.scripts.specs.Scripts.{Ends, IsOutcome, Kind, Sends, are_apart, kind};
 ghost use Rattle.scripts.specs.Words.{MayStand, lines_of, words, words_text};
 ghost use Rattle.std.specs.Prelude.{List, [], true, ◌∷◌, ◌≡◌};
@@ -9,7 +9,7 @@ use crate::words::{Numbers, first_line, words, write_words};
 use std::alloc::Global;
 use std::io::{ErrorKind, Write};
 
-/// Kinds of scripts, one after another.
+/// A table of kinds of scripts, as a tuple of a kind and further kinds.
 pub trait Kinds {
     ghost table: { List Kind };
 

@@ -1,4 +1,5 @@
-//! The trait of the kinds of scripts, and from the lines of a script after its header to the lines of its replies.
+//! The trait of the kinds of scripts, and the run from the lines of a script after its header to
+//! the lines of its replies.
 ghost use Rattle.scripts.specs.Scripts.{AreScript, IsFirstUnreadable, IsLine, IsLineText, IsOutcome, IsPlayed, IsStep, Rules, header_words, kind, line_text};
 ghost use Rattle.scripts.specs.Words.{MayStand, lines_of, text_bytes, words_text};
 ghost use Rattle.std.specs.List.{flat_map};
@@ -7,7 +8,8 @@ ghost use Rattle.std.specs.Prelude.{IfErr, IfNone, IfOk, IfSome, List, OnOk, Som
 use crate::words::{Numbers, Text, first_line, is_word, words};
 use std::alloc::{AllocError, Global};
 
-/// A kind of script: what it drives is made by a header, takes commands, and gives one reply to each.
+/// A kind of script. A header makes the value that the script drives, which takes commands and
+/// gives one reply to each.
 pub trait ScriptKind {
     /// The value that a script drives.
     type State: Drop;
@@ -67,7 +69,7 @@ pub enum Line<C> {
     Show,
 }
 
-/// The end of a script that was read.
+/// The outcome of reading a script and running it.
 #[derive(Drop)]
 pub enum Outcome {
     /// The text to write: a line for each reply, and the text of each `show`.
@@ -119,7 +121,7 @@ fn read_script<K: ScriptKind>(
     Ok(Ok(script))
 }
 
-/// Parses a line after the header.
+/// Parses a line after the header, or returns `None` if it is unreadable.
 fn read_line<K: ScriptKind>(text: &[u8]) -> Option<Line<K::Command>>
     ensures written { IfSome result (λ line. IsLine K.rules line
         × (text.now ≡ line_text K.rules line)) }
@@ -152,7 +154,8 @@ fn run_lines<K: ScriptKind>(
     Ok(text)
 }
 
-/// Takes a line: a command waits, and a `show` runs the waiting commands and then writes the state.
+/// Runs one line: a command is added to the waiting ones; a `show` runs all waiting commands and
+/// then writes the state.
 fn run_line<K: ScriptKind>(
     alloc: Global,
     state: &mut K::State,

@@ -2,12 +2,13 @@
 ghost use Rattle.scripts.specs.Scripts.{code_of, message_of};
 ghost use Rattle.std.specs.Prelude.{MatchOption, None, Some, ◌≡◌};
 
-/// The end of a run, and what was written.
+/// The status with which a run ends, and what was written.
 #[derive(Debug, Clone, Copy, PartialEq, Eq)]
 pub enum Status {
-    /// The script was run to its end. The output is a line for each reply, and the text of each `show`.
+    /// The script was run to its end. The output is a line for each reply, and the text of each
+    /// `show`.
     Done,
-    /// Some line is unreadable: the number of the first one.
+    /// A line is unreadable. The output is a line with the number of the first such line.
     Unreadable,
     /// Reading the input failed. Nothing was written.
     InputFailed,

@@ -1,4 +1,5 @@
-//! The lines of an input, and the words of a line: a name, and numbers in decimal, with a space between each two.
+//! The lines of an input, and the words of a line: a name, and numbers in decimal, with a space
+//! between each two.
 ghost use Rattle.bb_memory_traits.specs.Chunk.{IsRegion};
 ghost use Rattle.bb_memory_traits.specs.declared.layout.Layout.{Layout};
 ghost use Rattle.scripts.specs.Words.{AreWords, IsParty, StartsWith, Words, bounds_numbers, labelled_then, lines_of, list_of, region_of, text_bytes, words, words_then};
@@ -57,7 +58,7 @@ impl Numbers {
     }
 }
 
-/// Parses the words of a line.
+/// Parses the words of a line, or returns `None` if it isn't a name with numbers.
 pub fn words(line: &[u8]) -> Option<(&[u8], Numbers)>
     ensures written { IfSome result (λ (name, numbers).
         AreWords (words name.now numbers) line.now) }
@@ -140,7 +141,7 @@ pub enum Text {
     Name(&'static [u8]),
     /// A name and numbers.
     Line(&'static [u8], Numbers),
-    /// A name and numbers, of a step that was refused memory.
+    /// A name and numbers, and that a step was refused with `OutOfMemory`.
     Refused(&'static [u8], Numbers),
 }
 
@@ -230,7 +231,7 @@ pub struct Bounds {
     pub size: usize,
 }
 
-/// Parses `KIND START SIZE`.
+/// Parses `KIND START SIZE`, or returns `None` if the words are others or there is no such region.
 pub fn region(kind: &[u8], name: &[u8], numbers: Numbers) -> Option<Bounds>
     ensures written { IfSome result (λ bounds. IsRegion (region_of bounds)
         × (name.now ≡ kind.now) × (numbers ≡ bounds_numbers bounds)) }

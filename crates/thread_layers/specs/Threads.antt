@@ -18,13 +18,13 @@ use Rattle.std.specs.Prelude.{All, List, Ok, Result, [], length, ℕ, ◌%◌, �
 abbrev pub KeepsBuckets : PoolParty → PoolParty → Type 0
 KeepsBuckets old new = (bucket : ℕ) → IsHeldAfter old.log bucket → IsHeldAfter new.log bucket
 
--- A party, of a bump or of a pool, has made one request for this layout. The request may have this answer, and leave this
--- party.
+-- A party, of a bump or of a pool, has made one request for this layout. The request may have this
+-- answer, and leave this party.
 pub record Asks {P A : Type 0} (may_take : P → Layout → A → P → Type 0) (layout : Layout) (old new : P) : Type 0 where
   pub answer : A
   pub asked : may_take old layout answer new
 
--- the answer of a request by next fit, and the party then
+-- the answer to a request by next fit, and the party afterwards
 pub record MayTakeNextFit (old : PoolParty) (layout : Layout) (answer : Result TakenBucket AllocationError) (new : PoolParty)
     : Type 0 where
   pub taken : MayTakeFrom (hint_of old) old layout answer new
@@ -50,8 +50,9 @@ pub record HasAsked (layout : Layout) (party : BumpParty) : Type 0 where
   pub asked : Asks MayTake layout before party
   pub none : before.log ≡ []
 
--- `workers` workers have each made one request for this layout, in a region that was used in part. The space used then agrees
--- with their logs, which are all, and is the greatest position that one of them has seen.
+-- `workers` workers have each made one request for this layout, in a region of which `used_before`
+-- bytes were used. The space that is used afterwards agrees with their logs, of which there are no
+-- others, and is the greatest position that one of them has seen.
 pub record IsCarved (region : Region) (used_before workers : ℕ) (layout : Layout) (used : ℕ) : Type 0 where
   pub parties : List BumpParty
   pub agree : AgreeAt (scene_at region used_before workers) used parties
@@ -61,8 +62,9 @@ pub record IsCarved (region : Region) (used_before workers : ℕ) (layout : Layo
 
 -- MESSAGES, each in a bucket of a shared pool that the receiver gives back
 
--- The sender's log has the steps of one request, which took the message's bucket, then the step that detached it, and no other:
--- not every party that may be left by such a request rules that out.
+-- The sender's log gained the steps of one request, which took the message's bucket, and then the
+-- step that detached the bucket, and no others: not every party that such a request may leave rules
+-- that out.
 pub record Sends (old : PoolParty) (layout : Layout) (message : TakenBucket) (new : PoolParty) : Type 0 where
   pub one : ¬ ((holding : PoolParty) → MayTakeFrom (hint_of old) old layout (Ok message) holding
       → ¬ (new ≡ with_entries holding (detach_entry holding.number message.number)))
@@ -80,8 +82,8 @@ pub record Arena : Type 0 where
   pub whole : Chunk
   pub used : ℕ
 
--- a chunk of the arena was given for this layout: it is inside the arena's chunk, at the first suitable place after what was
--- used
+-- a chunk of the arena was allocated for this layout: it is inside the arena's chunk, at the first
+-- suitable place after the bytes that were used
 pub record Serves (old : Arena) (layout : Layout) (new : Arena) (chunk : Chunk) : Type 0 where
   pub begins : chunk.place ≡ least_place (old.whole.place + old.used) layout.align
   pub part : IsPart chunk old.whole

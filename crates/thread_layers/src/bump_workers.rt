@@ -23,8 +23,9 @@ pub fn carve(shared: &SharedBumpAllocator, party: BumpParty, layout: Layout) -> 
     party
 }
 
-/// Runs four workers at the same time, each of which requests one chunk of a bump. Afterwards the bump has one owner again, and
-/// its used part is exactly the greatest position that one of the four has seen. Fails only if memory ran out.
+/// Runs four workers at the same time, each of which requests one chunk of a bump. Afterwards the
+/// bump has one owner again, and its used part is exactly the greatest position that one of the
+/// four has seen. Fails only if memory ran out.
 pub fn carved_by_four<R: Threads + Sync>(
     rt: &R,
     alloc: Global,

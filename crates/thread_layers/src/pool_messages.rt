@@ -1,4 +1,5 @@
-//! Messages between threads, each in a bucket of one shared pool: the sender takes it, and the receiver gives it back.
+//! Messages between threads, each in a bucket of one shared pool: the sender takes it, and the
+//! receiver gives it back.
 ghost use Rattle.bb_memory_pool_machine.specs.PoolLogs.{IsHeldAfter};
 ghost use Rattle.bb_memory_shared_pools.specs.SharedPool.{MayTakeBucket, chunk_of};
 ghost use Rattle.std.specs.Prelude.{Err, IfErr, IfOk, ◌<◌, ◌≡◌};
@@ -33,7 +34,8 @@ pub fn send(
     Ok(pool.detach(sender, bucket))
 }
 
-/// Attaches the bucket of a message, reads the place and length of its chunk, and gives the bucket back.
+/// Attaches the bucket of a message, reads the place and length of its chunk, and gives the bucket
+/// back.
 pub fn receive(
     pool: &SharedPoolAllocator,
     receiver: &mut PoolParty,

@@ -13,8 +13,8 @@ use std::alloc::{AllocError, Global};
 use std::thread;
 use std::thread::Threads;
 
-/// Takes a bucket by next fit, if one is free, and returns the party. The token ends here, so the bucket remains the party's,
-/// with those that it had.
+/// Takes a bucket by next fit, if one is free, and returns the party. The token is dropped here, so
+/// the party keeps the bucket, in addition to those that it had.
 pub fn take_one(pool: &SharedPoolAllocator, party: PoolParty, layout: Layout) -> PoolParty
     requires { party.allocator ≡ pool.now }
     ensures party { result.allocator ≡ pool.entry.now }
@@ -39,9 +39,9 @@ fn ask_next_fit(pool: &SharedPoolAllocator, worker: &mut PoolParty, layout: Layo
     let _ = pool.allocate_next_fit(worker, layout);
 }
 
-/// Runs four workers at the same time, each of which requests one bucket. They meet when they have returned: one list of steps
-/// has all their logs and nothing else, and a flag is taken exactly if one of them holds the bucket, or it is detached. Fails
-/// only if memory ran out.
+/// Runs four workers at the same time, each of which requests one bucket. They meet when they have
+/// returned: one list of steps has all their logs and nothing else, and a flag is taken exactly if
+/// one of them holds the bucket, or it is detached. Fails only if memory ran out.
 pub fn four_workers<R: Threads + Sync>(
     rt: &R,
     alloc: Global,
@@ -61,7 +61,7 @@ pub fn four_workers<R: Threads + Sync>(
     Ok((pool, back))
 }
 
-/// Runs a thread for each party, which takes a bucket, and joins them all.
+/// Runs a thread for each party, in which the party takes a bucket, and joins all threads.
 fn take_one_each<R: Threads + Sync>(
     rt: &R,
     pool: &SharedPoolAllocator,
@@ -75,7 +75,8 @@ fn take_one_each<R: Threads + Sync>(
     thread::map_vec(rt, parties, &|party| take_one(pool, party, layout))
 }
 
-/// Makes a pool of eight buckets for four parties. Fails only if memory ran out, since this region and this bucket make a pool.
+/// Makes a pool of eight buckets for four parties. Fails only if memory ran out, since this region
+/// and this bucket make a pool.
 #[tactic(auto, unfolding(bb_memory_traits::specs::LeastPlace::least_place))]
 fn pool_of_four(alloc: Global) -> Result<(SharedPoolAllocator, Vec<PoolParty>), AllocError>
     ensures parties { IfOk result (λ made. AreFresh made.0 4 made.1.items) }
@@ -88,7 +89,8 @@ fn pool_of_four(alloc: Global) -> Result<(SharedPoolAllocator, Vec<PoolParty>), 
     Ok(made)
 }
 
-/// A bucket of 128 bytes at multiples of 8. The region of 1024 bytes at 4096 has room for eight.
+/// Returns the layout of a bucket: 128 bytes at multiples of 8. The region of 1024 bytes at 4096
+/// has room for eight.
 #[tactic(auto, unfolding(bb_memory_traits::specs::LeastPlace::least_place))]
 fn bucket_128() -> Layout
     ensures size { result.size ≡ 128 }

@@ -1,4 +1,5 @@
-//! An arena of a thread: a bump over a chunk of the bump that threads share, which serves its requests without a step there.
+//! An arena of a thread: a bump over a chunk of the bump that threads share, which serves its
+//! requests without a step there.
 ghost use Rattle.bb_memory_bump.specs.SharedBump.{HaveChunksApart, MayTake};
 ghost use Rattle.bb_memory_bump_machine.specs.BumpLogs.{BumpLog, chunks_won};
 ghost use Rattle.bb_memory_traits.specs.BumpObject.{chunk_at_or_after};
@@ -12,7 +13,8 @@ use bb_memory_lists::lists::append_law;
 use bb_memory_traits::layout::{Chunk, Layout, parts_law};
 use std::marker::Model;
 
-/// A bump over a chunk of a shared bump, for one thread with its party. A request makes no atomic step, and waits for nobody.
+/// A bump over a chunk of a shared bump, for one thread with its party. A request makes no atomic
+/// step, and waits for nobody.
 #[derive(Drop)]
 pub struct ThreadArena {
     party: BumpParty,
@@ -35,7 +37,8 @@ impl Model for ThreadArena {
 }
 
 impl ThreadArena {
-    /// Takes a chunk of this layout for the party's thread. The errors are those of the shared bump, and return the party.
+    /// Takes a chunk of this layout for the party's thread. The errors are those of the shared
+    /// bump, and return the party.
     pub fn new(
         shared: &SharedBumpAllocator,
         party: BumpParty,
@@ -68,8 +71,8 @@ impl ThreadArena {
         self.whole
     }
 
-    /// Requests a chunk of the arena. Fails, in this order, with `SizeIsZero` if the size is 0, and with `OutOfMemory` if the
-    /// chunk would end after the arena's. A refusal changes nothing.
+    /// Requests a chunk of the arena. Fails, in this order, with `SizeIsZero` if the size is 0, and
+    /// with `OutOfMemory` if the chunk would end after the arena's. A refusal changes nothing.
     pub fn allocate(&mut self, layout: Layout) -> Result<Chunk, AllocationError>
         ensures served { IfOk result (Serves self.old layout self.new) }
         ensures unchanged { OnErr result (self.new ≡ self.old) }
@@ -99,7 +102,8 @@ impl ThreadArena {
     }
 }
 
-/// Makes two arenas of one shared bump meet: their chunks are apart, so each chunk of one is apart from each of the other.
+/// Makes two arenas of one shared bump meet: their chunks are apart, so each chunk of one is apart
+/// from each of the other.
 pub fn meet(shared: &SharedBumpAllocator, one: &mut ThreadArena, other: &mut ThreadArena)
     requires one { one.old.party.allocator ≡ shared.now }
     requires other { other.old.party.allocator ≡ shared.now }
@@ -116,8 +120,8 @@ pub fn meet(shared: &SharedBumpAllocator, one: &mut ThreadArena, other: &mut Thr
     shared.meet(&mut one.party, &mut other.party);
 }
 
-/// States that two chunks, one of each of two logs whose chunks are apart, are apart. The function does nothing: its contract
-/// is the law.
+/// States that two chunks, one of each of two logs whose chunks are apart, are apart. The function
+/// does nothing: its contract is the law.
 #[tactic(auto, unfolding(crate::specs::Threads::HaveNothingShared))]
 fn won_apart_law()
     ensures { (log its_log : BumpLog) (i j : ℕ) (chunk its : Chunk)
@@ -128,8 +132,8 @@ fn won_apart_law()
     contained_law();
 }
 
-/// States that two chunks, one of each of two logs whose chunks are apart, share nothing. The function does nothing: its contract
-/// is the law.
+/// States that two chunks, one of each of two logs whose chunks are apart, share nothing. The
+/// function does nothing: its contract is the law.
 #[tactic(auto, using(crate::specs::Threads::contained))]
 fn contained_law()
     ensures { (log its_log : BumpLog) (i j : ℕ) (chunk its : Chunk)
@@ -140,7 +144,8 @@ fn contained_law()
     index_law();
 }
 
-/// States the same for the chunks at two indices of the logs. The function does nothing: its contract is the law.
+/// States the same for the chunks at two indices of the logs. The function does nothing: its
+/// contract is the law.
 #[tactic(auto, unfolding(crate::specs::Threads::HaveNothingShared))]
 fn index_law()
     ensures { (log its_log : BumpLog) (i j : ℕ) (d e : Chunk) → HaveChunksApart log its_log

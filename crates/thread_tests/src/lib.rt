@@ -1,4 +1,5 @@
-//! Tests of values that threads share: the results of their calls, with ample memory and after failed requests for memory.
+//! Tests of values that threads share: the results of their calls, with ample memory and after
+//! failed requests for memory.
 #![tactic(auto)]
 
 #[cfg(test)]

@@ -1,4 +1,5 @@
-//! Typed calls through wrappers that promise only what safety needs, so that a test's own proof carries none of the library's.
+//! Typed calls through wrappers that promise only what safety needs, so that a test's own proof
+//! carries none of the library's.
 mod arenas;
 mod buckets;
 mod bumps;

@@ -6,12 +6,14 @@ ghost use Rattle.bb_memory_traits.specs.BumpObject.{StandsFor};
 ghost use Rattle.bb_memory_traits.specs.Chunk.{Chunk};
 ghost use Rattle.std.specs.Prelude.{All, Any, Contains, List, Some, length, slice_get, ℕ, ◌++◌, ◌≡◌, ◌≢◌};
 
-/// States what holds for parties of a shared bump that met ([`meet_all`](super::SharedBumpAllocator::meet_all)), above all if
-/// these are all its parties, whatever the threads did. The function does nothing: its contract is the law.
+/// States what holds for parties of a shared bump that met
+/// ([`meet_all`](super::SharedBumpAllocator::meet_all)), above all if these are all its parties,
+/// whatever the threads did. The function does nothing: its contract is the law.
 ///
-/// A meeting has one list of steps from the opening, each of which the machine allows (`agree.steps`). In it, the steps of each
-/// party that met are exactly its log, and the list leaves the position that the meeting found. If all the bump's parties met,
-/// it has no other steps. A list that the opening stands for is one that was live before the bump was shared.
+/// A meeting has one list of steps from the opening, each of which the machine allows
+/// (`agree.steps`). In it, the steps of each party that met are exactly its log, and the list
+/// leaves the position that the meeting found. If all the bump's parties met, it has no other
+/// steps. A list that the opening stands for is one that was live before the bump was shared.
 pub fn shared_bump_meeting_law()
     // The calls at their deciding steps are a run of the bump object, from the list that was live
     // before the bump was shared to the one that the position found stands for.

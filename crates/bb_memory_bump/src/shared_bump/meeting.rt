@@ -9,7 +9,8 @@ use super::{BumpParty, SharedBumpAllocator};
 use atomic_table::Seat;
 
 impl SharedBumpAllocator {
-    /// Makes these parties meet those of the seat, and go back to their own seats.
+    /// Makes these parties meet those of the seat. Afterwards each is at its own seat again.
+    /// Returns the position that the meeting found.
     pub(super) fn meet_rest(&self, seat: &mut Seat<u8, View>, rest: &mut Vec<BumpParty>) -> usize
         requires seat { StandsAt self.now seat.old.table_id seat.old.me }
         requires rest { All (λ party. party.allocator ≡ self.now) rest.old.items }

@@ -7,8 +7,9 @@ use super::rule::View;
 use atomic_table::Seat;
 use std::marker::Model;
 
-/// One user of a shared bump. A party moves with its thread, and each call that steps on the position takes it. Only contracts
-/// know the list of its steps, its log. A dropped party doesn't meet any more, so no later meeting is of all parties.
+/// One user of a shared bump. A party moves with its thread, and each call that steps on the
+/// position takes it. The list of the party's steps, its log, exists only in contracts. A dropped
+/// party can't meet any more, so no later meeting has all parties.
 #[derive(Drop)]
 pub struct BumpParty {
     pub(super) number: u32,

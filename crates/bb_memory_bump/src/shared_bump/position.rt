@@ -1,8 +1,9 @@
 //! The position that threads share: its word, and the only calls that touch it.
 //!
-//! `read`, `exchange` and `load` make one atomic step each, by the seat of the party whose step it is. That party's log then
-//! ends with the step and what it found. `split_first`, `merge`, `load_for_meeting` and `meet` only load the word, and are in
-//! no log. `open` runs before anything is shared, and `close` afterwards.
+//! `read`, `exchange` and `load` make one atomic step each, by the seat of the party whose step it
+//! is. That party's log then ends with the step and what it found. `split_first`, `merge`,
+//! `load_for_meeting` and `meet` only load the word, and add to no log. `open` runs before anything
+//! is shared, and `close` afterwards.
 ghost use Rattle.bb_memory_bump.specs.Bump.{Layout};
 ghost use Rattle.bb_memory_bump.specs.SharedBump.{SharedBump};
 ghost use Rattle.bb_memory_bump.specs.SharedBumpRule.{AfterExchange, AfterLoad, AfterMeeting, AfterMeetingLoad, AfterRead, HasOneWord, IsIdleAt, IsSeatAt, MayAsk, StandsAt, all_parties, exchanges, loads, meeting_of, meets, merged, met_by, nobody, reads, scene_of};
@@ -17,7 +18,7 @@ use bb_memory_traits::layout::Layout;
 use std::alloc::{AllocError, Global};
 use std::marker::{Brand, Model, PhantomData};
 
-/// Carries a request's layout in a type, since a `Play` gets no arguments.
+/// Carries a request's layout in a type, since a `Play` takes no arguments.
 pub(super) trait Asked {
     ghost layout: { Option Layout };
 }
@@ -122,7 +123,8 @@ impl Position {
         self.table.shared.load::<Reads<L>>(seat, 0) as usize
     }
 
-    /// Makes an exchange of the request that the seat's party is in: `behind` is the end of its chunk at `seen`.
+    /// Makes an exchange of the request that the seat's party is in: `behind` is the end of its
+    /// chunk at `seen`.
     pub(super) fn exchange(
         &self,
         seat: &mut Seat<u8, View>,

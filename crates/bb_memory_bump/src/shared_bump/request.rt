@@ -23,7 +23,8 @@ impl SharedBumpAllocator {
         ensures aligned { IfSome result (λ chunk. chunk.place % layout.align ≡ 0) }
         ensures inside { IfSome result (IsInside self.now.scene.region) }
     {
-        // Kept in locals, since the compiler would load the fields of `self` again after each exchange.
+        // Copies the fields into locals: otherwise the compiler would load them again after each
+        // exchange.
         let (start, size) = (self.start, self.size);
         let mut seen = self.position.read::<L>(seat, layout);
         let mut chunk = match place(start, size, seen, layout) {
@@ -46,7 +47,8 @@ impl SharedBumpAllocator {
     }
 }
 
-/// Returns the chunk that a layout gets at a position of the region of `size` bytes at `start`, if it fits there.
+/// Returns the chunk that a layout gets at a position of the region of `size` bytes at `start`, if
+/// it fits there.
 fn place(start: usize, size: usize, position: usize, layout: Layout) -> Option<Chunk>
     requires region { IsRegion (region_at start size) }
     requires position { position ≤ size }

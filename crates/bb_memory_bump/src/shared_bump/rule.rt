@@ -22,7 +22,8 @@ impl Model for Scene {
     ghost view = { λ s. scene_at (region_at s.start s.size) s.opening s.parties };
 }
 
-/// The knowledge of a seat: the parties that it represents, each with its log. No value of this type is made.
+/// The knowledge of a seat: the parties that it represents, each with its log. No value of this
+/// type is made.
 pub(crate) struct View {}
 
 impl Model for View {

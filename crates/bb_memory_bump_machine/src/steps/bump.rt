@@ -10,9 +10,10 @@ use bb_memory_traits::layout::{Chunk, Layout};
 /// One atomic step on the bump's position. A party is named by its number, from 0.
 #[derive(Debug, Clone, Copy, PartialEq, Eq)]
 pub enum BumpStep {
-    /// An idle party begins a call: it reads the position. The step isn't allowed with size 0.
+    /// An idle party begins a call: it reads the position. The step isn't allowed if the size is 0.
     Read { party: u32, layout: Layout },
-    /// A party in a call replaces the position by the end of its chunk, if the position is still what it has seen.
+    /// A party in a call replaces the position by the end of its chunk, if the position is still
+    /// what it has seen.
     Exchange { party: u32 },
     /// An idle party reads how much is used.
     Load { party: u32 },
@@ -20,19 +21,22 @@ pub enum BumpStep {
     Clear,
 }
 
-/// The outcome of a step: what the step found, and what it did. The number is the position that it found.
+/// The outcome of a step: what the step found, and what it did. Each number is the position that
+/// the step found.
 #[derive(Debug, Clone, Copy, PartialEq, Eq)]
 pub enum BumpOutcome {
     /// A read at which the layout fits.
     Sees(usize),
     /// A read at which the layout doesn't fit. The call is refused, and the party is idle again.
     RefusedAtRead(usize),
-    /// An exchange that found what the party had seen. The chunk is the party's, which is idle again.
-    Wins(Chunk),
-    /// An exchange that found another position, at which the layout fits. The party has now seen that one.
-    Loses(usize),
-    /// An exchange that found another position, at which the layout doesn't fit. The call is refused, and the party is idle
+    /// An exchange that found what the party had seen. The chunk is the party's, which is idle
     /// again.
+    Wins(Chunk),
+    /// An exchange that found another position, at which the layout fits. The party has now seen
+    /// that one.
+    Loses(usize),
+    /// An exchange that found another position, at which the layout doesn't fit. The call is
+    /// refused, and the party is idle again.
     RefusedAtLoss(usize),
     /// A load, which found how much is used.
     Loaded(usize),
@@ -42,13 +46,13 @@ pub enum BumpOutcome {
     Passed,
 }
 
-/// States what holds for every list of steps, by any number of parties, from any position at which the machine opens, with
-/// clears anywhere. The function does nothing: its contract is the theorem.
+/// States what holds for every list of steps, by any number of parties, from any position at which
+/// the machine opens, with clears anywhere. The function does nothing: its contract is the theorem.
 ///
-/// A scene is the state in which a machine begins: its region, its opening and its parties. What holds for every list of steps
-/// holds for each beginning of one, and so at every step. A stretch is a list of steps that comes after a beginning. A step
-/// decides a call if it wins, if it refuses at a read or a loss, and if it clears. Nothing is stated about who wins, or about
-/// time.
+/// A scene is the state in which a machine begins: its region, its opening and its parties. What
+/// holds for every list of steps holds for each beginning of one, and so at every step. A stretch
+/// is a list of steps that comes after a beginning. A step decides a call if it wins, if it is
+/// refused at a read or a loss, or if it clears. Nothing is stated about who wins, or about time.
 pub fn bump_theorem()
     // Each opening up to the region's size stands for some live list.
     ensures some_list { (scene : BumpScene) → scene.opening ≤ scene.region.size
@@ -60,12 +64,14 @@ pub fn bump_theorem()
         → OpensWith scene live
         → IsCallRun scene.region live (calls_of scene steps) (live_after scene live steps) }
 
-    // The calls of a beginning come first, so that what holds for every list of steps holds for every step of one run.
+    // The calls of a beginning come first, so that what holds for every list of steps holds for
+    // every step of one run.
     ensures beginning { (scene : BumpScene) (before stretch : List BumpStep)
         → calls_of scene (before ++ stretch)
         ≡ calls_of scene before ++ calls_after scene before stretch }
 
-    // Each such run has a list at every step: the steps of the beginning lead to it, and the others are a run from it.
+    // Each such run has a list at every step: the steps of the beginning are a run that leaves this
+    // list, and the others are a run from it.
     ensures every_step { (scene : BumpScene) (live : List Chunk) (before stretch : List BumpStep)
         → OpensWith scene live
         → IsCallRun scene.region (live_after scene live before) (calls_after scene before stretch)
@@ -76,12 +82,12 @@ pub fn bump_theorem()
         → OpensWith scene live
         → StandsFor scene.region (left_by scene steps).position (live_after scene live steps) }
 
-    // At every step the position is how much that list uses.
+    // At every step the position is the number of bytes that this list uses.
     ensures position { (scene : BumpScene) (live : List Chunk) (steps : List BumpStep)
         → OpensWith scene live
         → (left_by scene steps).position ≡ used_space scene.region (live_after scene live steps) }
 
-    // A load finds that number.
+    // A load finds the number of bytes that the list uses.
     ensures load { (scene : BumpScene) (live : List Chunk) (steps : List BumpStep) (party : ℕ)
         → OpensWith scene live → IsIdle (left_by scene steps) party
         → outcome_after scene steps (Load party)
@@ -96,7 +102,7 @@ pub fn bump_theorem()
         → scene.opening ≤ scene.region.size → IsInCall (left_by scene steps) party call
         → call.seen ≤ scene.region.size }
 
-    // At every step the list is sound: its chunks lie inside the region, and no two overlap.
+    // At every step the list is sound: its chunks are inside the region, and no two overlap.
     ensures sound { (scene : BumpScene) (live : List Chunk) (steps : List BumpStep)
         → OpensWith scene live
         → IsSound scene.region (live_after scene live steps) }
@@ -111,8 +117,8 @@ pub fn bump_theorem()
         → HasNoClear steps
         → live_after scene live steps ≡ live ++ chunks_won (history_of scene steps) }
 
-    // Each loss raises what a call has seen: if no clear came since the call began, an exchange that
-    // is lost finds a greater position than the call has seen.
+    // Each loss raises what a call has seen: if no clear came since the call began, an exchange
+    // that is lost finds a greater position than the call has seen.
     ensures raised { (scene : BumpScene) (before stretch : List BumpStep)
         (party position : ℕ) (call : OngoingCall)
         → scene.opening ≤ scene.region.size
@@ -121,8 +127,8 @@ pub fn bump_theorem()
         → IsLossAt position (outcome_after scene (before ++ stretch) (Exchange party))
         → call.seen < position }
 
-    // A call with no clear inside it loses at most one exchange for each byte of the region: so does a
-    // party that is idle, and begins at most one call, while no clear comes.
+    // A call during which no clear comes loses at most one exchange for each byte of the region. So
+    // does a party that is idle and begins at most one call while no clear comes.
     ensures losses { (scene : BumpScene) (before stretch : List BumpStep) (party : ℕ)
         → scene.opening ≤ scene.region.size
         → IsIdle (left_by scene before) party → HasNoClear stretch

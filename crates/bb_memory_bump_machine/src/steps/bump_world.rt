@@ -16,7 +16,7 @@ struct OngoingCall {
     seen: usize,
 }
 
-/// The answer of a party's step, and the position and the party's call after it.
+/// A party's step: its outcome, and the position and the party's call afterwards.
 #[derive(Clone, Copy)]
 struct PartyMove {
     outcome: BumpOutcome,
@@ -25,7 +25,7 @@ struct PartyMove {
 }
 
 impl PartyMove {
-    /// The party is idle afterwards.
+    /// Returns the move with this outcome and position after which the party is idle.
     fn ending(outcome: BumpOutcome, position: usize) -> PartyMove
         ensures { result ≡ ending outcome position }
     {
@@ -36,7 +36,8 @@ impl PartyMove {
         }
     }
 
-    /// The party is in a call for the layout afterwards, and has seen this position.
+    /// Returns the move with this outcome after which the party is in a call for the layout, and
+    /// has seen this position.
     fn seeing(outcome: BumpOutcome, position: usize, layout: Layout) -> PartyMove
         ensures { result ≡ seeing outcome position layout }
     {
@@ -48,7 +49,7 @@ impl PartyMove {
         }
     }
 
-    /// A read that finds this position.
+    /// Returns the move of a read that finds this position.
     fn of_read(start: usize, size: usize, position: usize, layout: Layout) -> PartyMove
         requires position { IsPositionIn (record { start = start; size = size }) position }
         requires asks { 0 < layout.size }
@@ -61,7 +62,7 @@ impl PartyMove {
         }
     }
 
-    /// An exchange that finds this position, by a party in this call.
+    /// Returns the move of an exchange that finds this position, by a party in this call.
     fn of_exchange(start: usize, size: usize, position: usize, call: OngoingCall) -> PartyMove
         requires position { IsPositionIn (record { start = start; size = size }) position }
         requires call { IsFitting (record { start = start; size = size }) call }
@@ -99,8 +100,9 @@ impl Model for BumpWorld {
 }
 
 impl BumpWorld {
-    /// Makes the machine over the region of `size` bytes at `start`, at position 0, with that many parties, all idle. The start
-    /// has to be greater than 0, and start plus size at most `usize::MAX`. Fails only if memory ran out.
+    /// Makes the machine over the region of `size` bytes at `start`, at position 0, with that many
+    /// parties, all idle. The start has to be greater than 0, and start plus size at most
+    /// `usize::MAX`. Fails only if memory ran out.
     pub fn new(
         alloc: Global,
         start: usize,
@@ -121,7 +123,7 @@ impl BumpWorld {
         })
     }
 
-    /// Takes one atomic step, and returns what it found. The call allocates no memory.
+    /// Takes one atomic step, and returns its outcome. The call allocates no memory.
     pub fn step(&mut self, step: BumpStep) -> BumpOutcome
         ensures { Steps self.old step result self.new }
     {
@@ -136,8 +138,8 @@ impl BumpWorld {
         }
     }
 
-    /// Takes the steps in order, and returns what each found. Memory for the results is reserved first: if it runs out, no
-    /// step is taken.
+    /// Takes the steps in order, and returns the outcome of each. Memory for the outcomes is
+    /// reserved first: if it runs out, no step is taken.
     pub fn replay(&mut self, steps: &[BumpStep]) -> Result<Vec<BumpOutcome>, AllocError>
         ensures { Replays self.old steps.now result self.new }
     {
@@ -149,7 +151,8 @@ impl BumpWorld {
         Ok(outcomes)
     }
 
-    /// Returns the position: how many bytes are used, from the region's start to the end of the last chunk, padding included.
+    /// Returns the position: how many bytes are used, from the region's start to the end of the
+    /// last chunk, padding included.
     pub fn used_space(&self) -> usize
         ensures { result ≡ self.now.state.position }
     {
@@ -180,8 +183,8 @@ impl BumpWorld {
         }
     }
 
-    /// Makes an exchange for a party in a call: if the position is the one that the call has seen, the end of the call's chunk
-    /// replaces it.
+    /// Makes an exchange for a party in a call: if the position is the one that the call has seen,
+    /// the end of the call's chunk replaces it.
     fn exchange(&mut self, party: usize) -> BumpOutcome
         ensures { Steps self.old (Exchange party) result self.new }
     {
@@ -207,8 +210,8 @@ impl BumpWorld {
     }
 }
 
-/// Returns `Some(None)` for an idle party, `Some(Some(call))` for one in a call, and `None` if the machine has no party of this
-/// number.
+/// Returns `Some(None)` for an idle party, `Some(Some(call))` for one in a call, and `None` if the
+/// machine has no party of this number.
 fn call_at(calls: &[Option<OngoingCall>], party: usize) -> Option<Option<OngoingCall>>
     ensures { result ≡ slice_get calls.now party }
 {

@@ -1,4 +1,4 @@
-// A model of a one chunk, with its region at any place.
+// A model of a one-chunk allocator, with its region at any place.
 #include "model.h"
 
 static bb_one_chunk one = BB_EMPTY;

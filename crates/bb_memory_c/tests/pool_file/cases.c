@@ -1,5 +1,5 @@
-// What bb_pool_file.h promises, case by case: `cases FOLDER..` runs each case in each folder, with
-// files that it removes. No case can fill a file system: the requests for pages go through
+// Tests what bb_pool_file.h promises, case by case: `cases FOLDER..` runs each case in each folder,
+// with files that it removes. No case can fill a file system: the requests for pages go through
 // `posix_fallocate` here.
 #define _GNU_SOURCE
 #include <errno.h>
@@ -64,6 +64,34 @@ int posix_fallocate(int fd, off_t at, off_t length) {
 // Whether the system maps pages a second time.
 static bool maps_again = true;
 
+// Which call of `mremap` or `mmap` that maps over something fails, counted from 1, or 0 for none,
+// and the error. What another thread has mapped by then at the addresses that the call unmapped
+// before it failed: nobody may touch it during the call.
+static uint32_t failing_mremap;
+static uint32_t failing_mmap;
+static int mapping_error;
+static unsigned char *others;
+static size_t others_size;
+
+// A pointer is as long as the result of a call of the system.
+static void *system_mmap(void *at, size_t size, int protection, int flags, int fd, off_t offset) {
+    return (void *)syscall(SYS_mmap, at, size, protection, flags, fd, offset);
+}
+
+// Fails. The system says EAGAIN before it unmaps anything, and other errors after that.
+static void *fail_over(void *to, size_t size) {
+    if (mapping_error != EAGAIN) {
+        const int private = MAP_PRIVATE | MAP_ANONYMOUS | MAP_FIXED;
+        others = system_mmap(to, size, PROT_READ | PROT_WRITE, private, -1, 0);
+        EXPECT(others == to);
+        others_size = size;
+        memset(others, 'x', size);
+        EXPECT(mprotect(others, size, PROT_NONE) == 0);
+    }
+    errno = mapping_error;
+    return MAP_FAILED;
+}
+
 void *mremap(void *old, size_t old_size, size_t size, int flags, ...) {
     va_list more;
     va_start(more, flags);
@@ -73,8 +101,15 @@ void *mremap(void *old, size_t old_size, size_t size, int flags, ...) {
         errno = EINVAL;
         return MAP_FAILED;
     }
-    // A pointer is as long as the result of a call of the system.
+    if ((flags & MREMAP_FIXED) != 0 && failing_mremap > 0 && --failing_mremap == 0)
+        return fail_over(to, size);
     return (void *)syscall(SYS_mremap, old, old_size, size, flags, to);
+}
+
+void *mmap(void *at, size_t size, int protection, int flags, int fd, off_t offset) {
+    if ((flags & MAP_FIXED) != 0 && failing_mmap > 0 && --failing_mmap == 0)
+        return fail_over(at, size);
+    return system_mmap(at, size, protection, flags, fd, offset);
 }
 
 static bb_pool_file *open_it(void) {
@@ -268,11 +303,11 @@ static void wrong_files(void) {
     foreign_file(bytes, sizeof bytes, BB_FILE_FOREIGN);
     memcpy(bytes, "bbpool\n\n", 8);
     foreign_file(bytes, sizeof bytes, BB_FILE_FOREIGN);
-    memcpy(bytes, "bbpool\r\n\2", 9);  // format 2
+    memcpy(bytes, "bbpool\r\n\1", 9);  // the format of 3.0.0
     foreign_file(bytes, sizeof bytes, BB_FILE_VERSION);
-    memcpy(bytes, "bbpool\r\n\1\0\0\0\3", 13);  // state 3
+    memcpy(bytes, "bbpool\r\n\2\0\0\0\3", 13);  // state 3
     foreign_file(bytes, sizeof bytes, BB_FILE_FOREIGN);
-    memcpy(bytes, "bbpool\r\n\1\0\0\0\2", 13);  // ready, with no buckets
+    memcpy(bytes, "bbpool\r\n\2\0\0\0\2", 13);  // ready, with no buckets
     write_file(path, bytes, sizeof bytes, 0);
     EXPECT(code_of(path, NULL) == BB_FILE_DAMAGED && code_of(path, &OPTIONS) == BB_FILE_MISMATCH);
     remove_it();
@@ -292,8 +327,8 @@ static void wrong_files(void) {
     EXPECT(fails_with(ENOENT, "/nowhere/pool", NULL));
 }
 
-// A file for which there is no room: nothing is requested if that is known before, and what was
-// requested is given back otherwise.
+// A file for which there is no room: if that is known beforehand, nothing is requested; otherwise
+// what was requested is given back.
 static void full(void) {
     bb_pool_file_options large = OPTIONS;
     struct stat stat_of;
@@ -437,7 +472,7 @@ static void stale(void) {
     remove_it();
 }
 
-// Any numbers of buckets and parties, and large alignments.
+// Various numbers of buckets and parties, and large alignments.
 static void layouts(void) {
     for (uint32_t buckets = 1; buckets < 80; buckets += buckets < 20 ? 1 : 7) {
         for (uint32_t parties = 1; parties < 80; parties += 13) {
@@ -512,8 +547,8 @@ static void release_plainly(void *context, void *block) {
     free(block);
 }
 
-// The library's requests for memory are refused one after the other. A refused call leaves no
-// block, and the next one succeeds.
+// The library's requests for memory fail one after the other. A call that fails leaks no block, and
+// the next one succeeds.
 static void refused_memory(void) {
     bb_pool_file *file = NULL;
     bb_pool_party *party = NULL;
@@ -543,6 +578,78 @@ static void refused_memory(void) {
     EXPECT(reap(file, false) == 2);
     close_it(file);
     EXPECT(blocks == 0);
+    bb_use_memory(allocate_plainly, release_plainly, NULL);
+    remove_it();
+}
+
+// Returns how many pages of addresses this process has.
+static size_t mapped_pages(void) {
+    char text[64] = "";
+    const int fd = open("/proc/self/statm", O_RDONLY | O_CLOEXEC);
+    EXPECT(fd >= 0 && read(fd, text, sizeof text - 1) > 0 && close(fd) == 0);
+    return (size_t)strtoull(text, NULL, 10);
+}
+
+// Unmaps what another thread has mapped, which is as it was, and returns how many bytes that were.
+static size_t unmap_others(void) {
+    const size_t size = others_size;
+    if (size > 0) {
+        EXPECT(mprotect(others, size, PROT_READ | PROT_WRITE) == 0);
+        for (size_t at = 0; at < size; at++)
+            if (others[at] != 'x')
+                EXPECT(false);
+        EXPECT(munmap(others, size) == 0);
+    }
+    others_size = 0;
+    return size;
+}
+
+// Opens a file of many buckets, uses it, and closes it. Returns how many bytes another thread has
+// mapped meanwhile. All other addresses are given back.
+static size_t opened_beside_others(const bb_pool_file_options *options) {
+    const size_t before = mapped_pages();
+    bb_pool_file *file;
+    requested = 0;
+    EXPECT(bb_pool_file_open(&file, path, options) == BB_OK);
+    take_one(join_it(file));
+    EXPECT(info_of(file).held == 1 && info_of(file).wrong == 0);
+    close_it(file);
+    remove_it();
+    const size_t size = unmap_others();
+    EXPECT(mapped_pages() == before);
+    return size;
+}
+
+// The system fails to map over the reserved addresses, having unmapped them, and another thread
+// takes them: they stay that thread's. With `mremap` the open goes on elsewhere. Without it the open
+// fails, and frees all else.
+static void addresses(void) {
+    const bb_pool_file_options options = {
+        .bucket_size = 1, .bucket_align = 1, .buckets = 100000, .parties = 3, .slots = 1};
+    bb_pool_file *file;
+    bb_use_memory(allocate, release, &blocks);
+    opened_beside_others(&options);
+    maps_again = false;
+    EXPECT(opened_beside_others(&options) == 0);
+    maps_again = true;
+    mapping_error = ENOMEM;
+    for (uint32_t at = 1; at <= 4; at++) {
+        failing_mremap = at;
+        EXPECT(opened_beside_others(&options) > 0 && failing_mremap == 0);
+    }
+    close_it(open_it());
+    const int errors[] = {ENOMEM, EPERM, EAGAIN};
+    for (int at = 0; at < 3; at++) {
+        mapping_error = errors[at];
+        for (uint32_t call = 1; call <= 2; call++) {
+            const size_t before = mapped_pages();
+            failing_mmap = call;
+            EXPECT(bb_pool_file_open(&file, path, &OPTIONS) == BB_FILE_SYSTEM);
+            EXPECT(errno == mapping_error && failing_mmap == 0);
+            EXPECT((unmap_others() > 0) == (mapping_error != EAGAIN));
+            EXPECT(mapped_pages() == before && blocks == 0);
+        }
+    }
     bb_use_memory(allocate_plainly, release_plainly, NULL);
     remove_it();
 }
@@ -603,7 +710,7 @@ static void many(bool again) {
     maps_again = true;
 }
 
-// Two opens of one process are as those of two processes.
+// Two opens by one process behave like those of two processes.
 static void parties(void) {
     bb_pool_file *one = open_it();
     bb_pool_file *two = open_it();
@@ -748,7 +855,7 @@ static void by_number(void) {
     remove_it();
 }
 
-// Of 4 processes that attach one number at once, one wins, each time.
+// Of 4 processes that attach the same number at the same time, exactly one wins, each time.
 static void one_wins(void) {
     enum {
         CHILDREN = 3,
@@ -1052,8 +1159,8 @@ enum {
     WAYS
 };
 
-// Starts a process that sleeps, in one of the ways, and returns it. It ends by itself if this test
-// fails.
+// Starts a process that sleeps, in one of several ways, and returns it. The process ends by itself
+// if this test fails.
 static pid_t start_by(int way) {
     char *argv[] = {"sleep", "20", NULL};
     char *none[] = {NULL};
@@ -1338,6 +1445,7 @@ int main(int argc, char **argv) {
         refused_memory();
         many(true);
         many(false);
+        addresses();
         parties();
         cached();
         slots();

@@ -1,6 +1,6 @@
-// Kills processes that share a pool in a file, each at an address of its own, and looks whether a
-// byte is wrong, a bucket lost, or a message missing. Only the processes clean up, when they join
-// and reap.
+// Kills processes that share a pool in a file, each at an address of its own, and checks that no
+// byte is wrong, no bucket is lost, and no message is missing. Only the processes clean up, when
+// they join and reap.
 //
 //     kills run FOLDER KILLS CACHED THREADS   workers are killed at random moments; each has that
 //                                             many threads, 1 or 2, with a party each

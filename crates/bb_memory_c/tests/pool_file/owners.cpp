@@ -1,4 +1,5 @@
-// `owners FILE`: what ends in C++ is given back, and messages are values.
+// `owners FILE` tests that objects of C++ give back what they own when they end, and that messages
+// are values.
 #include <cstdio>
 #include <cstdlib>
 #include <cstring>

@@ -47,15 +47,15 @@
 
 #include "bb_pool_file.h"
 
-// The pool, and where its words are in the file: after a page for the header come 8 words that are
-// no flag, and then the flags. After their page comes a line of events, and then the slots.
+// The pool, and where its words are in the file: after a page for the header come 16 words that
+// are no flag, and then the flags. After their page comes a line of events, and then the slots.
 enum {
     PARTIES = 4,
     SLOTS = 3,
     BUCKETS = 8,
     SIZE = 64,
     PAGE = 4096,
-    FIRST_FLAG = 8,
+    FIRST_FLAG = 16,
     FIRST_SLOT = (PAGE + 64) / 8,
     WORDS_IN_SLOT = 8,
     // The byte of the file whose lock is that of number 0.

@@ -1,4 +1,4 @@
-//! The steps of the machine of a pool in a file, and what holds of every list of them.
+//! The steps of the machine of a pool in a file, and the theorem about every list of them.
 ghost use Rattle.bb_memory_file_machine.specs.FileLaws.{AreSettled, CanSettle, Effect, HasAttached, HasReceived, IsAccountedFor, IsFlag, IsHolder, IsIn, IsInCallBy, IsInSome, IsKnown, IsLock, IsPlace, IsSettling, IsSlot, SaysDone, StaysIn, after_post};
 ghost use Rattle.bb_memory_file_machine.specs.FileMachine.{DetachedBy, Ending, FileScene, FileStep, Free, Message, OnSlot, Place, Post, Receives, Settled, file_after, file_step, left_by, outcomes_of, process_of};
 ghost use Rattle.bb_memory_file_machine.specs.FilePool.{IsPool, IsTaken, flag_steps, pool_of};
@@ -19,8 +19,8 @@ pub enum Slot {
     Message { bucket: u32, length: u32 },
 }
 
-/// How far a process has come in the call that it is in, with what it has read there. Each call is by one party number, whose
-/// lock the process has.
+/// The progress of a process in its current call, with what the process has read there. Each call
+/// is made by one party number, whose lock the process has.
 #[derive(Debug, Clone, Copy, PartialEq, Eq)]
 pub enum Place {
     /// The process is in no call.
@@ -32,7 +32,8 @@ pub enum Place {
         party: u32,
         bucket: u32,
     },
-    /// A post has detached its bucket. Next it addresses the bucket to the number that nobody joins.
+    /// A post has detached its bucket. Next it addresses the bucket to the number that nobody
+    /// joins.
     Sent {
         party: u32,
         bucket: u32,
@@ -51,7 +52,8 @@ pub enum Place {
         bucket: u32,
         length: u32,
     },
-    /// A take has found another word in its slot at the second look. Next it detaches the bucket again.
+    /// A take has found another word in its slot at the second look. Next it detaches the bucket
+    /// again.
     Late {
         party: u32,
         bucket: u32,
@@ -79,35 +81,39 @@ pub enum Place {
         slot: u32,
         bucket: u32,
     },
-    /// A settler has found that the bucket in the slot is held by the settled number. Next it detaches the bucket.
+    /// A settler has found that the bucket in the slot is held by the settled number. Next it
+    /// detaches the bucket.
     Keeping {
         party: u32,
         slot: u32,
         bucket: u32,
     },
-    /// The bucket that a settler has found in the slot is detached by the settled number. Next the settler addresses it to the
-    /// number that nobody joins.
+    /// The bucket that a settler has found in the slot is detached by the settled number. Next the
+    /// settler addresses it to the number that nobody joins.
     Addressing {
         party: u32,
         slot: u32,
         bucket: u32,
     },
-    /// A settler has been over all slots, and goes over the flags. Next it gives back this bucket if the settled number holds it.
+    /// A settler has been over all slots, and goes over the flags. Next it gives back this bucket
+    /// if the settled number holds it.
     Flags {
         party: u32,
         bucket: u32,
     },
-    /// A settler has been over all flags. Next it keeps the lock, as one that joins does, or frees it.
+    /// A settler has been over all flags. Next it keeps the lock, as one that joins does, or frees
+    /// it.
     Settled {
         party: u32,
     },
 }
 
-/// One atomic step of a process over the words and locks of the file. `process` takes the step, and `party` is the number by
-/// which it does so.
+/// One atomic step of a process over the words and locks of the file. `process` takes the step, and
+/// `party` is the number by which it does so.
 #[derive(Debug, Clone, Copy, PartialEq, Eq)]
 pub enum FileStep {
-    /// The process, which is in no call, takes the free lock of the number and begins to settle the number.
+    /// The process, which is in no call, takes the free lock of the number and begins to settle the
+    /// number.
     Lock {
         process: u32,
         party: u32,
@@ -129,14 +135,14 @@ pub enum FileStep {
         party: u32,
         bucket: u32,
     },
-    /// The party detaches a bucket that it holds. If the bucket is in no slot, a channel outside knows its number then.
-    /// Otherwise the party puts back a message.
+    /// The party detaches a bucket that it holds. If the bucket is in no slot, a channel outside
+    /// the file knows its number from then on. Otherwise the party puts back a message.
     DetachNumber {
         process: u32,
         party: u32,
         bucket: u32,
     },
-    /// The party attaches a bucket by its number, which the party `from` has detached.
+    /// The party attaches, by its number, a bucket that the party `from` has detached.
     AttachNumber {
         process: u32,
         party: u32,
@@ -157,7 +163,8 @@ pub enum FileStep {
         party: u32,
         slot: u32,
     },
-    /// In a take the process attaches the bucket that it has seen, which the party `from` has detached.
+    /// In a take the process attaches the bucket that it has seen, which the party `from` has
+    /// detached.
     Exchange {
         process: u32,
         from: u32,
@@ -168,7 +175,8 @@ pub enum FileStep {
         party: u32,
         slot: u32,
     },
-    /// A settler that has been over all slots attaches a bucket that the settled number had detached.
+    /// A settler that has been over all slots attaches a bucket that the settled number had
+    /// detached.
     Recover {
         process: u32,
         bucket: u32,
@@ -177,7 +185,8 @@ pub enum FileStep {
     Next {
         process: u32,
     },
-    /// A settler that is done, or that has not looked at a slot yet, frees the lock of the settled number.
+    /// A settler that is done, or that has not looked at a slot yet, frees the lock of the settled
+    /// number.
     Unlock {
         process: u32,
     },
@@ -197,14 +206,15 @@ pub enum FileStep {
 pub enum FileOutcome {
     /// The step isn't allowed. It changed nothing.
     Refused,
-    /// Only how far the process has come changed.
+    /// Only the progress of the process changed.
     Moves,
-    /// The process has received the message of this slot, whose bucket its party holds. No word and no lock changed.
+    /// The process has received the message of this slot, whose bucket its party holds. No word and
+    /// no lock changed.
     Receives(u32),
-    /// A flag changed, as by this step of the machine of a shared pool.
+    /// A flag changed, as in this step of the machine of a shared pool.
     OnFlag(PoolStep),
-    /// The flag of a bucket, which the party `from` had detached, changed. Now the bucket is detached by the number `to`, which
-    /// nobody joins.
+    /// The flag of a bucket that the party `from` had detached changed. The bucket now counts as
+    /// detached by the number `to`, which nobody joins.
     Addresses { bucket: u32, from: u32, to: u32 },
     /// The word of this slot changed.
     OnSlot(u32),
@@ -214,12 +224,15 @@ pub enum FileOutcome {
     Dies,
 }
 
-/// The law of each list of steps that any number of processes take over the words and locks of a pool in a file, from the
-/// opening. It does nothing: its contract is the theorem.
+/// States what holds for each list of steps that any number of processes take over the words and
+/// locks of a pool in a file, from the opening. The function does nothing: its contract is the
+/// theorem.
 ///
-/// A process can be killed after each step. As each clause holds of every list of steps, it holds of each beginning of a list.
+/// A process can be killed after any step. As each clause holds for every list of steps, it holds
+/// for each beginning of a list.
 pub fn file_theorem()
-    // Each step of a process has one of the effects: it changes at most one flag, one slot or one lock.
+    // Each step of a process has one of the effects: it changes at most one flag, one slot or one
+    // lock.
     ensures effect { (scene : FileScene) (steps : List FileStep) (step : FileStep) (place : Place)
         → IsPlace (left_by scene steps) (process_of step) place
         → (let state = left_by scene steps in
@@ -231,25 +244,27 @@ pub fn file_theorem()
         → IsHolder (left_by scene steps).words bucket party
         → IsHolder (left_by scene steps).words bucket other → party ≡ other }
 
-    // No step of another process takes a bucket from a party whose lock a process has.
+    // If a process has a party's lock, no step of another process takes a bucket from that party.
     ensures kept { (scene : FileScene) (steps : List FileStep) (step : FileStep) (process party bucket : ℕ)
         → IsLock (left_by scene steps).words party process
         → IsHolder (left_by scene steps).words bucket party → process_of step ≢ process
         → IsHolder (file_step (left_by scene steps) step).state.words bucket party }
 
-    // A process that has received a message holds its bucket, which is in the slot.
+    // When a process receives a message, one of its parties holds the message's bucket, which is in
+    // the slot.
     ensures received { (scene : FileScene) (steps : List FileStep) (step : FileStep) (slot : ℕ)
         → (file_step (left_by scene steps) step).outcome ≡ Receives slot
         → HasReceived (left_by scene steps) step slot }
 
-    // A message stays in its slot until a process whose party holds the bucket says that it is done.
+    // A message stays in its slot until a process whose party holds the bucket says that it is done
+    // with the message.
     ensures stays { (scene : FileScene) (steps : List FileStep) (step : FileStep) (slot bucket size : ℕ)
         → IsSlot (left_by scene steps).words slot (Message bucket size)
         → (IsSlot (file_step (left_by scene steps) step).state.words slot (Message bucket size)
         ⊎ SaysDone (left_by scene steps) step slot bucket) }
 
-    // The party by which a process says that it is done with a message has attached its bucket since the post: until a
-    // party has taken it, a message stays in its slot.
+    // The party by which a process says that it is done with a message has attached its bucket
+    // since the post: until a party has taken it, a message stays in its slot.
     ensures taker { (scene : FileScene) (before after : List FileStep)
         (process party slot bucket size other taker : ℕ)
         → (let post = Post process party slot bucket size in
@@ -258,7 +273,7 @@ pub fn file_theorem()
         → IsPlace (file_after (after_post scene before post) after) other (Ending taker slot bucket)
         → HasAttached (outcomes_of (after_post scene before post) after) taker bucket) }
 
-    // A bucket is in one slot at most.
+    // A bucket is in at most one slot.
     ensures one_slot { (scene : FileScene) (steps : List FileStep) (bucket slot other : ℕ)
         → IsIn (left_by scene steps).words bucket slot
         → IsIn (left_by scene steps).words bucket other → slot ≡ other }
@@ -268,7 +283,7 @@ pub fn file_theorem()
         → IsInSome (left_by scene steps).words bucket
         → ¬ IsFlag (left_by scene steps).words bucket Free }
 
-    // Some slot or a channel outside knows the number of a detached bucket.
+    // The number of a detached bucket is known: some slot has it, or a channel outside the file.
     ensures known { (scene : FileScene) (steps : List FileStep) (bucket party : ℕ)
         → IsFlag (left_by scene steps).words bucket (DetachedBy party)
         → IsKnown (left_by scene steps).words bucket }
@@ -278,8 +293,8 @@ pub fn file_theorem()
         → IsPlace (left_by scene steps) process (Settled party)
         → ¬ IsHolder (left_by scene steps).words bucket party }
 
-    // When a settler is done, no bucket in a slot is detached by the settled number: its messages are addressed to the number
-    // that nobody joins.
+    // When a settler is done, no bucket in a slot is detached by the settled number: its messages
+    // are addressed to the number that nobody joins.
     ensures addressed { (scene : FileScene) (steps : List FileStep) (process party bucket slot : ℕ)
         → IsPlace (left_by scene steps) process (Settled party)
         → IsIn (left_by scene steps).words bucket slot
@@ -290,14 +305,14 @@ pub fn file_theorem()
         → IsSettling (left_by scene steps) process party
         → CanSettle (left_by scene steps) process party }
 
-    // Nothing is lost: if the numbers of dead parties are settled, each bucket is free, held by a living party, or
-    // detached with a number that some slot or a channel outside knows.
+    // Nothing is lost: if the numbers of dead parties are settled, each bucket is free, held by a
+    // living party, or detached with a number that some slot or a channel outside the file knows.
     ensures nothing_lost { (scene : FileScene) (steps : List FileStep) (bucket : ℕ)
         → AreSettled (left_by scene steps) → bucket < scene.buckets
         → IsAccountedFor (left_by scene steps) bucket }
 
-    // Two processes are never in calls by one number: so no two settle one number, nor does one settle a number by which
-    // another is in a call.
+    // No two processes are in calls by the same number. So no two settle the same number, and none
+    // settles a number by which another is in a call.
     ensures one_process { (scene : FileScene) (steps : List FileStep) (process other party : ℕ)
         → IsInCallBy (left_by scene steps) process party
         → IsInCallBy (left_by scene steps) other party → process ≡ other }
@@ -307,13 +322,15 @@ pub fn file_theorem()
         → IsInCallBy (left_by scene steps) process party
         → IsLock (left_by scene steps).words party process }
 
-    // The flags are those of a shared pool whose parties are the file's numbers: each step on a flag is one that it
-    // allows. What a settler gives back for a dead party is that party's return.
+    // The flags are those of a shared pool whose parties are the file's numbers: each step on a
+    // flag is one that the machine of such a pool allows. What a settler gives back for a dead
+    // party is that party's return.
     ensures pool { (scene : FileScene) (steps : List FileStep) (geometry : PoolGeometry)
         → geometry.buckets ≡ scene.buckets → IsPool scene steps geometry }
 
-    // The takings and returns are a run of the pool object from the empty list, whichever layouts within the bucket's
-    // size and alignment are requested. They are the file's if the geometry has the scene's number of buckets (`pool`).
+    // The takings and returns are a run of the pool object from the empty list, for any requested
+    // layouts within the bucket's size and alignment. They are those of the file if the geometry
+    // has the scene's number of buckets (`pool`).
     ensures run { (scene : FileScene) (steps : List FileStep) (geometry : PoolGeometry) (layouts : List Layout)
         → IsPoolGeometry geometry → AreAsked geometry (flag_steps scene steps) layouts
         → (live : List Chunk) × IsPoolRun (pool_of scene geometry) (flag_steps scene steps) layouts live }
@@ -324,17 +341,19 @@ pub fn file_theorem()
         → IsPoolRun (pool_of scene geometry) (flag_steps scene steps) layouts live → bucket < scene.buckets
         → (IsTaken (left_by scene steps).words bucket ↔ IsHeld geometry live bucket) }
 
-    // That list is sound: its chunks are inside the region, and no two overlap.
+    // The list that such a run leaves is sound: its chunks are inside the region, and no two
+    // overlap.
     ensures sound { (scene : FileScene) (steps : List FileStep) (geometry : PoolGeometry) (layouts : List Layout)
         (live : List Chunk) → IsPoolGeometry geometry
         → IsPoolRun (pool_of scene geometry) (flag_steps scene steps) layouts live
         → IsSound geometry.region live }
 {}
 
-/// The law of the protocols that differ from the machine's at one step: with each of them something goes wrong. It does nothing:
-/// its contract is the law.
+/// States what goes wrong with each of several protocols that differ from the machine's at one
+/// step. The function does nothing: its contract is the law.
 pub fn file_variants_theorem()
-    // A settler that attaches a detached bucket, whoever has detached it, gives back one that is in a slot.
+    // A settler that attaches a detached bucket, whoever has detached it, gives back one that is in
+    // a slot.
     ensures attach_from_any { FreesMessage attach_from_any }
 
     // A take that doesn't look at its slot again receives a message from an empty slot.
@@ -343,15 +362,19 @@ pub fn file_variants_theorem()
     // A settler that doesn't go over the slots gives back a bucket that is in one.
     ensures settle_forgets_slots { FreesMessage settle_forgets_slots }
 
-    // A settler that doesn't address the messages of the settled number gives back a bucket that is in a slot.
+    // A settler that doesn't address the messages of the settled number gives back a bucket that is
+    // in a slot.
     ensures settle_addresses_not { FreesMessage settle_addresses_not }
 
-    // A post that detaches before it fills the slot loses the bucket if its process is killed in between.
+    // A post that detaches before it fills the slot loses the bucket if its process is killed in
+    // between.
     ensures detach_then_post { LosesBucket detach_then_post }
 
-    // A process that settles a number whose lock another process has takes away that process's buckets.
+    // A process that settles a number whose lock another process has takes away that process's
+    // buckets.
     ensures reaps_the_living { TakesAway reaps_the_living }
 
-    // A process that leaves, and frees the lock before it settles the number, shares the number with the next process.
+    // A process that leaves, and frees the lock before it settles the number, shares the number
+    // with the next process.
     ensures unlock_before { SharesNumber unlock_before }
 {}

@@ -1,4 +1,5 @@
-//! The machine of a pool in a file that can be run: the words and locks, and how far each process has come.
+//! A machine of a pool in a file that can be run: the words and locks, and the progress of each
+//! process.
 ghost use Rattle.bb_memory_file_machine.specs.FileMachine.{Checking, Flags, Slots, addressing, after_slot, allocate, attach_number, attaching, begin_done, begin_take, deallocate, detach_number, detaching, exchange, giving_back, has_bucket, is_flag, is_own, is_slot, kill, leave, lock, may_call, move_at, move_of, next, nobody, opening_state, post, process_of, recover, release, same_flag, same_slot, some_has, unlock, with_flag, with_lock, with_slot};
 ghost use Rattle.bb_memory_file_machine.specs.FileWorld.{FileWorld, IsFileWorld, IsMove, Replays, Steps, world_of};
 ghost use Rattle.std.specs.Prelude.{IfOk, IsSome, length, slice_get, slice_set, ◌<◌, ◌≡◌};
@@ -8,7 +9,7 @@ use bb_memory_pool_machine::steps::{Flag, PoolStep};
 use std::alloc::{AllocError, Global};
 use std::marker::Model;
 
-/// The machine of a pool in a file, with its processes. No step takes memory.
+/// The machine of a pool in a file, with its processes. No step allocates memory.
 #[derive(Drop)]
 pub struct FileWorld {
     alloc: Global,
@@ -28,8 +29,9 @@ impl Model for FileWorld {
 }
 
 impl FileWorld {
-    /// Makes the machine over that many buckets, slots and party numbers, with that many processes, all in no call. It fails only
-    /// if memory runs out.
+    /// Makes the machine over that many buckets, slots and party numbers, with that many processes,
+    /// none of them in a call. All flags and locks are free, and all slots are empty. Fails only if
+    /// memory ran out.
     pub fn new(
         alloc: Global,
         buckets: u32,
@@ -59,7 +61,8 @@ impl FileWorld {
         })
     }
 
-    /// Takes one atomic step, and returns which word or lock it changed.
+    /// Takes one atomic step, and returns its outcome: which word or lock it changed. The call
+    /// allocates no memory.
     pub fn step(&mut self, step: FileStep) -> FileOutcome
         ensures { Steps self.old step result self.new }
     {
@@ -72,8 +75,8 @@ impl FileWorld {
         outcome
     }
 
-    /// Takes the steps in order, and returns what each changed. The memory for the outcomes is reserved first: if that fails,
-    /// no step is taken.
+    /// Takes the steps in order, and returns the outcome of each. Memory for the outcomes is
+    /// reserved first: if it runs out, no step is taken.
     pub fn replay(&mut self, steps: &[FileStep]) -> Result<Vec<FileOutcome>, AllocError>
         ensures { Replays self.old steps.now result self.new }
     {
@@ -99,21 +102,24 @@ impl FileWorld {
         found_at(&self.slots, slot as usize)
     }
 
-    /// Returns the lock of the number, which is free or some process's, or `None` if there is no such number.
+    /// Returns the lock of the number: `Some(None)` if the lock is free, `Some(Some(process))` if a
+    /// process has it, and `None` if there is no such number.
     pub fn lock(&self, party: u32) -> Option<Option<u32>>
         ensures { result ≡ slice_get self.now.words.locks party }
     {
         found_at(&self.locks, party as usize)
     }
 
-    /// Returns how far the process has come in the call that it is in, or `None` if there is no such process.
+    /// Returns the progress of the process in its current call, or `None` if there is no such
+    /// process.
     pub fn place(&self, process: u32) -> Option<Place>
         ensures { result ≡ slice_get self.now.places process }
     {
         found_at(&self.places, process as usize)
     }
 
-    /// Moves a process by its step.
+    /// Makes a process at this place take its step. Returns the outcome, and the process's new
+    /// place.
     fn move_at(&mut self, place: Place, step: FileStep) -> (FileOutcome, Place)
         ensures { IsMove self.old (move_at self.old.words place step) result.0 result.1 self.new }
     {
@@ -167,7 +173,7 @@ impl FileWorld {
         }
     }
 
-    /// A process takes the lock of a number, and begins to settle the number.
+    /// Makes a process take the lock of a number, and begin to settle the number.
     fn take_lock(&mut self, process: u32, place: Place, party: u32) -> (FileOutcome, Place)
         ensures { IsMove self.old (lock self.old.words process place party) result.0 result.1 self.new }
     {
@@ -181,7 +187,7 @@ impl FileWorld {
         (FileOutcome::OnLock(party), Place::Slots { party, slot: 0 })
     }
 
-    /// A process begins to settle a number whose lock it has.
+    /// Makes a process begin to settle a number whose lock it has.
     fn leave(&mut self, process: u32, place: Place, party: u32) -> (FileOutcome, Place)
         ensures { IsMove self.old (leave self.old.words process place party) result.0 result.1 self.new }
     {
@@ -192,7 +198,7 @@ impl FileWorld {
         }
     }
 
-    /// A party takes a free bucket.
+    /// Makes a party take a free bucket.
     fn allocate(
         &mut self,
         process: u32,
@@ -215,7 +221,7 @@ impl FileWorld {
         )
     }
 
-    /// A party gives back a bucket that it holds, and that is in no slot.
+    /// Makes a party give back a bucket that it holds, and that is in no slot.
     fn deallocate(
         &mut self,
         process: u32,
@@ -241,7 +247,7 @@ impl FileWorld {
         )
     }
 
-    /// A party detaches a bucket that it holds.
+    /// Makes a party detach a bucket that it holds.
     fn detach_number(
         &mut self,
         process: u32,
@@ -267,7 +273,7 @@ impl FileWorld {
         )
     }
 
-    /// A party attaches a bucket by its number.
+    /// Makes a party attach a bucket by its number.
     fn attach_number(
         &mut self,
         process: u32,
@@ -296,7 +302,7 @@ impl FileWorld {
         )
     }
 
-    /// A party fills an empty slot with a bucket that it holds, and that is in no slot.
+    /// Makes a party fill an empty slot with a bucket that it holds, and that is in no slot.
     fn post(
         &mut self,
         process: u32,
@@ -325,7 +331,7 @@ impl FileWorld {
         (FileOutcome::OnSlot(slot), Place::Posting { party, bucket })
     }
 
-    /// A party begins a take: it looks at the slot.
+    /// Makes a party begin a take, in which it looks at the slot.
     fn begin_take(
         &mut self,
         process: u32,
@@ -352,7 +358,7 @@ impl FileWorld {
         }
     }
 
-    /// In a take a process attaches the bucket that it has seen.
+    /// Makes a process in a take attach the bucket that it has seen.
     fn exchange(&mut self, place: Place, from: u32) -> (FileOutcome, Place)
         ensures { IsMove self.old (exchange self.old.words place from) result.0 result.1 self.new }
     {
@@ -384,7 +390,7 @@ impl FileWorld {
         )
     }
 
-    /// A party begins a `done`: it looks at the slot.
+    /// Makes a party begin a `done`, in which it looks at the slot.
     fn begin_done(
         &mut self,
         process: u32,
@@ -410,7 +416,8 @@ impl FileWorld {
         }
     }
 
-    /// A settler that has been over all slots attaches a bucket that the settled number had detached.
+    /// Makes a settler that has been over all slots attach a bucket that the settled number had
+    /// detached.
     fn recover(&mut self, place: Place, bucket: u32) -> (FileOutcome, Place)
         ensures { IsMove self.old (recover self.old.words place bucket) result.0 result.1 self.new }
     {
@@ -432,7 +439,7 @@ impl FileWorld {
         )
     }
 
-    /// A process takes the next step of the call that it is in.
+    /// Makes a process take the next step of the call that it is in.
     fn next(&mut self, place: Place) -> (FileOutcome, Place)
         ensures { IsMove self.old (next self.old.words place) result.0 result.1 self.new }
     {
@@ -513,7 +520,8 @@ impl FileWorld {
         }
     }
 
-    /// A settler that is done, or that has not looked at a slot yet, frees the lock of the settled number.
+    /// Makes a settler that is done, or that hasn't looked at a slot yet, free the lock of the
+    /// settled number.
     fn unlock(&mut self, place: Place) -> (FileOutcome, Place)
         ensures { IsMove self.old (unlock self.old.words place) result.0 result.1 self.new }
     {
@@ -526,7 +534,7 @@ impl FileWorld {
         }
     }
 
-    /// The system frees a lock that a dead process had.
+    /// Frees a lock that a dead process had, as the system does.
     fn release(&mut self, process: u32, place: Place, party: u32) -> (FileOutcome, Place)
         ensures { IsMove self.old (release self.old.words process place party) result.0 result.1 self.new }
     {
@@ -543,7 +551,7 @@ impl FileWorld {
         }
     }
 
-    /// A party detaches a bucket.
+    /// Makes a party detach a bucket.
     fn detach(&mut self, party: u32, bucket: u32, next: Place) -> (FileOutcome, Place)
         ensures { IsMove self.old (detaching self.old.words party bucket next) result.0 result.1 self.new }
     {
@@ -554,7 +562,8 @@ impl FileWorld {
         )
     }
 
-    /// A party addresses a bucket that it has detached to the number that nobody joins, unless another party has attached it.
+    /// Makes a party address a bucket that it has detached to the number that nobody joins, unless
+    /// another party has attached the bucket.
     fn address(&mut self, party: u32, bucket: u32, next: Place) -> (FileOutcome, Place)
         ensures { IsMove self.old (addressing self.old.words party bucket next) result.0 result.1 self.new }
     {
@@ -574,7 +583,7 @@ impl FileWorld {
         )
     }
 
-    /// A settler looks at a slot.
+    /// Makes a settler look at a slot.
     fn settle_slot(&mut self, party: u32, slot: u32) -> (FileOutcome, Place)
         ensures { IsMove self.old (next self.old.words (Slots party slot)) result.0 result.1 self.new }
     {
@@ -593,7 +602,8 @@ impl FileWorld {
         (FileOutcome::Moves, place)
     }
 
-    /// A settler looks whether the settled number holds the bucket that was in the slot, or has detached it.
+    /// Makes a settler check whether the settled number holds the bucket that was in the slot, or
+    /// has detached it.
     fn check_slot(&mut self, party: u32, slot: u32, bucket: u32) -> (FileOutcome, Place)
         ensures { IsMove self.old (next self.old.words (Checking party slot bucket)) result.0 result.1 self.new }
     {
@@ -621,7 +631,7 @@ impl FileWorld {
         }
     }
 
-    /// A settler gives back the bucket if the settled number holds it.
+    /// Makes a settler give back the bucket if the settled number holds it.
     fn settle_flag(&mut self, party: u32, bucket: u32) -> (FileOutcome, Place)
         ensures { IsMove self.old (next self.old.words (Flags party bucket)) result.0 result.1 self.new }
     {
@@ -669,7 +679,7 @@ impl FileWorld {
         set_at(&mut self.flags, bucket as usize, flag);
     }
 
-    /// Returns true if the process is in no call and has the lock of this number.
+    /// Returns whether the process is in no call and has the lock of this number.
     fn may_call(&self, process: u32, place: Place, party: u32) -> bool
         ensures { result ≡ may_call self.now.words process place party }
     {
@@ -679,7 +689,7 @@ impl FileWorld {
         }
     }
 
-    /// Returns true if the process has the lock of this number.
+    /// Returns whether the process has the lock of this number.
     fn is_own(&self, process: u32, party: u32) -> bool
         ensures { result ≡ is_own self.now.words process party }
     {
@@ -689,7 +699,7 @@ impl FileWorld {
         }
     }
 
-    /// Returns true if there is such a bucket, and its flag is this one.
+    /// Returns whether there is such a bucket and its flag is this one.
     fn is_flag(&self, bucket: u32, flag: Flag) -> bool
         ensures { result ≡ is_flag self.now.words bucket flag }
     {
@@ -699,7 +709,7 @@ impl FileWorld {
         }
     }
 
-    /// Returns true if there is such a slot, and its word is this one.
+    /// Returns whether there is such a slot and its word is this one.
     fn is_slot(&self, slot: u32, word: Slot) -> bool
         ensures { result ≡ is_slot self.now.words slot word }
     {
@@ -710,7 +720,7 @@ impl FileWorld {
     }
 }
 
-/// Returns true if two flags are the same.
+/// Returns whether two flags are the same.
 fn same_flag(one: Flag, other: Flag) -> bool
     ensures { result ≡ same_flag one other }
 {
@@ -722,7 +732,7 @@ fn same_flag(one: Flag, other: Flag) -> bool
     }
 }
 
-/// Returns true if two words of slots are the same.
+/// Returns whether two words of slots are the same.
 fn same_slot(one: Slot, other: Slot) -> bool
     ensures { result ≡ same_slot one other }
 {
@@ -739,7 +749,7 @@ fn same_slot(one: Slot, other: Slot) -> bool
     }
 }
 
-/// Returns true if the word has a message in this bucket.
+/// Returns whether the word is that of a message in this bucket.
 fn has_bucket(bucket: u32, word: Slot) -> bool
     ensures { result ≡ has_bucket bucket word }
 {
@@ -752,7 +762,7 @@ fn has_bucket(bucket: u32, word: Slot) -> bool
     }
 }
 
-/// Returns true if some slot of these has a message in this bucket.
+/// Returns whether one of these slots has a message in this bucket.
 fn some_has(bucket: u32, slots: &[Slot]) -> bool
     ensures { result ≡ some_has bucket slots.now }
 {

@@ -1,16 +1,19 @@
-//! A set of numbers as an array of flags, with an array of the numbers that aren't in it. The set allocates no memory.
+//! A set of numbers as an array of flags, with an array of the numbers that aren't in the set. The
+//! set allocates no memory.
 ghost use Rattle.bb_memory_index_set.specs.IndexSets.{AreFlags, IsTally, NumberSet, fresh_set, number_set};
 ghost use Rattle.std.specs.Prelude.{min, take, ◌-◌, ◌≡◌, ◌≤◌};
 
 use crate::index_set::{Counter, IndexSet};
 use std::marker::Model;
 
-/// A flag for each number. The first entries of an array are the numbers below the bound that aren't in the set; the other
-/// entries are never read.
+/// A flag for each number. The first entries of an array are the numbers below the bound that
+/// aren't in the set; the other entries are never read.
 ///
-/// A taking returns the number that was given back last, which no clause promises, and sets its flag. It doesn't search.
+/// `take` returns the number that was released last, and sets its flag, without a search. No clause
+/// promises which number is returned.
 ///
-/// `left` numbers aren't in the set, and at all times at least `least` numbers weren't.
+/// `left` is how many numbers aren't in the set, and `least` is the least value that `left` has had
+/// so far.
 #[derive(Drop)]
 #[derive_where(Debug)]
 pub struct Flags<const N: usize> {
@@ -50,7 +53,7 @@ impl<const N: usize> Flags<N> {
     }
 }
 
-/// Sets the least number so far to this one if this one is less, and otherwise writes nothing.
+/// Lowers `least` to `number` if that is less, and otherwise writes nothing.
 #[inline(always)]
 fn lower(least: &mut usize, number: usize)
     ensures { least.new ≡ min least.old number }
@@ -80,7 +83,7 @@ impl<const N: usize> IndexSet for Flags<N> {
         Some(number)
     }
 
-    /// Makes the next taking return this number.
+    /// Removes the number. The next `take` returns it.
     #[inline(always)]
     fn release(&mut self, number: usize) {
         let left = self.left;

@@ -1,7 +1,7 @@
 //! Words of 64 bits that a search reads only through a counter, and a list of some of them.
 //!
-//! The calls that return a word and count a read are in one module: no other code can raise a counter, though any code may make
-//! a new one.
+//! The calls that return a word and count a read are in one module: no other code can raise a
+//! counter, though any code may make a new one.
 ghost use Rattle.bb_memory_index_set.specs.IndexSets.{PutsAt, SetsBit, Slots, has_bit, slots_of};
 ghost use Rattle.std.specs.Prelude.{IfOk, IsFalse, IsTrue, false, length, replicate, slice_index, slice_set, ℕ, ◌+◌, ◌-◌, ◌/◌, ◌<◌, ◌^◌, ◌≡◌, ◌≢◌, ◌≤◌};
 
@@ -38,10 +38,11 @@ impl Counter {
     }
 }
 
-/// Words, and after them, in the same memory, a list with an entry for each word except one. Number n is bit n % 64 of word n /
-/// 64, counted from the lowest.
+/// Words, and after them, in the same memory, a list with an entry for each word except one. Number
+/// n is bit n % 64 of word n / 64, counted from the lowest.
 ///
-/// A search reads a word only by [`IndexWords::word`]. A release changes a bit in place, and `has` reads one.
+/// A search reads a word only by [`IndexWords::word`]. A release changes a bit in place, and `has`
+/// reads one.
 #[derive(Drop)]
 pub struct IndexWords<A: Allocator> {
     slots: Vec<u64, A>,
@@ -57,7 +58,8 @@ impl<A: Allocator> Model for IndexWords<A> {
 }
 
 impl<A: Allocator> IndexWords<A> {
-    /// Makes `len` words, all zero, and room for the list: eight bytes for each. Fails only if memory ran out.
+    /// Makes `len` words, all zero, and room for the list: eight bytes for each. Fails only if
+    /// memory ran out.
     pub fn new(alloc: A, len: usize) -> Result<Self, AllocError>
         requires { len < 2 ^ 32 }
         ensures zero { IfOk result (λ slots. slots.words ≡ replicate len 0) }
@@ -89,7 +91,7 @@ impl<A: Allocator> IndexWords<A> {
         self.slots[i] = word;
     }
 
-    /// Returns the bit of a number. The word is read in place, and not counted.
+    /// Returns the bit of a number. The word is read in place, and the read isn't counted.
     #[inline(always)]
     pub fn has(&self, number: usize) -> bool
         requires { number / 64 < length self.now.words }
@@ -98,7 +100,7 @@ impl<A: Allocator> IndexWords<A> {
         self.slots[number / 64] >> (number % 64) & 1 == 1
     }
 
-    /// Returns whether a word isn't full. The word is read in place, and not counted.
+    /// Returns whether a word isn't full. The word is read in place, and the read isn't counted.
     #[inline(always)]
     pub fn is_open(&self, at: usize) -> bool
         requires { at < length self.now.words }

@@ -10,17 +10,20 @@ use std::marker::Model;
 /// Represents no number, since it is above each bound.
 const NONE: usize = usize::MAX;
 
-/// A bit for each number below the bound. The bits from the bound on are set for good, so that a word with a clear bit has a
-/// number to give.
+/// A bit for each number below the bound. The bits from the bound on are set for good, so that a
+/// word with a clear bit has a number to give.
 ///
-/// `last_freed` is the number that came back last: it isn't in the set, though its bit stays set until another number comes
-/// back. A taking gives that number first, and reads only its word.
+/// `last_freed` is the number that came back last: it isn't in the set, though its bit stays set
+/// until another number comes back. `take` returns that number first, and reads only its word.
 ///
-/// `open_count` words aren't full: one is current, and the others are listed, each once. If `last_freed` isn't a number, a
-/// taking reads only the current word, however many words are full. If all of them are full, the taking is refused.
+/// `open_count` words aren't full: one is current, and the others are listed, each once. If
+/// `last_freed` isn't a number, `take` reads only the current word, however many words are full. If
+/// all of them are full, `take` returns `None`.
 ///
-/// `count` bits below the bound are set, and at most `most` were at any time. A taking sets a bit only if `last_freed` isn't a
-/// number. So the set has `count` members then, `most` is the greatest number of members, and `last_freed` costs no counting.
+/// `count` is how many bits below the bound are set, and `most` is the greatest value that `count`
+/// has had. `take` sets a bit only if `last_freed` isn't a number, and then the set has exactly
+/// `count` members. So `most` is also the greatest number of members, and `last_freed` costs no
+/// counting.
 #[derive(Drop)]
 pub struct Words<A: Allocator> {
     words: IndexWords<A>,
@@ -43,8 +46,8 @@ impl<A: Allocator> Model for Words<A> {
 }
 
 impl<A: Allocator> Words<A> {
-    /// Makes the empty set of numbers below a bound: eight bytes for each word, and eight for each word except one. Fails only
-    /// if memory ran out.
+    /// Makes the empty set of numbers below a bound: eight bytes for each word, and eight for each
+    /// word except one. Fails only if memory ran out.
     pub fn new(alloc: A, bound: u32) -> Result<Self, AllocError>
         ensures { IfOk result (λ set. set ≡ fresh_set bound) }
     {
@@ -68,8 +71,8 @@ impl<A: Allocator> Words<A> {
         })
     }
 
-    /// Clears the bit of a number of the set, and doesn't change `last_freed`. If the number's word was full, it is the current
-    /// one from then on, and the word that was current is listed.
+    /// Clears the bit of a number of the set, and doesn't change `last_freed`. If the number's word
+    /// was full, it is the current one from then on, and the word that was current is listed.
     #[inline(always)]
     fn put_back(&mut self, number: usize)
         requires { Has self.old.numbers number }
@@ -95,8 +98,9 @@ impl<A: Allocator> IndexSet for Words<A> {
 
     ghost words = { index_words };
 
-    /// Gives the number that came back last, whose bucket is in the cache. Otherwise sets the lowest clear bit of the current
-    /// word. If that fills the word, the word that is listed last is current from then on.
+    /// Returns the number that came back last, whose bucket is likely still in the processor's
+    /// cache. If there is none, sets the lowest clear bit of the current word and returns that
+    /// bit's number. If that fills the word, the word that is listed last is current from then on.
     #[inline(always)]
     #[tactic(auto, using(crate::proofs::OpenWords::of_a_taking))]
     fn take(&mut self, counter: &mut Counter) -> Option<usize> {
@@ -128,7 +132,8 @@ impl<A: Allocator> IndexSet for Words<A> {
         Some(current * 64 + word.trailing_ones() as usize)
     }
 
-    /// Keeps the number as `last_freed`, and puts the number that was there before back into the words.
+    /// Keeps the number as `last_freed`, and puts the number that was there before back into the
+    /// words.
     #[inline(always)]
     #[tactic(auto, using(crate::proofs::LastFreed::swapped, crate::proofs::LastFreed::less_none))]
     fn release(&mut self, number: usize) {

@@ -1,4 +1,4 @@
-//! Pools over a set of held buckets: what the pools of this crate have in common.
+//! Pools over a set of held buckets: what all pools of this crate have in common.
 ghost use Rattle.bb_memory_index_set.specs.IndexSets.{Has, Lacks, member_count};
 ghost use Rattle.bb_memory_owned.specs.Pool.{Allocates, FreesBucket, HoldsPlace, IsPool, StandsFor, Takes, TakesBucket, held_count, pool_of, reads_of};
 ghost use Rattle.bb_memory_traits.specs.Chunk.{Chunk};
@@ -15,8 +15,8 @@ use bb_memory_traits::layout::{Chunk, Layout};
 use std::alloc::AllocError;
 use std::marker::Model;
 
-/// The buckets of a region, the set of those that are held, and how many words the last search for a free one read: none, if the
-/// set counts no reads.
+/// The buckets of a region, the set of those that are held, and how many words the last search for
+/// a free bucket read: 0 if the set counts no reads.
 #[derive(Drop)]
 pub struct BucketPool<S: IndexSet> {
     pub(super) geometry: Geometry,
@@ -47,7 +47,7 @@ impl<S: IndexSet> BucketPool<S> {
         self.geometry.count()
     }
 
-    /// Returns the layout of each bucket, as passed to the maker.
+    /// Returns the layout of each bucket, as passed to the constructor.
     #[inline]
     pub fn bucket_layout(&self) -> Layout
         ensures { result ≡ self.now.pool.geometry.bucket }
@@ -55,7 +55,8 @@ impl<S: IndexSet> BucketPool<S> {
         self.geometry.bucket()
     }
 
-    /// Returns the size of a bucket in bytes, as passed to the maker. Two buckets begin at least that far apart.
+    /// Returns the size of a bucket in bytes, as passed to the constructor. Two buckets begin at
+    /// least that far apart.
     #[inline]
     pub fn bucket_size(&self) -> usize
         ensures { result ≡ self.now.pool.geometry.bucket.size }
@@ -63,7 +64,8 @@ impl<S: IndexSet> BucketPool<S> {
         self.geometry.bucket().size()
     }
 
-    /// Returns the greatest alignment that a request may have. Each bucket's place is a multiple of it.
+    /// Returns the greatest alignment that a request may have. Each bucket's place is a multiple of
+    /// it.
     #[inline]
     pub fn max_alignment(&self) -> usize
         ensures { result ≡ self.now.pool.geometry.bucket.align }
@@ -71,7 +73,7 @@ impl<S: IndexSet> BucketPool<S> {
         self.geometry.bucket().align()
     }
 
-    /// Returns the size of the region in bytes, as passed to the maker.
+    /// Returns the size of the region in bytes, as passed to the constructor.
     #[inline]
     pub fn size(&self) -> usize
         ensures { result ≡ self.now.pool.geometry.region.size }
@@ -79,22 +81,24 @@ impl<S: IndexSet> BucketPool<S> {
         self.geometry.region_size()
     }
 
-    /// Returns the place of the bucket of this number, held or not, or `None` if there is no bucket of this number.
+    /// Returns the place of the bucket of this number, held or not, or `None` if there is no bucket
+    /// of this number.
     pub fn place_at(&self, number: u32) -> Option<usize>
         ensures { TellsPlace self.now.pool.geometry number result }
     {
         self.geometry.place_at(number)
     }
 
-    /// Returns the number of the bucket that begins at this place, held or not, or `None` if none does.
+    /// Returns the number of the bucket that begins at this place, held or not, or `None` if none
+    /// does.
     pub fn number_at(&self, place: usize) -> Option<u32>
         ensures { TellsNumber self.now.pool.geometry place result }
     {
         self.geometry.number_at(place)
     }
 
-    /// Returns the number of held buckets: those that were given and not given back. The call looks at no bucket, and counts no
-    /// read.
+    /// Returns the number of held buckets: those that were allocated and not given back. The call
+    /// looks at no bucket, and counts no read.
     #[inline]
     pub fn held_buckets(&self) -> u32
         ensures { result ≡ held_count self.now.pool }
@@ -102,8 +106,9 @@ impl<S: IndexSet> BucketPool<S> {
         self.held.len()
     }
 
-    /// Returns the greatest number of buckets that were held at one time since the pool was made. A refused request doesn't
-    /// change it, nor does a bucket that is given back. The call looks at no bucket, and counts no read.
+    /// Returns the greatest number of buckets that were held at one time since the pool was made.
+    /// Neither a refused request nor a return changes the number. The call looks at no bucket, and
+    /// counts no read.
     ///
     /// Example: `pools::greatest_kept` of `crates/examples`.
     #[inline]
@@ -115,8 +120,8 @@ impl<S: IndexSet> BucketPool<S> {
         self.held.greatest_len()
     }
 
-    /// Returns whether a bucket is free, so that a request whose size and alignment are at most a bucket's succeeds. The call
-    /// doesn't search, and counts no read.
+    /// Returns whether a bucket is free, so that a request whose size and alignment are at most a
+    /// bucket's succeeds. The call doesn't search, and counts no read.
     ///
     /// Example: `pools::room_told` of `crates/examples`.
     #[inline(always)]
@@ -126,8 +131,8 @@ impl<S: IndexSet> BucketPool<S> {
         self.held.has_room()
     }
 
-    /// Takes any whole bucket that isn't held, as `allocate` does for the bucket's own layout. Fails with `OutOfMemory` if
-    /// every bucket is held.
+    /// Takes any whole bucket that isn't held, as `allocate` does for the bucket's own layout.
+    /// Fails with `OutOfMemory` if every bucket is held.
     ///
     /// Example: `pools::taken_whole` of `crates/examples`.
     #[inline(always)]
@@ -140,8 +145,8 @@ impl<S: IndexSet> BucketPool<S> {
         self.allocate(bucket)
     }
 
-    /// Returns whether this is the place of a held bucket, which may be given back: true exactly if `deallocate` may be called
-    /// with the place. The call doesn't search, and counts no read.
+    /// Returns whether a held bucket begins at this place: true exactly if `deallocate` may be
+    /// called with the place. The call doesn't search, and counts no read.
     ///
     /// Example: `comments::pool_held` of `crates/examples`.
     #[inline(always)]
@@ -153,9 +158,10 @@ impl<S: IndexSet> BucketPool<S> {
         self.held_number(place).is_some()
     }
 
-    /// Gives back the bucket at this place if a held one begins there, and returns whether one did. Otherwise nothing changes.
-    /// The call is for places about which nothing is known, such as those from another process: `deallocate` requires that the
-    /// bucket is held, and doesn't check.
+    /// Gives back the bucket at this place if a held bucket begins there, and returns whether one
+    /// did. Otherwise nothing changes. The call is for places about which nothing is known, such as
+    /// those from another process: `deallocate` requires that the bucket is held, and doesn't
+    /// check.
     ///
     /// Example: `pools::back_if_held` of `crates/examples`.
     #[inline(always)]
@@ -181,7 +187,8 @@ impl<S: IndexSet> BucketPool<S> {
         true
     }
 
-    /// Returns the number of the held bucket at this place, or `None` if no held bucket begins there.
+    /// Returns the number of the held bucket at this place, or `None` if no held bucket begins
+    /// there.
     #[inline(always)]
     fn held_number(&self, place: usize) -> Option<usize>
         ensures held { IsSome result ↔ HoldsPlace self.now.pool place }
@@ -255,10 +262,11 @@ impl<S: IndexSet> BaseAllocator for BucketPool<S> {
 
     ghost frees = { λ old place _ new. FreesBucket old place new };
 
-    /// Allocates a chunk of `layout.size()` bytes in any bucket that isn't held. Fails, in this order, with `SizeTooLarge` if
-    /// the size is greater than the bucket's, with `AlignmentFailure` if the alignment is greater than the bucket's, and with
-    /// `OutOfMemory` if every bucket is held. A refusal leaves the pool unchanged, except for the result of `last_reads`, if
-    /// there is one.
+    /// Allocates a chunk of `layout.size()` bytes in any bucket that isn't held. Fails, in this
+    /// order, with `SizeTooLarge` if the size is greater than the bucket's, with `AlignmentFailure`
+    /// if the alignment is greater than the bucket's, and with `OutOfMemory` if every bucket is
+    /// held. A refusal leaves the pool unchanged, except for the result of `last_reads`, if there
+    /// is one.
     #[inline(always)]
     fn allocate(&mut self, layout: Layout) -> Result<Chunk, AllocationError> {
         let mut counter = Counter::new();
@@ -267,7 +275,7 @@ impl<S: IndexSet> BaseAllocator for BucketPool<S> {
         answer
     }
 
-    /// Gives back the bucket at this place, which has to be held. The layout decides nothing.
+    /// Gives back the bucket at this place, which has to be held. The layout is ignored.
     #[inline(always)]
     fn deallocate(&mut self, place: usize, _layout: Layout) {
         let number = self.geometry.whole_strides(place - self.geometry.first());
@@ -309,19 +317,22 @@ impl<S: IndexSet> Allocator for BucketPool<S> {
     ghost shrinks = { λ pool place old new answer _.
         MayShrink pool.pool.geometry.bucket place old new answer };
 
-    /// Returns the bytes that are reserved for the chunk at this place, which has to be a held bucket's: the bucket's size.
+    /// Returns the number of bytes that are reserved for the chunk at this place: the bucket's
+    /// size. The place has to be a held bucket's.
     #[inline]
     fn reserved(&self, _place: usize) -> usize {
         self.bucket_size()
     }
 
-    /// Gives the chunk the new size, in its bucket. Fails with the first of these errors that applies:
+    /// Grows the chunk to exactly the new size, in its bucket. Fails with the first of these errors
+    /// that applies:
     ///
     /// - `GrowWouldShrink` if the new size isn't greater than the old one.
     /// - `AlignmentFailure` if the new alignment is greater than the bucket's.
     /// - `OutOfMemory` if the new size is greater than the bucket's.
     ///
-    /// The pool doesn't change. The place has to be a held bucket's and a multiple of the old alignment.
+    /// The pool doesn't change. The place has to be a held bucket's and a multiple of the old
+    /// alignment.
     #[inline]
     fn grow(
         &mut self,
@@ -332,9 +343,10 @@ impl<S: IndexSet> Allocator for BucketPool<S> {
         self.geometry.grow(place, old, new)
     }
 
-    /// Gives the chunk exactly the new size. Fails, in this order, with `ShrinkWouldGrow` if the new size isn't smaller than
-    /// the old one, and with `AlignmentFailure` if the new alignment is greater than the bucket's. The pool doesn't change. The
-    /// place has to be a held bucket's and a multiple of the old alignment, and the old size at most the bucket's.
+    /// Shrinks the chunk to exactly the new size. Fails, in this order, with `ShrinkWouldGrow` if
+    /// the new size isn't smaller than the old one, and with `AlignmentFailure` if the new
+    /// alignment is greater than the bucket's. The pool doesn't change. The place has to be a held
+    /// bucket's and a multiple of the old alignment, and the old size at most the bucket's.
     #[inline]
     fn shrink(
         &mut self,

@@ -13,8 +13,8 @@ use bb_memory_traits::geometry::Geometry;
 use bb_memory_traits::layout::Layout;
 use std::fmt;
 
-/// Gives buckets of one layout, at most `MAX_NUMBER_OF_BUCKETS` of them. An array in the pool records which buckets are held:
-/// the pool never allocates memory.
+/// Allocates buckets of one layout, at most `MAX_NUMBER_OF_BUCKETS` of them. An array in the pool
+/// records which buckets are held, so the pool itself never allocates memory.
 ///
 /// Example: `comments::fixed_pool` of `crates/examples`.
 pub type FixedSizePoolAllocator<const MAX_NUMBER_OF_BUCKETS: usize> = BucketPool<
@@ -22,10 +22,12 @@ pub type FixedSizePoolAllocator<const MAX_NUMBER_OF_BUCKETS: usize> = BucketPool
 >;
 
 impl<const MAX_NUMBER_OF_BUCKETS: usize> FixedSizePoolAllocator<MAX_NUMBER_OF_BUCKETS> {
-    /// Makes a pool over the region of `size` bytes at `start`, cut into buckets of this layout, with no bucket held. The start
-    /// and the bucket's size have to be greater than 0. The start plus the size, and the start rounded up to the bucket's
-    /// alignment, have to be at most `usize::MAX`. The region has to have room for fewer than `u32::MAX` buckets, and the
-    /// constant has to be less than that, too. [`FixedSizePoolAllocator::can_make`] tests all of it.
+    /// Makes a pool over the region of `size` bytes at `start`, cut into buckets of this layout,
+    /// with no bucket held. The start and the bucket's size have to be greater than 0. The start
+    /// plus the size, and the start rounded up to the bucket's alignment, have to be at most
+    /// `usize::MAX`. The region has to have room for fewer than `u32::MAX` buckets, and
+    /// `MAX_NUMBER_OF_BUCKETS` has to be less than that, too. [`FixedSizePoolAllocator::can_make`]
+    /// tests all of it.
     pub fn new(bucket_layout: Layout, start: usize, size: usize) -> Self
         requires cut { MayBeCut (region_at start size) bucket_layout }
         requires most { MAX_NUMBER_OF_BUCKETS < 2 ^ 32 - 1 }

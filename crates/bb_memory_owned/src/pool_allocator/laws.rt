@@ -13,22 +13,23 @@ ghost use Rattle.bb_memory_traits.specs.declared.allocator.Reply.{Reply};
 ghost use Rattle.bb_memory_traits.specs.declared.layout.Layout.{Layout};
 ghost use Rattle.std.specs.Prelude.{All, AllPairs, Err, IsOk, List, Ok, Result, Some, [], length, remove, slice_get, ℕ, ◌%◌, ◌+◌, ◌-◌, ◌/◌, ◌<◌, ◌^◌, ◌≡◌, ◌≢◌, ◌≤◌};
 
-/// States what the definition of a pool's geometry means for every region and every layout of a bucket. A region is cut in only
-/// one way, and into buckets of at least one byte it can always be cut. Each bucket begins at a multiple of its alignment, and
-/// ends, with its whole stride, at or before the beginning of the next one. The function does nothing: its contract is the law.
+/// States what the definition of a pool's geometry means for every region and every layout of a
+/// bucket. There is only one way to cut a region, and it can always be cut into buckets of at least
+/// one byte. Each bucket begins at a multiple of its alignment, and ends, with its whole stride, at
+/// or before the beginning of the next one. The function does nothing: its contract is the law.
 pub fn pool_geometry_law()
     ensures some_cut { (region : Region) (bucket : Layout) → 0 < bucket.size
         → (geometry : PoolGeometry) × IsCut region bucket geometry }
     ensures one_cut { (region : Region) (bucket : Layout) (one other : PoolGeometry)
         → IsCut region bucket one → IsCut region bucket other → one ≡ other }
 
-    // A cut, or a part of it, is what the pool object needs.
+    // A cut, or the first buckets of one, is a pool's geometry.
     ensures is_geometry { (region : Region) (bucket : Layout) (geometry : PoolGeometry)
         → 0 < bucket.size → IsCut region bucket geometry → IsPoolGeometry geometry }
     ensures at_most { (geometry : PoolGeometry) (constant : ℕ)
         → IsPoolGeometry geometry → IsPoolGeometry (at_most constant geometry) }
 
-    // Where the buckets are.
+    // Places of buckets.
     ensures aligned { (geometry : PoolGeometry) (i : ℕ)
         → bucket_place geometry i % geometry.bucket.align ≡ 0 }
     ensures apart { (geometry : PoolGeometry) (i j : ℕ) → i < j
@@ -36,12 +37,15 @@ pub fn pool_geometry_law()
     ensures wide_enough { (bucket : Layout) → bucket.size ≤ stride bucket }
 {}
 
-/// States what the definition of the pool object means for every geometry and every list of commands. There is an answer to
-/// each request: a chunk, or only one refusal. A chunk that is given begins at a multiple of the requested alignment and of the
-/// bucket's, has exactly the requested size, and no live chunk has its place. There is exactly one answer to each resize. After
-/// a chunk was given back, the next request that fits a bucket isn't refused. In each live list that a pool stands for, every
-/// chunk begins at a multiple of the bucket's alignment, and no two begin less than a stride apart. Each run from such a list,
-/// with resizes or without, leads to another such list, which is sound. The function does nothing: its contract is the law.
+/// States what the definition of the pool object means for every geometry and every list of
+/// commands. There is an answer to each request: either a chunk, or a refusal with the one error
+/// that applies. An allocated chunk begins at a multiple of the requested alignment and of the
+/// bucket's, has exactly the requested size, and no live chunk has its place. There is exactly one
+/// answer to each resize. After a chunk was given back, the next request that fits a bucket isn't
+/// refused. In each live list that a pool stands for, every chunk begins at a multiple of the
+/// bucket's alignment, and no two begin less than a stride apart. Each run from such a list, with
+/// resizes or without, leads to another such list, which is sound. The function does nothing: its
+/// contract is the law.
 pub fn pool_object_law()
     // Answers to requests.
     ensures some_answer { (geometry : PoolGeometry) → AnswersAll (pool_object geometry).base }
@@ -54,7 +58,7 @@ pub fn pool_object_law()
         → MayAllocate geometry live layout (Ok chunk)
         → ¬ MayAllocate geometry live layout (Err error) }
 
-    // A chunk that is given.
+    // Allocated chunks.
     ensures aligned { (geometry : PoolGeometry) → GivesOnly (pool_object geometry).base
         (λ layout chunk. chunk.place % layout.align ≡ 0) }
     ensures bucket_aligned { (geometry : PoolGeometry) → GivesOnly (pool_object geometry).base
@@ -108,8 +112,8 @@ pub fn pool_object_law()
         → (left : Pool) × IsPool left × (left.geometry ≡ pool.geometry) × StandsFor left new }
 {}
 
-/// States that each chunk of a list that a pool stands for may be given back. A place is held exactly if a held bucket begins
-/// there. The function does nothing: its contract is the law.
+/// States that each chunk of a list that a pool stands for may be given back. A place is held
+/// exactly if a held bucket begins there. The function does nothing: its contract is the law.
 pub fn pool_held_law()
     ensures listed { (pool : Pool) (live : List Chunk) (position : ℕ) (chunk : Chunk)
         → StandsFor pool live → slice_get live position ≡ Some chunk
@@ -120,8 +124,8 @@ pub fn pool_held_law()
         → place ≡ bucket_place pool.geometry i → HoldsPlace pool place }
 {}
 
-/// States the number of buckets of a region as a quotient, and so when the region may be cut. The function does nothing: its
-/// contract is the law.
+/// States the number of buckets of a region as a quotient, and with it when the region may be cut.
+/// The function does nothing: its contract is the law.
 pub fn pool_count_law()
     ensures count { (region : Region) (bucket : Layout) (geometry : PoolGeometry) → 0 < bucket.size
         → IsCut region bucket geometry

@@ -12,26 +12,28 @@ pub enum Flag {
     Free,
     /// This party holds the bucket.
     HeldBy(u32),
-    /// The bucket is in transit: this party has detached it, and no party has attached it or given it back since.
+    /// The bucket is in transit: this party has detached it, and no party has attached it or given
+    /// it back since.
     DetachedBy(u32),
 }
 
 /// One atomic step over the pool's flags, one for each bucket.
 #[derive(Debug, Clone, Copy, PartialEq, Eq)]
 pub enum PoolStep {
-    /// The party tries to take the next bucket of its pass, or begins a pass at bucket 0 if it is idle. The step isn't allowed
-    /// if there is no bucket.
+    /// The party tries to take the next bucket of its pass, or begins a pass at bucket 0 if it is
+    /// idle. The step isn't allowed if there is no bucket.
     Try { party: u32 },
     /// The party gives back a bucket, which only its holder may do.
     GiveBack { party: u32, bucket: u32 },
     /// The party, which is in no pass, tries to take one bucket of its choice.
     TryAt { party: u32, bucket: u32 },
-    /// The party detaches a bucket, which only its holder may do, and only if there is another party. No party holds the bucket
-    /// then, and its flag stays taken.
+    /// The party detaches a bucket, which only its holder may do, and only if there is another
+    /// party. No party holds the bucket then, and its flag stays taken.
     Detach { party: u32, bucket: u32 },
     /// The party, which is in no pass, attaches a detached bucket, and holds it then.
     Attach { party: u32, bucket: u32 },
-    /// The party, which is in no pass, attaches a bucket that the party `from` has detached, and holds it then.
+    /// The party, which is in no pass, attaches a bucket that the party `from` has detached, and
+    /// holds it then.
     AttachFrom { party: u32, bucket: u32, from: u32 },
     /// The party, which is in no pass, gives back a detached bucket.
     GiveBackDetached { party: u32, bucket: u32 },
@@ -44,13 +46,16 @@ pub enum PoolOutcome {
     Takes(u32),
     /// The bucket's flag was taken, and the party's pass moves to the next bucket.
     Loses(u32),
-    /// The last bucket's flag was taken, and with it the pass is refused and has ended.
+    /// The last bucket's flag was taken. The pass is refused, and has ended.
     RefusedAtLoss(u32),
-    /// The bucket's holder gave it back, or it was detached and a party gave it back. Its flag is free.
+    /// The bucket's holder gave it back, or it was detached and a party gave it back. Its flag is
+    /// free.
     Gives(u32),
-    /// The step isn't allowed, or names a party or a bucket that isn't there. Nothing changed.
+    /// The step isn't allowed, or names a party or a bucket that the machine doesn't have. Nothing
+    /// changed.
     Passed,
-    /// The bucket's flag was taken, and the party, which is in no pass, stays so. Nothing changed.
+    /// The bucket's flag was taken. The party, which is in no pass, is still in none. Nothing
+    /// changed.
     Misses(u32),
     /// The bucket's holder detached it. Its flag stays taken.
     Detaches(u32),
@@ -58,13 +63,15 @@ pub enum PoolOutcome {
     Attaches(u32),
 }
 
-/// States what holds for each list of steps that any number of parties take over the flags of a pool, from the opening with all
-/// flags free. The function does nothing: its contract is the theorem.
+/// States what holds for each list of steps that any number of parties take over the flags of a
+/// pool, from the opening with all flags free. The function does nothing: its contract is the
+/// theorem.
 ///
-/// As each clause holds for every list of steps, it holds for each beginning of a list. So what holds for the list that a run
-/// leaves holds, by `every_step`, for a run's list at every step.
+/// As each clause holds for every list of steps, it holds for each beginning of a list. So what
+/// holds for the list that a run leaves holds, by `every_step`, for a run's list at every step.
 pub fn pool_theorem()
-    // Each region has a geometry for each layout of at least one byte, with exactly the buckets that it has room for.
+    // Each region has a geometry for each layout of at least one byte, with exactly the buckets
+    // that it has room for.
     ensures some_geometry { (region : Region) (bucket : Layout) → 0 < bucket.size
         → (buckets : ℕ) × FillsRegion (pool_geometry region bucket buckets) }
 
@@ -74,13 +81,14 @@ pub fn pool_theorem()
     ensures fewer_buckets { (geometry : PoolGeometry) (constant : ℕ)
         → IsPoolGeometry geometry → IsPoolGeometry (at_most constant geometry) }
 
-    // The takings and returns are a run of the pool object from the empty list, for any requested layouts within the bucket's
-    // size and alignment.
+    // The takings and returns are a run of the pool object from the empty list, for any requested
+    // layouts within the bucket's size and alignment.
     ensures run { (scene : PoolScene) (steps : List PoolStep) (layouts : List Layout)
         → IsPoolGeometry scene.geometry → AreAsked scene.geometry steps layouts
         → (live : List Chunk) × IsPoolRun scene steps layouts live }
 
-    // Each such run has a list at every step: a run of the steps before leaves it, and the others are a run from it.
+    // Each such run has a list at every step: the steps before are a run that leaves this list, and
+    // the others are a run from it.
     ensures every_step { (scene : PoolScene) (steps : List PoolStep) (layouts : List Layout)
         (live : List Chunk) (k : ℕ) → IsPoolRun scene steps layouts live
         → (there : List Chunk) × IsPoolRun scene (take k steps) (take k layouts) there
@@ -93,7 +101,8 @@ pub fn pool_theorem()
         → IsPoolRun scene steps layouts live → bucket < scene.geometry.buckets
         → (IsTaken (left_by scene steps) bucket ↔ IsHeld scene.geometry live bucket) }
 
-    // That list is sound: its chunks are inside the region, and no two overlap.
+    // The list that such a run leaves is sound: its chunks are inside the region, and no two
+    // overlap.
     ensures sound { (scene : PoolScene) (steps : List PoolStep) (layouts : List Layout)
         (live : List Chunk) → IsPoolGeometry scene.geometry
         → IsPoolRun scene steps layouts live → IsSound scene.geometry.region live }
@@ -108,12 +117,13 @@ pub fn pool_theorem()
         → IsHeldAfter (log_of scene steps party) bucket
         → IsHeldAfter (log_of scene steps other) bucket → party ≡ other }
 
-    // A pass that is refused has, for each bucket, a step at which it lost that bucket, which was then held in the run.
+    // A pass that is refused has, for each bucket, a step at which it lost that bucket, which was
+    // then held in the run.
     ensures refused { (scene : PoolScene) (steps : List PoolStep) (party last bucket : ℕ)
         → IsPoolGeometry scene.geometry → IsRefusedAt (history_of scene steps) party last
         → bucket < scene.geometry.buckets → FoundHeld scene steps party last bucket }
 
-    // A step loses only one bucket, so those steps are different ones for different buckets.
+    // A step loses only one bucket, so those steps differ for different buckets.
     ensures one_bucket { (scene : PoolScene) (steps : List PoolStep) (party step bucket other : ℕ)
         → LosesAt (history_of scene steps) party bucket step
         → LosesAt (history_of scene steps) party other step → bucket ≡ other }
@@ -124,7 +134,7 @@ pub fn pool_theorem()
         → (bucket < scene.geometry.buckets) × IsTaken (left_by scene (take k steps)) bucket
         × IsHeldInRun scene (take k steps) bucket }
 
-    // A detached bucket is held after no party's log.
+    // A detached bucket isn't held after any party's log.
     ensures detached_unheld { (scene : PoolScene) (steps : List PoolStep) (party bucket : ℕ)
         → IsDetached (left_by scene steps) bucket
         → ¬ IsHeldAfter (log_of scene steps party) bucket }
@@ -133,11 +143,12 @@ pub fn pool_theorem()
     ensures none_detached_alone { (scene : PoolScene) (steps : List PoolStep) (bucket : ℕ)
         → scene.parties ≡ 1 → ¬ IsDetached (left_by scene steps) bucket }
 
-    // Some step has detached a detached bucket.
+    // If a bucket is detached, some step has detached it.
     ensures was_detached { (scene : PoolScene) (steps : List PoolStep) (bucket : ℕ)
         → IsDetached (left_by scene steps) bucket → WasDetached (history_of scene steps) bucket }
 
-    // A bucket that is attached from a sender is then detached by that sender, as its log shows.
+    // A bucket is attached from a sender only while it is detached by that sender, whose log has
+    // the step that detached it.
     ensures attached_from { (scene : PoolScene) (steps : List PoolStep) (party bucket from k : ℕ)
         → AttachesFromAt (history_of scene steps) party bucket from k
         → IsFlag (left_by scene (take k steps)) bucket (DetachedBy from)

@@ -1,4 +1,5 @@
-//! A pool machine that can be run: for each bucket its flag, and for each party the bucket that its pass tries next.
+//! A pool machine that can be run: for each bucket its flag, and for each party the bucket that its
+//! pass tries next.
 ghost use Rattle.bb_memory_pool_machine.specs.PoolMachine.{Attach, AttachFrom, Detach, GiveBack, GiveBackDetached, Try, TryAt, all_free, holder_of};
 ghost use Rattle.bb_memory_pool_machine.specs.PoolWorld.{IsPoolWorld, PoolWorld, Replays, Steps, world_of};
 ghost use Rattle.std.specs.Prelude.{IfOk, IsSome, length, slice_get, ◌<◌, ◌≡◌};
@@ -26,8 +27,8 @@ impl Model for PoolWorld {
 }
 
 impl PoolWorld {
-    /// Makes the machine over that many buckets, all flags free, with that many parties, all idle. Fails only if memory ran
-    /// out.
+    /// Makes the machine over that many buckets, all flags free, with that many parties, all idle.
+    /// Fails only if memory ran out.
     pub fn new(alloc: Global, buckets: u32, parties: u32) -> Result<PoolWorld, AllocError>
         ensures opened { IfOk result (λ world. world ≡ all_free buckets parties) }
     {
@@ -40,7 +41,7 @@ impl PoolWorld {
         })
     }
 
-    /// Takes one atomic step, and returns what it found. The call allocates no memory.
+    /// Takes one atomic step, and returns its outcome. The call allocates no memory.
     pub fn step(&mut self, step: PoolStep) -> PoolOutcome
         ensures { Steps self.old step result self.new }
     {
@@ -59,8 +60,8 @@ impl PoolWorld {
         }
     }
 
-    /// Takes the steps in order, and returns what each found. Memory for the results is reserved first: if it runs out, no
-    /// step is taken.
+    /// Takes the steps in order, and returns the outcome of each. Memory for the outcomes is
+    /// reserved first: if it runs out, no step is taken.
     pub fn replay(&mut self, steps: &[PoolStep]) -> Result<Vec<PoolOutcome>, AllocError>
         ensures { Replays self.old steps.now result self.new }
     {
@@ -79,8 +80,8 @@ impl PoolWorld {
         self.flags.len() as u32
     }
 
-    /// Returns the party that holds the bucket, or `None` if its flag is free, if it is detached, or if the machine has no
-    /// bucket of this number.
+    /// Returns the party that holds the bucket, or `None` if its flag is free, if it is detached,
+    /// or if the machine has no bucket of this number.
     pub fn holder(&self, bucket: u32) -> Option<u32>
         ensures { result ≡ holder_of self.now bucket }
     {
@@ -148,7 +149,8 @@ impl PoolWorld {
         }
     }
 
-    /// Makes a party detach a bucket, which it may if it holds the bucket and there is another party.
+    /// Makes a party detach a bucket, which it may if it holds the bucket and there is another
+    /// party.
     fn detach(&mut self, party: u32, bucket: u32) -> PoolOutcome
         ensures { Steps self.old (Detach party bucket) result self.new }
     {
@@ -177,7 +179,8 @@ impl PoolWorld {
         }
     }
 
-    /// Makes a party attach a bucket that the party `from` has detached, which it may if it is in no pass.
+    /// Makes a party attach a bucket that the party `from` has detached, which it may if it is in
+    /// no pass.
     fn attach_from(&mut self, party: u32, bucket: u32, from: u32) -> PoolOutcome
         ensures { Steps self.old (AttachFrom party bucket from) result self.new }
     {

@@ -7,9 +7,11 @@ use super::flags::Flags;
 use bb_memory_traits::layout::Chunk;
 use std::marker::Model;
 
-/// The token of a bucket that a party took from a shared pool. The token borrows the pool, and a return spends the token. While
-/// the party's log holds the bucket, `by_number::bucket` makes further tokens for it, so a party may have several. After a
-/// return by one of them, the others are stale. If a token is dropped, its bucket stays held until another token returns it.
+/// The token of a bucket that a party took from a shared pool. The token borrows the pool, and
+/// giving the bucket back consumes the token. While the party's log holds the bucket,
+/// `by_number::bucket` makes further tokens for it, so a party may have several. After a return by
+/// one of them, the others are stale. If a token is dropped, its bucket stays held until another
+/// token returns it.
 #[derive(Drop)]
 pub struct Bucket<'a> {
     pub(super) flags: &'a Flags,

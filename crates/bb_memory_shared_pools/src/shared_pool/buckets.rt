@@ -168,12 +168,12 @@ impl<const CAPPED: usize, const MOST: usize> SharedBucketPool<CAPPED, MOST> {
         ensures others { (other : ℕ) → IsHeldAfter party.new.log other
             → IsHeldAfter party.old.log other }
     {
-        self.flags.give_back(&mut party.seat, bucket.number);
         party.hint.follow_return(bucket.number);
+        self.flags.give_back(&mut party.seat, bucket.number);
     }
 
-    /// Makes two parties meet: no bucket is held by both. A meeting loads words, which is in no log, and changes nothing. The
-    /// parties have to be this pool's.
+    /// Makes two parties meet: no bucket is held by both. A meeting only loads words: it adds to no
+    /// log, and changes nothing. The parties have to be this pool's.
     ///
     /// Example: `comments::shared_pool_left` of `crates/examples`.
     pub fn meet(&self, a: &mut PoolParty, b: &mut PoolParty)
@@ -188,11 +188,12 @@ impl<const CAPPED: usize, const MOST: usize> SharedBucketPool<CAPPED, MOST> {
         self.flags.meet(&mut a.seat, &mut b.seat);
     }
 
-    /// Makes all these parties meet: no bucket is held by two of them, and one interleaving has all their logs. If these are
-    /// all parties of the pool, it has no other steps, and a flag is taken exactly if one of them holds the bucket or the
-    /// bucket is detached. If each of them has also made a step, one of them has taken a bucket: they can't all have been
-    /// refused because of somebody else, since there is nobody else. A meeting loads words, which is in no log, and changes
-    /// nothing. The parties have to be this pool's.
+    /// Makes all these parties meet: no bucket is held by two of them, and one interleaving has all
+    /// their logs. If these are all parties of the pool, the interleaving has no other steps, and a
+    /// flag is taken exactly if one of them holds the bucket or the bucket is detached. If each of
+    /// them has also made a step, one of them has taken a bucket: they can't all have been refused
+    /// because of somebody else, since there is nobody else. A meeting only loads words: it adds to
+    /// no log, and changes nothing. The parties have to be this pool's.
     pub fn meet_all(&self, parties: &mut Vec<PoolParty>)
         requires parties { All (λ party. party.allocator ≡ self.now) parties.old.items }
         ensures kept { parties.new.items ≡ parties.old.items }

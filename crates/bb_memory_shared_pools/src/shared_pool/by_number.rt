@@ -32,8 +32,8 @@ impl<const CAPPED: usize, const MOST: usize> SharedBucketPool<CAPPED, MOST> {
         self.flags.geometry().place_at(number)
     }
 
-    /// Returns whether the party holds the bucket of this number, by one load of its flag, which is in no log. The party has to
-    /// be this pool's.
+    /// Returns whether the party holds the bucket of this number, by one load of its flag, which
+    /// adds to no log. The party has to be this pool's.
     ///
     /// Example: `comments::shared_pool_holder` of `crates/examples`.
     pub fn is_held_by(&self, party: &mut PoolParty, number: u32) -> bool

@@ -9,10 +9,12 @@ use super::rule::View;
 use atomic_table::Seat;
 use std::marker::Model;
 
-/// The token of a detached bucket, which [`SharedPoolAllocator::attach`](super::SharedPoolAllocator::attach) and
-/// [`SharedPoolAllocator::return_detached`](super::SharedPoolAllocator::return_detached) spend. The token borrows nothing, so
-/// it can go to another thread in a message, or be stored in a struct. Meanwhile no party holds the bucket, and its flag stays
-/// taken. Each detached bucket has one token. Dropping the token leaks the bucket: its flag stays taken for good.
+/// The token of a detached bucket.
+/// [`SharedPoolAllocator::attach`](super::SharedPoolAllocator::attach) and
+/// [`SharedPoolAllocator::return_detached`](super::SharedPoolAllocator::return_detached) consume
+/// it. The token borrows nothing, so it can go to another thread in a message, or be stored in a
+/// struct. Meanwhile no party holds the bucket, and its flag stays taken. Each detached bucket has
+/// one token. Dropping the token leaks the bucket: its flag stays taken for good.
 #[derive(Drop)]
 pub struct DetachedBucket {
     number: u32,
@@ -103,8 +105,8 @@ impl<const CAPPED: usize, const MOST: usize> SharedBucketPool<CAPPED, MOST> {
             len: _,
             seat,
         } = detached;
-        self.flags.return_detached(&mut party.seat, seat, number);
         party.hint.follow_return(number);
+        self.flags.return_detached(&mut party.seat, seat, number);
     }
 
     /// Detaches a bucket as `detach` does, but makes no token. The bucket's number, which is returned, can go to the other

@@ -11,8 +11,8 @@ use bb_memory_traits::geometry::Geometry;
 use bb_memory_traits::layout::Layout;
 use std::alloc::Global;
 
-/// Gives buckets of one layout, at most `MAX_NUMBER_OF_BUCKETS` of them, to any number of threads, as
-/// [`SharedPoolAllocator`](super::SharedPoolAllocator) does.
+/// Allocates buckets of one layout, at most `MAX_NUMBER_OF_BUCKETS` of them, for any number of
+/// threads, as [`SharedPoolAllocator`](super::SharedPoolAllocator) does.
 ///
 /// Example: `comments::shared_fixed_pool` of `crates/examples`.
 pub type SharedFixedSizePoolAllocator<const MAX_NUMBER_OF_BUCKETS: usize> = SharedBucketPool<
@@ -24,9 +24,10 @@ impl<const MAX_NUMBER_OF_BUCKETS: usize> SharedFixedSizePoolAllocator<MAX_NUMBER
     /// Makes a pool over the region of `size` bytes at `start`, cut into buckets of this layout. No bucket is held. Returns the
     /// pool and its parties, numbered from 0.
     ///
-    /// The start and the bucket's size have to be greater than 0. The start plus the size, and the start rounded up to the
-    /// bucket's alignment, have to be at most `usize::MAX`. The region has to have room for fewer than `u32::MAX` buckets, and
-    /// the constant has to be less than that, too. There has to be at least one party. `FixedSizePoolAllocator::can_make` of
+    /// The start and the bucket's size have to be greater than 0. The start plus the size, and the
+    /// start rounded up to the bucket's alignment, have to be at most `usize::MAX`. The region has
+    /// to have room for fewer than `u32::MAX` buckets, and `MAX_NUMBER_OF_BUCKETS` has to be less
+    /// than that, too. There has to be at least one party. `FixedSizePoolAllocator::can_make` of
     /// `bb_memory_owned` tests all but the parties.
     ///
     /// Fails only with `OutOfMemory`, if memory for the pool or its parties can't be allocated.

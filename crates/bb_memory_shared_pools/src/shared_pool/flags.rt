@@ -46,8 +46,8 @@ fn detached_by(party: u32) -> u64
 /// The number in the word of a bucket that was detached with a token is this much greater than its sender's.
 const WITH_TOKEN: u64 = 0x1_0000_0000;
 
-/// Returns the word of the flag of a bucket that this party has detached with a token. An exchange from the word of a bucket
-/// without one never takes it.
+/// Returns the word of the flag of a bucket that this party has detached with a token. An exchange
+/// that expects the word of a bucket without a token never succeeds on this one.
 fn detached_with_token(party: u32) -> u64
     ensures { result ≡ as_word (with_token party) }
 {
@@ -70,11 +70,14 @@ fn flag_of(word: u64) -> Flag
     }
 }
 
-/// The word of the first flag. The eight words before it, one cache line, are not flags: meetings load word 0.
-const FIRST: usize = 8;
+/// The word of the first flag. The 16 words before it are not flags: meetings load word 0. They fill two
+/// cache lines, which processors fetch together. So if the words begin at a multiple of 128 bytes, so
+/// do the flags, and each 16 of them have such a pair of lines for themselves.
+const FIRST: usize = 16;
 
-/// Returns the word of a bucket's flag. The flags are in the order of their buckets: neighbours in one party's part of the pool
-/// share a cache line, and different parties' parts are on different lines, except at their borders.
+/// Returns the word of a bucket's flag. The flags are in the order of their buckets: neighbours in one
+/// party's part of the pool share a cache line, and different parties' parts are on different lines,
+/// except at their borders.
 fn word_of(bucket: u32) -> usize
     ensures { result ≡ word_of bucket }
 {
@@ -377,8 +380,8 @@ impl Flags {
         flag_of(word)
     }
 
-    /// A store by the party after whose log this bucket is held, and which isn't the only one. What is returned has the bucket
-    /// detached.
+    /// Makes the store with which a party detaches a bucket that is held after its log. The party
+    /// must not be the only one. Returns the seat of the detached bucket.
     pub(super) fn detach(
         &self,
         party: u32,
@@ -412,7 +415,8 @@ impl Flags {
         self.table.shared.join_seat::<TakeIn>(seat, detached);
     }
 
-    /// Makes a store by an idle party, to whose seat this detached bucket comes, and which then holds the bucket.
+    /// Moves a detached bucket to the seat of an idle party, and makes the store by which the party
+    /// holds the bucket.
     pub(super) fn attach(
         &self,
         party: u32,
@@ -432,7 +436,8 @@ impl Flags {
         shared.store::<Attaches>(seat, word_of(bucket), held_by(party));
     }
 
-    /// Makes a store of free by an idle party, to whose seat this detached bucket comes.
+    /// Moves a detached bucket to the seat of an idle party, and makes the store of free by which
+    /// the party gives it back.
     pub(super) fn return_detached(
         &self,
         seat: &mut Seat<u8, View>,
@@ -450,8 +455,8 @@ impl Flags {
         shared.store::<ReturnsDetached>(seat, word_of(bucket), FREE);
     }
 
-    /// Makes a store by the party after whose log this bucket is held, and which isn't the only one. Afterwards the bucket is
-    /// detached, and no seat has it.
+    /// Makes the store with which a party detaches, without a token, a bucket that is held after
+    /// its log. The party must not be the only one. Afterwards no seat has the bucket.
     pub(super) fn detach_number(&self, party: u32, seat: &mut Seat<u8, View>, bucket: u32)
         requires party { number_of seat.old.me.0 ≡ party }
         requires others { 1 < self.now.scene.parties }
@@ -540,7 +545,7 @@ impl Flags {
         *b = self.split_first(a);
     }
 
-    /// Loads each flag once, which is in no log, and returns how many are taken.
+    /// Loads each flag once, and returns how many are taken. The loads are in no log.
     pub(super) fn count_taken(&self) -> u32 {
         let is_taken = |bucket: &u32| self.table.shared.peek(word_of(*bucket)) != FREE;
         (0..self.scene.geometry.count()).filter(is_taken).count() as u32

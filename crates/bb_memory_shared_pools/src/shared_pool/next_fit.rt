@@ -3,7 +3,7 @@ ghost use Rattle.bb_memory_pool_machine.specs.PoolLogs.{PoolLog};
 ghost use Rattle.bb_memory_seats.specs.Seats.{Stays, number_of, view_log};
 ghost use Rattle.bb_memory_shared_pools.specs.SharedPool.{ServesAlone};
 ghost use Rattle.bb_memory_shared_pools.specs.SharedPoolNextFit.{MayTakeFrom, hint_of, part_of, probed, refused_search};
-ghost use Rattle.bb_memory_shared_pools.specs.SharedPoolRule.{AfterRefusal, AfterSearchWin, IsIdleAt, IsInSearch};
+ghost use Rattle.bb_memory_shared_pools.specs.SharedPoolRule.{AfterRefusal, AfterSearchWin, IsIdleAt, IsInSearch, probes_before};
 ghost use Rattle.std.specs.Prelude.{IfSome, MatchOption, ℕ, ◌+◌, ◌<◌, ◌^◌, ◌≡◌};
 
 use super::bucket::Bucket;
@@ -39,8 +39,10 @@ impl<const CAPPED: usize, const MOST: usize> SharedBucketPool<CAPPED, MOST> {
         (before / self.number_of_parties() as u64) as u32
     }
 
-    /// Makes one whole search: a probe of each bucket from bucket `first` up, and then of each below it, until one is taken.
-    /// The first probe makes its exchange without a load before it, since the bucket at the hint is mostly free.
+    /// Makes one whole search: probes each bucket from bucket `first` up, and then each below it,
+    /// until one is taken. The probe of bucket `first` is the fast path: it makes its exchange
+    /// without a load before it, since the bucket at the hint is mostly free. A call makes all other
+    /// probes.
     fn next_fit(&self, party: u32, seat: &mut Seat<u8, View>, first: u32) -> Option<u32>
         requires party { number_of seat.old.me.0 ≡ party }
         requires seat { IsIdleAt self.now seat.old.table_id seat.old.me }
@@ -52,34 +54,31 @@ impl<const CAPPED: usize, const MOST: usize> SharedBucketPool<CAPPED, MOST> {
             first seat.new.me)) }
         ensures fits { IfSome result (λ bucket. bucket + 1 < 2 ^ 32) }
     {
-        let count = self.number_of_buckets();
-        if count == 0 {
-            return None;
-        }
-        let bucket = probed(count, first, 0);
-        if self.flags.try_at(party, seat, bucket) {
-            return Some(bucket);
+        if first < self.number_of_buckets() && self.flags.try_at(party, seat, first) {
+            return Some(first);
         }
         self.later_probes(party, seat, first)
     }
 
-    /// Makes the probes of a search after its first, which missed. The clause holds for each log with which the search may have
-    /// begun. The loop is a function of its own, and isn't inlined, so that a search whose first probe takes a bucket is
+    /// Makes the probes of a search after that of bucket `first`, which missed, or all of them if the
+    /// pool has no such bucket. The clause holds for each log with which the search may have begun.
+    /// The function isn't inlined, so that a search whose first probe takes a bucket is
     /// straight-line code.
     #[inline(never)]
     fn later_probes(&self, party: u32, seat: &mut Seat<u8, View>, first: u32) -> Option<u32>
         requires party { number_of seat.old.me.0 ≡ party }
         requires seat { IsIdleAt self.now seat.old.table_id seat.old.me }
-        requires some { 0 < self.now.scene.geometry.buckets }
         ensures step { Stays seat.old.table_id seat.new.table_id ((number : ℕ) (log : PoolLog)
-            → IsInSearch self.now.scene number log first 1 seat.old.me → MatchOption result
+            → IsInSearch self.now.scene number log first
+            (probes_before self.now.scene.geometry.buckets first) seat.old.me → MatchOption result
             (AfterRefusal self.now.scene number log
             (refused_search self.now.scene.geometry.buckets number first) seat.new.me)
             (AfterSearchWin self.now.scene number log first seat.new.me)) }
         ensures fits { IfSome result (λ bucket. bucket + 1 < 2 ^ 32) }
     {
         let count = self.number_of_buckets();
-        for probe in 1..count {
+        let from = if first < count { 1 } else { 0 };
+        for probe in from..count {
             let bucket = probed(count, first, probe);
             if self.flags.probe(party, seat, bucket) {
                 return Some(bucket);

@@ -1,15 +1,16 @@
 //! Parties: each is one user's right to step on a shared pool.
 ghost use Rattle.bb_memory_pool_machine.specs.declared.steps.pool.PoolOutcome.TheVariants.{Gives, Takes};
 ghost use Rattle.bb_memory_shared_pools.specs.SharedPool.{IsParty};
-ghost use Rattle.bb_memory_shared_pools.specs.SharedPoolNextFit.{hint_after, stays_at};
+ghost use Rattle.bb_memory_shared_pools.specs.SharedPoolNextFit.{hint_after};
 ghost use Rattle.std.specs.Prelude.{◌+◌, ◌<◌, ◌^◌, ◌≡◌};
 
 use super::rule::View;
 use atomic_table::Seat;
 use std::marker::Model;
 
-/// A party's hint: the bucket at which its next search begins, and its rover, at which a search begins that follows a taking.
-/// The two differ only if the party has given back a bucket since it took its last one.
+/// A party's hint: the bucket at which its next search begins, and its rover, which is the bucket
+/// at which a search begins after a taking. The two differ only if the party has given back a
+/// bucket since it took its last one.
 #[derive(Clone, Copy)]
 pub(super) struct Hint {
     pub(super) bucket: u32,
@@ -29,35 +30,36 @@ impl Hint {
         self.bucket = self.rover;
     }
 
-    /// Returns whether the next search stays where it would have begun if this bucket is given back. It stays if that place is a
-    /// bucket that came back since the party's last taking (it is before the rover), and is at most 128 before this bucket.
-    fn stays_at(&self, bucket: u32) -> bool
-        ensures { result ≡ stays_at self.now bucket }
-    {
-        self.bucket < self.rover && self.bucket < bucket && bucket - self.bucket <= 128
-    }
-
-    /// Moves the hint after this bucket was given back. If the next search stays where it would have begun, a rover after this
-    /// bucket moves to it. Otherwise the next search begins at this bucket, and the rover moves to where it would have begun,
-    /// unless that is at most 128 ahead of the rover.
+    /// Moves the hint after this bucket was given back.
+    ///
+    /// - If the bucket of the hint isn't before the rover, the next search begins at this bucket. The
+    ///   rover moves to the bucket of the old hint, unless that is at most 128 ahead of it.
+    /// - If it is (then it came back since the party's last taking), and at most 128 before this
+    ///   bucket, the next search still begins there. A rover after this bucket moves to this bucket.
+    /// - Otherwise the next search begins at this bucket, and the rover moves to the bucket of the
+    ///   old hint.
     pub(super) fn follow_return(&mut self, bucket: u32)
         ensures { self.new ≡ hint_after self.old (Gives bucket) }
     {
-        if self.stays_at(bucket) {
+        if self.bucket >= self.rover {
+            if self.bucket - self.rover > 128 {
+                self.rover = self.bucket;
+            }
+            self.bucket = bucket;
+        } else if self.bucket < bucket && bucket - self.bucket <= 128 {
             if bucket < self.rover {
                 self.rover = bucket;
             }
-            return;
-        }
-        if self.bucket < self.rover || self.bucket - self.rover > 128 {
+        } else {
             self.rover = self.bucket;
+            self.bucket = bucket;
         }
-        self.bucket = bucket;
     }
 }
 
-/// One user of a shared pool. A party moves with its thread, and each call that takes or gives back a bucket needs it. Only
-/// contracts know the list of its steps, its log. A dropped party doesn't meet any more, so no later meeting is of all parties.
+/// One user of a shared pool. A party moves with its thread, and each call that takes or gives back
+/// a bucket needs it. The list of the party's steps, its log, exists only in contracts. A dropped
+/// party can't meet any more, so no later meeting has all parties.
 #[derive(Drop)]
 pub struct PoolParty {
     pub(super) number: u32,

@@ -1,4 +1,4 @@
-//! Chunks, which allocators give.
+//! Chunks, which allocators return.
 ghost use Rattle.bb_memory_traits.specs.BumpObject.{chunk_at_or_after};
 ghost use Rattle.bb_memory_traits.specs.Chunk.{AreApart, Chunk, IsChunk, IsInside, IsPart, IsSound, Region, chunk_end};
 ghost use Rattle.bb_memory_traits.specs.HeldBytes.{first_part, part_behind};
@@ -8,7 +8,8 @@ ghost use Rattle.std.specs.Prelude.{All, IfSome, IsTrue, List, [], ℕ, ◌%◌,
 use super::Layout;
 use std::marker::Model;
 
-/// The numbers from a place up to its end, the end excluded. The place isn't 0, and the end is at most `usize::MAX`.
+/// A range of addresses, from a place up to an end, the end excluded. The place isn't 0, and the
+/// end is at most `usize::MAX`.
 #[derive(Debug, Clone, Copy, PartialEq, Eq)]
 pub struct Chunk {
     place: usize,
@@ -28,8 +29,8 @@ impl Model for Chunk {
 }
 
 impl Chunk {
-    /// Makes the chunk of a place and a length in bytes. Returns `None` exactly if the place is 0 or place plus length exceeds
-    /// `usize::MAX`.
+    /// Makes the chunk of a place and a length in bytes. Returns `None` exactly if the place is 0
+    /// or place plus length exceeds `usize::MAX`.
     #[inline(always)]
     pub fn new(place: usize, len: usize) -> Option<Chunk>
         ensures { let chunk : Chunk = record { place = place; len = len } in
@@ -42,8 +43,8 @@ impl Chunk {
         Some(Chunk { place, len })
     }
 
-    /// Returns the chunk of a place and a length in bytes, without a test. The place must not be 0, and place plus length has
-    /// to be at most `usize::MAX`: [`Chunk::new`] tests both.
+    /// Makes the chunk of a place and a length in bytes, without checking them. The place must not
+    /// be 0, and place plus length has to be at most `usize::MAX`: [`Chunk::new`] tests both.
     #[inline(always)]
     pub fn new_unchecked(place: usize, len: usize) -> Chunk
         requires { let chunk : Chunk = record { place = place; len = len } in IsChunk chunk }
@@ -52,8 +53,9 @@ impl Chunk {
         Chunk { place, len }
     }
 
-    /// Returns the chunk that a layout gets at or after `v`: `layout.size()` bytes at the least multiple of `layout.align()`
-    /// that is at least `v`. Returns `None` exactly if that chunk would end after `end`. `v` must not be 0.
+    /// Returns the chunk that a layout gets at or after `v`: `layout.size()` bytes at the least
+    /// multiple of `layout.align()` that is at least `v`. Returns `None` exactly if that chunk
+    /// would end after `end`. `v` must not be 0.
     #[inline(always)]
     pub fn at_or_after(v: usize, layout: Layout, end: usize) -> Option<Chunk>
         requires { 0 < v }
@@ -62,9 +64,10 @@ impl Chunk {
         ensures above { IfSome result (λ chunk. v ≤ chunk.place) }
         ensures aligned { IfSome result (λ chunk. chunk.place % layout.align ≡ 0) }
     {
-        // The address before the least place. With this mask, the place takes fewer instructions than rounding `v` up.
+        // The address before the least place. With this mask, the place takes fewer instructions
+        // than rounding `v` up.
         let before = (v - 1) | (layout.align() - 1);
-        if before.checked_add(layout.size())? >= end {
+        if layout.size() >= end.checked_sub(before)? {
             return None;
         }
         Some(Chunk::new_unchecked(before + 1, layout.size()))
@@ -95,7 +98,7 @@ impl Chunk {
         self.len == 0
     }
 
-    /// Returns place plus length.
+    /// Returns the end: place plus length.
     #[inline(always)]
     pub fn end(&self) -> usize
         ensures { result ≡ chunk_end self.now }
@@ -103,7 +106,7 @@ impl Chunk {
         self.place + self.len
     }
 
-    /// Returns the first `size` bytes of the chunk, which has to have that many.
+    /// Returns the first `size` bytes of the chunk, which has to have at least that many.
     ///
     /// Example: `comments::parts_of_a_chunk` of `crates/examples`.
     #[inline]
@@ -117,7 +120,8 @@ impl Chunk {
         }
     }
 
-    /// Returns the part after the first `size` bytes of the chunk, which has to have that many.
+    /// Returns the part after the first `size` bytes of the chunk, which has to have at least that
+    /// many.
     #[inline]
     pub fn behind(&self, size: usize) -> Chunk
         requires { size ≤ self.now.len }
@@ -130,7 +134,8 @@ impl Chunk {
     }
 }
 
-/// States that the last chunks of a sound list are apart from the others. The function does nothing: its contract is the law.
+/// States that the last chunk of a sound list is apart from all the others. The function does
+/// nothing: its contract is the law.
 pub fn given_law()
     ensures given { (region : Region) (live : List Chunk) (chunk : Chunk)
         → IsSound region (live ++ chunk ∷ []) → All (AreApart chunk) live }
@@ -140,7 +145,7 @@ pub fn given_law()
 
 /// States laws of the parts of chunks. The function does nothing: its contract is the law.
 pub fn parts_law()
-    // The first bytes of a chunk and those after them are its parts, and they are apart.
+    // The first bytes of a chunk and the bytes after them are parts of it, and the two are apart.
     ensures first { (chunk : Chunk) (size : ℕ) → size ≤ chunk.len
         → IsPart (first_part size chunk) chunk }
     ensures behind { (chunk : Chunk) (size : ℕ) → size ≤ chunk.len
@@ -148,7 +153,8 @@ pub fn parts_law()
     ensures cut { (chunk : Chunk) (size : ℕ)
         → AreApart (first_part size chunk) (part_behind size chunk) }
 
-    // Parts of chunks that are apart are apart, and a part is inside the chunk.
+    // Parts of chunks that are apart are apart, too. A part of a chunk is inside every region that
+    // the chunk is inside.
     ensures apart { (one other part rest : Chunk) → IsPart part one → IsPart rest other
         → AreApart one other → AreApart part rest }
     ensures inside { (region : Region) (chunk part : Chunk) → IsPart part chunk

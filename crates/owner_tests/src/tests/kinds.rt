@@ -1,5 +1,5 @@
-//! The allocators with one owner, and how a test makes each. Calls of an allocator are in functions over all kinds: a proof at
-//! a pool's own type takes seconds for each of them.
+//! The allocators with one owner, and how a test makes each. Calls of an allocator are in functions
+//! over all kinds: a proof at a pool's own type takes seconds for each of them.
 ghost use Rattle.bb_memory_owned.specs.Pool.{StandsFor};
 ghost use Rattle.bb_memory_traits.specs.Chunk.{region_at};
 ghost use Rattle.std.specs.Prelude.{IfSome, [], ◌≡◌};
@@ -20,7 +20,8 @@ pub(super) type Of = [usize; 4];
 
 /// An allocator with one owner.
 pub(super) trait Kind: BaseAllocator + Drop {
-    /// Makes a fresh allocator with its region, or returns `None` if the numbers describe no allocator, or memory ran out.
+    /// Makes a fresh allocator with its region, or returns `None` if the numbers describe no
+    /// allocator, or memory ran out.
     fn owner(alloc: Global, of: Of) -> Option<Owner<Self>>;
 }
 

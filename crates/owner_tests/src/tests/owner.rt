@@ -61,7 +61,8 @@ impl<A: BaseAllocator + Drop> Owner<A> {
         &self.allocator
     }
 
-    /// Returns whether the bytes from one place up to the other are zero, and every other byte is a 7.
+    /// Returns whether the bytes from one place up to the other are zero, and every other byte is a
+    /// 7.
     pub(super) fn has_zeros(&self, from: usize, to: usize) -> bool {
         let mut place = self.region.start_address();
         for byte in self.region.bytes() {
@@ -78,7 +79,8 @@ impl<A: BaseAllocator + Drop> Owner<A> {
         self.live.len()
     }
 
-    /// Returns whether exactly `count` chunks are live, at `place` and each `stride` bytes further on.
+    /// Returns whether exactly `count` chunks are live, at `place` and each `stride` bytes further
+    /// on.
     pub(super) fn are_at(&self, place: usize, stride: usize, count: usize) -> bool {
         let mut place = place;
         for _ in 0..count {

@@ -124,8 +124,8 @@ impl<A: Reads + Drop> Allocator for Counted<A> {
     ghost only_live = { λ c. A.only_live c.inner };
 }
 
-/// Makes calls of a loan book over an allocator of two buckets. A loan that the allocator may serve reads one word, even if
-/// both buckets are held, and no other call reads any.
+/// Makes calls of a loan book over an allocator of two buckets. A loan that the allocator may serve
+/// reads one word, even if both buckets are held, and no other call reads any.
 fn calls<A: Reads + Drop>(rt: &(impl Abort + AllocGlobal), inner: A)
     requires { A.stands_for inner [] }
 {

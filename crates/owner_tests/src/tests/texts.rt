@@ -78,7 +78,7 @@ fn debug_text(rt: &(impl Abort + AllocGlobal), value: &impl Debug) -> String {
     format!(in rt.alloc(); "{value:?}").expect(rt, "there is memory for a text")
 }
 
-/// A request that a full pool refuses doesn't change its Debug text.
+/// A request that a full pool refuses doesn't change the pool's Debug text.
 #[test]
 fn a_refusal_shows_nothing(rt: HostRuntime) {
     let bucket = layout(&rt, 8, 8);

@@ -24,7 +24,8 @@ pub(super) fn refused(rt: &(impl Abort + AllocGlobal)) {
     assert!(rt; some_was_refused(rt.alloc()), "no memory was refused");
 }
 
-/// Checks that no call requested memory since the values were made, and ends the time in which requests may fail.
+/// Checks that no call requested memory since the values were made, and ends the time in which
+/// requests may fail.
 pub(super) fn none_requested(rt: &(impl Abort + AllocGlobal)) {
     assert!(rt; none_was_asked(rt.alloc()), "a call requested memory");
 }

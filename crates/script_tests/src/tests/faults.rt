@@ -1,4 +1,5 @@
-//! Readers and writers that fail at each of their calls in turn, and a script that is cut at every byte.
+//! Readers and writers that fail at each of their calls in turn, and a script that is cut at every
+//! byte.
 use super::checks::check_at;
 use super::table::ends;
 use script_kinds::Status::{self, Done, Unreadable};
@@ -48,8 +49,8 @@ impl Read for FailingReader<'_> {
     }
 }
 
-/// Stores what is written to it, at most five bytes for each write, and counts its calls. One of its writes may fail with an
-/// error, and so may its flushes.
+/// Stores what is written to it, at most five bytes for each write, and counts its calls. One of
+/// its writes may fail with an error, and so may its flushes.
 #[derive(Drop)]
 struct CountingWriter<'a> {
     kept: &'a mut Vec<u8>,
@@ -117,8 +118,9 @@ fn reader_fails_in_turn(rt: HostRuntime) {
     reads(&rt, interrupted, Done, FIRST_PATH_LINES);
 }
 
-/// Runs a script over a writer. Checks that the run ends with this status after this many writes and flushes, that the output
-/// is the beginning of the row's lines, and that it is all of these lines before a flush.
+/// Runs a script over a writer. Checks that the run ends with this status after this many writes
+/// and flushes, that the output is the beginning of the row's lines, and that it is all of these
+/// lines before a flush.
 fn writes(
     rt: &(impl Abort + AllocGlobal),
     row: &Row,
@@ -163,8 +165,8 @@ fn writer_fails_in_turn(rt: HostRuntime) {
     }
 }
 
-/// If the script is cut before any of the bytes from the first number up to the second, this line is unreadable. So is `alloc
-/// 10 3`, since 3 isn't a power of two.
+/// If the script is cut before any of the bytes from the first number up to the second, this line
+/// is unreadable. So is `alloc 10 3`, since 3 isn't a power of two.
 const UNREADABLE_CUTS: [(usize, usize, &[u8]); 7] = [
     (0, 11, b"line 1: refused\n"),
     (16, 25, b"line 2: refused\n"),
@@ -175,8 +177,9 @@ const UNREADABLE_CUTS: [(usize, usize, &[u8]); 7] = [
     (66, 69, b"line 7: refused\n"),
 ];
 
-/// If the script is cut before any byte from the first number up to the second, the run succeeds, with this many bytes of the
-/// whole script's lines. So does `bump 4096 1`, since that is a region, too.
+/// If the script is cut before any byte from the first number up to the second, the run succeeds,
+/// with this many bytes of the whole script's lines. So does `bump 4096 1`, since that is a region,
+/// too.
 const DONE_CUTS: [(usize, usize, usize); 7] = [
     (11, 16, 0),
     (25, 27, 14),
@@ -187,7 +190,8 @@ const DONE_CUTS: [(usize, usize, usize); 7] = [
     (69, 71, FIRST_PATH_LINES.len()),
 ];
 
-/// Checks that the script, cut before each byte from `from` up to `to`, ends with this status and these lines.
+/// Checks that the script, cut before each byte from `from` up to `to`, ends with this status and
+/// these lines.
 fn cuts(rt: &(impl Abort + AllocGlobal), from: usize, to: usize, (status, lines): (Status, &[u8])) {
     for cut in from..to {
         let script = FIRST_PATH.get(..cut).unwrap_or(b"");

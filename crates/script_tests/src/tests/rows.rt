@@ -1,4 +1,5 @@
-//! Scripts with their output, each row by its name. The worked scripts of `docs/script-format.md` are rows, too.
+//! Scripts with their output, each row by its name. The worked scripts of `docs/script-format.md`
+//! are rows, too.
 use super::checks::check_at;
 use super::table::{check_rows, ends};
 use bb_memory_base::steps::{bump_theorem, pool_theorem};

@@ -1,4 +1,5 @@
-//! Tables of scripts. Each line is a row: `NAME | SCRIPT | OUTPUT`, in which `; ` means a line feed.
+//! Tables of scripts. Each line is a row: `NAME | SCRIPT | OUTPUT`, in which `; ` means a line
+//! feed.
 use super::checks::check_at;
 use script_kinds::{Status, run};
 use std::alloc::{AllocError, Global};

@@ -1,4 +1,5 @@
-//! Which word of a pool's file is which flag or slot, and traces that the machine of such a pool allows, or refuses at a line.
+//! Tests of which word of a pool's file is which flag or slot, and of traces that the machine of
+//! such a pool allows, or refuses at a line.
 use crate::tests::checks::{check, same};
 use bb_memory_base::steps::Flag;
 use bb_memory_file_machine::steps::{FileOutcome, FileStep, Place, Slot};

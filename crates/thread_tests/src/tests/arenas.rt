@@ -1,4 +1,5 @@
-//! Arenas of two parties: each serves parts of its own chunk, and takes nothing else from the bump that they share.
+//! Arenas of two parties: each serves parts of its own chunk, and takes nothing else from the bump
+//! that they share.
 ghost use Rattle.std.specs.Prelude.{◌≡◌};
 
 use super::bumps::two;
@@ -36,8 +37,8 @@ fn take(
     Ok((chunk.place(), chunk.len()))
 }
 
-/// One arena is filled, reset and filled by one request. The rest of the bump makes another arena, and an arena one byte larger
-/// is refused.
+/// One arena is filled, reset and filled by one request. The rest of the bump makes another arena,
+/// and an arena one byte larger is refused.
 #[test]
 fn arenas_of_two_parties(rt: HostRuntime) {
     let (shared, one, other) = two(&rt, (4096, 1024, 0));

@@ -1,4 +1,5 @@
-//! Shared pools of buckets of 128 bytes at 4096, and calls that promise only what a further call needs.
+//! Shared pools of buckets of 128 bytes at 4096, and calls that promise only what a further call
+//! needs.
 ghost use Rattle.bb_memory_pool_machine.specs.PoolLogs.{IsHeldAfter};
 ghost use Rattle.std.specs.Prelude.{All, IfOk, IfSome, ℕ, ◌<◌, ◌≡◌};
 
@@ -34,7 +35,8 @@ pub(super) fn pool_of(
     }
 }
 
-/// Makes a pool over `size` bytes, a second time if memory ran out. From here on, requests for memory may fail.
+/// Makes a pool over `size` bytes, a second time if memory ran out. From here on, requests for
+/// memory may fail.
 pub(super) fn pool_at_last(
     rt: &(impl Abort + AllocGlobal),
     size: usize,

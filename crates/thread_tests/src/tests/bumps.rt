@@ -38,8 +38,8 @@ fn is_unchanged(rt: &(impl Abort + AllocGlobal), bump: &BumpAllocator, of: Of) {
     check(rt, got == text.expect(rt, "there is memory for a text"));
 }
 
-/// Shares a bump, a second time if memory ran out: then the bump came back unchanged. From here on, requests for memory may
-/// fail.
+/// Shares a bump, a second time if memory ran out: then the bump came back unchanged. From here on,
+/// requests for memory may fail.
 pub(super) fn share(
     rt: &(impl Abort + AllocGlobal),
     of: Of,
@@ -76,7 +76,7 @@ fn shared(
     bump.share(alloc, parties).map_err(|(bump, _)| bump)
 }
 
-/// Takes the last of these parties out.
+/// Removes the last of these parties, and returns it.
 pub(super) fn last_of(
     rt: &impl Abort,
     shared: &SharedBumpAllocator,
@@ -90,7 +90,7 @@ pub(super) fn last_of(
     parties.pop().expect(rt, "there is a party")
 }
 
-/// Adds a party to these.
+/// Adds a party to these parties.
 pub(super) fn add(
     rt: &impl Abort,
     shared: &SharedBumpAllocator,
@@ -121,7 +121,8 @@ pub(super) fn two(
     (shared, first, second)
 }
 
-/// Requests a chunk. Returns its place and length. If the numbers make no layout, it returns an answer that no bump gives.
+/// Requests a chunk. Returns its place and length. If the numbers make no layout, returns an answer
+/// that no bump gives.
 pub(super) fn take(
     shared: &SharedBumpAllocator,
     party: &mut BumpParty,

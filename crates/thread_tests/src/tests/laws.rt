@@ -1,4 +1,4 @@
-//! Laws. They do nothing, and each is called once.
+//! Laws, which do nothing: each is called once.
 use bb_memory_bump::shared_bump::{shared_bump_law, shared_bump_meeting_law};
 use bb_memory_shared_pools::shared_pool::{shared_pool_law, shared_pool_meeting_law};
 

@@ -1,4 +1,4 @@
-//! A word for each of several things that threads take: 1 from the taking to the return.
+//! A word for each thing that threads may take: 1 while it is taken, otherwise 0.
 use std::process::Abort;
 use std::sync::atomic::{AtomicU64, Ordering};
 
@@ -30,7 +30,8 @@ impl Slots {
         (from..from.saturating_add(count)).all(|at| self.mark(at))
     }
 
-    /// Watches a marked word for a while, and removes the mark. Returns whether nobody else did so meanwhile.
+    /// Watches a marked word for a while, and removes the mark. Returns whether nobody else did so
+    /// meanwhile.
     pub(super) fn unmark(&self, at: usize) -> bool {
         let Some(word) = self.words.get(at) else {
             return false;

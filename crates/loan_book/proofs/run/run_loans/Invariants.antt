@@ -3,7 +3,8 @@ use Rattle.loan_book.proofs.run.run_loans.Given as goal
 use Rattle.loan_book.specs.Calls.{AreLongEnough, BookStep, NotedStep}
 use Rattle.std.proofs.Common.{length, take, vec_capacity, vec_len, ◌≡◌, ◌≤◌}
 
--- the calls so far are a run, also of what the allocator notes, with chunks that are long enough; there is room for the replies
+-- the calls so far are a run, also of what the allocator notes, with chunks that are long enough;
+-- there is room for the replies
 abbrev pub invariant-loop-call : goal.invariant-loop-call
 invariant-loop-call g l =
     let A = g.A.BaseAllocator in

@@ -1,4 +1,5 @@
-//! Heap blocks. If memory runs out, no block is made, and a growth returns its block unchanged: then the call is made again.
+//! Heap blocks. If memory runs out, `allocate` makes no block, and `grow` returns its block
+//! unchanged; then the call is made again.
 use crate::tests::checks::{layout, refused, same};
 use bb_memory_heap::heap_allocator::{
     AllocationError, AllocationGrowError, AllocationShrinkError, HeapAllocator, HeapBlock,
@@ -153,7 +154,8 @@ fn a_block_is_zeroed_and_refused(rt: HostRuntime) {
     same(rt, digits(&block), (1, 5));
 }
 
-/// Blocks of many sizes are made, or grown from a byte, and their bytes are zero. Alignments decide nothing.
+/// Blocks of many sizes are made, or grown from a byte, and their bytes are zero. Alignments are
+/// ignored.
 #[test]
 fn heap_of_many_sizes(rt: HostRuntime) {
     let rt = &rt;

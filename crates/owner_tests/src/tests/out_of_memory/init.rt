@@ -1,12 +1,12 @@
-//! If `init` fails, it returns its pool uninitialised.
+//! If `init` fails, it returns the uninitialized pool.
 use crate::tests::checks::{layout, refused, same};
 use bb_memory_owned::pool_allocator::{AllocationError, PoolAllocator};
 use bb_memory_traits::layout::Layout;
 use std::alloc::Global;
 use std::process::Abort;
 
-/// Makes a pool over 1,024 bytes at 4097. If memory ran out, `init` returns the value on which it was called, and is called
-/// again.
+/// Makes a pool over 1,024 bytes at 4097. If memory ran out, `init` returns the value on which it
+/// was called, and is called again.
 fn initialised(rt: &(impl Abort + AllocGlobal), bucket: Layout) -> Option<PoolAllocator<Global>> {
     if !PoolAllocator::can_make(bucket, 4097, 1024) {
         return None;

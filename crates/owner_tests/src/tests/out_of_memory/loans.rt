@@ -45,7 +45,8 @@ pub(super) const NO_MEMORY: LoanReply = Refused(LoanError::Memory);
 /// The refusal by a full allocator.
 pub(super) const FULL: LoanReply = Refused(LoanError::Allocation(AllocationError::OutOfMemory));
 
-/// Loans `size` bytes, a second time if memory ran out: then the same samples are in use, and the next one isn't.
+/// Loans `size` bytes, a second time if memory ran out: then the same samples are in use, and the
+/// next one isn't.
 fn loan<A: Allocator + Drop>(
     rt: &(impl Abort + AllocGlobal),
     book: &mut LoanBook<A>,
@@ -72,8 +73,8 @@ fn loan_over_one_chunk(rt: HostRuntime) {
     same(&rt, reply(&mut book, Loan(1)), Loaned(1, whole));
 }
 
-/// Returns whether a loan and its return are made as one list, or `None` if memory ran out: for the replies, or for the loan's
-/// record, which uses up no id.
+/// Returns whether a loan and its return are made as one list, or `None` if memory ran out: for the
+/// replies, or for the loan's record, which uses up no id.
 fn is_made(alloc: Global, book: &mut LoanBook<OneChunkAllocator>, whole: Chunk) -> Option<bool> {
     let replies = run_loans(alloc, book, &[Loan(1), GiveBack(0)]).ok()?;
     let unmade = [NO_MEMORY, Refused(LoanError::UnknownSample)];
@@ -112,7 +113,8 @@ fn leave<A: Allocator + Drop>(rt: &impl Abort, book: &mut LoanBook<A>, ids: &[u6
     }
 }
 
-/// Loans sixteen samples, of which some go back and the others are published. Then six more are loaned.
+/// Loans sixteen samples, of which some go back and the others are published. Then six more are
+/// loaned.
 fn goes_back<A: Allocator + Drop>(rt: &(impl Abort + AllocGlobal), allocator: A)
     requires { A.stands_for allocator [] }
 {

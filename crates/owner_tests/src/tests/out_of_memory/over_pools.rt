@@ -1,5 +1,5 @@
-//! Layers. Their contracts state what they return; no contract can exclude an error for memory if no request failed. A failed
-//! call changes nothing, so the same call is made again.
+//! Layers. Their contracts state what they return; no contract can exclude an error for memory if
+//! no request failed. A failed call changes nothing, so the same call is made again.
 ghost use Rattle.bb_memory_owned.specs.Pool.{StandsFor};
 ghost use Rattle.bb_memory_traits.specs.Chunk.{region_at};
 ghost use Rattle.bb_memory_traits.specs.HeldBytes.{held_region};
@@ -17,7 +17,8 @@ use layers::tenants::Tenants;
 use std::alloc::Global;
 use std::process::Abort;
 
-/// Makes a pool of eight buckets of 128 bytes, and its region of 1,024 bytes at 4096, or `None` if memory ran out.
+/// Makes a pool of eight buckets of 128 bytes, and its region of 1,024 bytes at 4096, or `None` if
+/// memory ran out.
 fn buckets(alloc: Global) -> Option<(FixedSizePoolAllocator<16>, Region)>
     ensures empty { IfSome result (λ made. StandsFor made.0.pool []) }
     ensures pool { IfSome result (λ made. made.0.pool.geometry.region ≡ region_at 4096 1024) }
@@ -58,7 +59,8 @@ fn a_slab(rt: HostRuntime) {
     keeps_two(&rt, pool, region);
 }
 
-/// Admits a tenant with a limit, and allocates 100 bytes for it, each a second time if memory ran out.
+/// Admits a tenant with a limit, and allocates 100 bytes for it, each a second time if memory ran
+/// out.
 fn admits<A: Allocator + Drop>(
     rt: &(impl Abort + AllocGlobal),
     tenants: &mut Tenants<A>,

@@ -101,7 +101,8 @@ fn one_chunk_is_resized(rt: HostRuntime) {
     check(&rt, got.as_slice() == wanted.as_slice());
 }
 
-/// Takes two buckets, gives one back, and takes one more. Checks how many are held then, and the greatest number so far.
+/// Takes two buckets, gives one back, and takes one more. Checks how many are held then, and the
+/// greatest number so far.
 fn takes<A: Buckets>(
     rt: &(impl Abort + AllocGlobal),
     pool: &mut Owner<A>,
@@ -160,7 +161,8 @@ fn reply_at(replies: &[Reply], position: usize) -> Option<Reply> {
     replies.get(position).copied()
 }
 
-/// The commands of a pool of eight buckets of 128 bytes: each refusal, each bucket once, and the first one again.
+/// The commands of a pool of eight buckets of 128 bytes: each refusal, each bucket once, and the
+/// first one again.
 fn commands_of_eight(rt: &impl Abort) -> [Command; 14] {
     let take = Allocate(layout(rt, 48, 4));
     [

@@ -1,4 +1,5 @@
-//! Steps of both machines without memory, in worlds of more parties than a script has, or of steps that no script has.
+//! Steps of both machines while no memory is available: in worlds with more parties than a script
+//! has, or with steps that no script has.
 use super::worlds::made;
 use crate::tests::checks::{chunk, layout, none_requested, same};
 use bb_memory_base::steps::PoolOutcome::{Attaches, Detaches, Gives, Misses, Passed, Takes};

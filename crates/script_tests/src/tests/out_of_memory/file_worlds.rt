@@ -1,4 +1,5 @@
-//! Replays of steps of processes, one of which is killed. A failed replay leaves its world unchanged, and is made again.
+//! Replays of steps of processes, one of which is killed. A failed replay leaves its world
+//! unchanged, and is made again.
 use super::worlds::made;
 use crate::tests::checks::{check, refused, same};
 use bb_memory_base::steps::{Flag, PoolStep};
@@ -17,8 +18,8 @@ const GIVE: FileStep = Deallocate {
     bucket: 0,
 };
 
-/// Process 0 joins with number 0 and is killed in a post. Process 1 joins with the same number, which settles it, and takes the
-/// message.
+/// Process 0 joins with number 0 and is killed in a post. Process 1 joins with the same number,
+/// which settles it, and takes the message.
 const STEPS: [FileStep; 28] = [
     Lock {
         process: 0,

@@ -1,5 +1,5 @@
-//! Scripts that have to hold if any one request for memory fails: a run ends with status 4, and its output is the beginning of
-//! the output with ample memory.
+//! Scripts that have to end correctly if any one request for memory fails: the run ends with status
+//! 4, and its output is a beginning of the output with ample memory.
 use crate::tests::checks::{check, refused, same};
 use crate::tests::table::{field_and_rest, lines};
 use script_kinds::{Status, run};

@@ -1,4 +1,5 @@
-//! Caching parties, with ample memory and with any one failing request: only `new` and `cache_at_most` allocate memory.
+//! Caching parties, with ample memory and with any one failing request: only `new` and
+//! `cache_at_most` allocate memory.
 ghost use Rattle.std.specs.Prelude.{◌≡◌};
 
 use crate::tests::buckets::two;
@@ -8,7 +9,8 @@ use bb_memory_traits::allocator::AllocationError;
 use bb_memory_traits::layout::Layout;
 use std::process::Abort;
 
-/// Takes two buckets and gives them back. The other party finds the cached one held until it is flushed.
+/// Takes two buckets and gives them back. The other party finds the cached one held until it is
+/// flushed.
 fn fills(
     rt: &impl Abort,
     pool: &SharedPoolAllocator,
@@ -65,8 +67,8 @@ fn keeps_two(
     Ok(())
 }
 
-/// Makes a party that caches one bucket cache at most two from then on, which gives back the cached one. A failure changes
-/// nothing.
+/// Makes a party that caches one bucket cache at most two from then on, which gives back the cached
+/// one. A failure changes nothing.
 fn caches_two(
     rt: &(impl Abort + AllocGlobal),
     pool: &SharedPoolAllocator,

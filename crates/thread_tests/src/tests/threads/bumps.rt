@@ -15,8 +15,9 @@ use std::sync::Arc;
 use std::thread;
 use std::thread::{Promise, PromisedHandle, Threads};
 
-/// The work of each thread: it makes at most a fixed number of requests, until one is refused, and then reads the used space
-/// until that is `until`. The party of number `i` requests layout `i` of these, or `i - 3`.
+/// The work of each thread: it makes at most a fixed number of requests, until one is refused, and
+/// then reads the used space until that is `until`. The party of number `i` requests layout `i` of
+/// these, or `i - 3`.
 #[derive(Drop)]
 struct Work {
     layouts: [Layout; 3],
@@ -72,7 +73,8 @@ fn watch(shared: &SharedBumpAllocator, party: &mut BumpParty, used: usize) -> bo
     false
 }
 
-/// Makes requests until one is refused, at most as often as the work says. Returns whether each chunk was as requested.
+/// Makes requests until one is refused, at most as often as the work says. Returns whether each
+/// chunk was as requested.
 fn take_all(shared: &SharedBumpAllocator, work: &Work, party: &mut BumpParty) -> bool
     requires { party.old.allocator ≡ shared.now }
     ensures { party.new.allocator ≡ shared.now }
@@ -184,8 +186,8 @@ fn in_threads(
     parties
 }
 
-/// Shares a bump of this start, size and used space, with a thread for each of its parties. Returns the bump, its parties after
-/// their work, and how many bytes are marked.
+/// Shares a bump of this start, size and used space, with a thread for each of its parties. Returns
+/// the bump, its parties after their work, and how many bytes are marked.
 fn worked(
     rt: &(impl Threads + Abort + AllocGlobal),
     of: Of,
@@ -221,7 +223,8 @@ fn four_take_ten_bytes(rt: HostRuntime) {
     same(rt, request(&shared, &mut last, 96, 1), Ok((8096, 96)));
 }
 
-/// Each of three threads takes chunks as long as there is room, by a layout of its own. Each pair of parties meets.
+/// Each of three threads takes chunks as long as there is room, by a layout of its own. Each pair
+/// of parties meets.
 // row: threads-bump-mixed-layouts
 #[test]
 fn three_take_all(rt: HostRuntime) {
@@ -244,7 +247,8 @@ fn three_take_all(rt: HostRuntime) {
     shared.meet(&mut a, &mut c);
 }
 
-/// Each of two threads takes a chunk and watches for what the other takes, so threads that ran one after the other would fail.
+/// Each of two threads takes a chunk and watches for what the other takes, so threads that ran one
+/// after the other would fail.
 // row: threads-really-at-once
 #[test]
 fn two_at_once(rt: HostRuntime) {

@@ -15,8 +15,8 @@ use std::sync::Arc;
 use std::thread;
 use std::thread::{Promise, PromisedHandle, Threads};
 
-/// The work of each thread: it takes a bucket a fixed number of times, by a next-fit search or by a pass, and goes on after a
-/// refusal.
+/// The work of each thread: it takes a bucket a fixed number of times, by a next-fit search or by a
+/// pass, and goes on after a refusal.
 #[derive(Drop)]
 struct Work {
     /// A word for each bucket.
@@ -28,7 +28,8 @@ struct Work {
     returns: bool,
 }
 
-/// Takes a bucket, if one is free. Returns false if somebody else marked it before it was given back.
+/// Takes a bucket, if one is free. Returns false if somebody else marked it before it was given
+/// back.
 fn take_one(pool: &SharedPoolAllocator, work: &Work, party: &mut PoolParty) -> bool
     requires { party.old.allocator ≡ pool.now }
     ensures { party.new.allocator ≡ pool.now }
@@ -160,8 +161,9 @@ fn move_parties(
     }
 }
 
-/// Makes a pool of this size for four parties. `threads` of them do the work, each in a thread. Then all four meet, and one
-/// takes all buckets that are left: those from `left` on. Returns how many buckets are marked.
+/// Makes a pool of this size for four parties. `threads` of them do the work, each in a thread.
+/// Then all four meet, and one takes all buckets that are left: those from `left` on. Returns how
+/// many buckets are marked.
 fn all_take(
     rt: &(impl Threads + Abort + AllocGlobal),
     size: usize,
@@ -199,7 +201,8 @@ fn take_and_return(rt: &(impl Threads + Abort + AllocGlobal), size: usize, next_
     same(rt, all_take(rt, size, 4, work, 0), 0);
 }
 
-/// The pools have as many buckets as there are threads, or fewer, so that next-fit searches collide at each bucket.
+/// The pools have as many buckets as there are threads, or fewer, so that next-fit searches collide
+/// at each bucket.
 // row: threads-pool-take-and-return
 #[test]
 fn four_take_and_return(rt: HostRuntime) {

@@ -1,4 +1,5 @@
-//! A queue from one thread to another, each of whose messages is a bucket of one shared pool: the receiver gives it back.
+//! A queue from one thread to another, each of whose messages is a bucket of one shared pool: the
+//! receiver gives it back.
 ghost use Rattle.std.specs.Prelude.{IfOk, Some, ◌<◌, ◌≡◌};
 
 use crate::tests::buckets::{take, two};
@@ -45,7 +46,8 @@ impl<P: MessagePool> Protocol<DetachedBucket> for OfPool<P> {
     ghost allows = { λ before message. P.pool ≡ Some message.allocator };
 }
 
-/// Sends a message, if there is a bucket for it and room in the queue. If the queue has no room, the bucket is given back.
+/// Sends a message, if there is a bucket for it and room in the queue. If the queue has no room,
+/// the bucket is given back.
 fn send_one<P: MessagePool>(
     pool: &SharedPoolAllocator,
     party: &mut PoolParty,
@@ -121,7 +123,8 @@ fn receive_all<P: MessagePool>(
     (party, received)
 }
 
-/// Makes one thread send while another receives. Returns how many messages each counted, and the receiver's party.
+/// Makes one thread send while another receives. Returns how many messages each counted, and the
+/// receiver's party.
 fn send_and_receive<P: MessagePool + Send, R: Threads + Sync + AllocGlobal>(
     rt: &R,
     pool: &SharedPoolAllocator,
@@ -150,8 +153,8 @@ fn send_and_receive<P: MessagePool + Send, R: Threads + Sync + AllocGlobal>(
     Ok((receiver, sent, received))
 }
 
-/// Sends a thousand messages in two buckets: each arrives, both buckets are free in the end, and there is no third bucket. The
-/// call's brand names the pool.
+/// Sends a thousand messages in two buckets: each arrives, both buckets are free in the end, and
+/// there is no third bucket. The call's brand names the pool.
 #[test]
 fn threads_pool_queue(rt: HostRuntime) {
     let (small, (pool, sender, receiver)) = (layout(&rt, 48, 4), two(&rt, 256));

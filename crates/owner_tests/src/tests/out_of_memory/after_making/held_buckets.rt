@@ -1,4 +1,5 @@
-//! Held buckets: their count, the greatest one so far, buckets by number, and the reads of a request.
+//! Held buckets: their count, the greatest count so far, buckets by number, and the reads of a
+//! request.
 use crate::tests::checks::{check, layout, none_requested, refused, same};
 use crate::tests::kinds::{Kind, Of, fixed_over, pool_over};
 use bb_memory_owned::pool_allocator::{
@@ -50,7 +51,8 @@ fn counts(rt: &impl Abort, pool: &impl Buckets, held: u32, greatest: u32, bucket
     same(rt, pool.figures(0, 0).0, (held, greatest, held < buckets));
 }
 
-/// Allocates a bucket, whose place and number agree. As the count of held buckets rises, it is another one each time.
+/// Allocates a bucket, whose place and number agree. As the count of held buckets rises, each call
+/// gets another bucket.
 fn takes(rt: &impl Abort, pool: &mut impl Buckets, size: usize) {
     let Ok(chunk) = pool.allocate(layout(rt, size, size)) else {
         panic!(rt; "no bucket is free");
@@ -88,7 +90,8 @@ fn has_none_between(rt: &impl Abort, pool: &mut impl Buckets, buckets: u32) {
     }
 }
 
-/// Takes all buckets of 16 bytes, gives them back, and takes one. Neither a return nor a refusal changes the greatest number.
+/// Takes all buckets of 16 bytes, gives them back, and takes one. Neither a return nor a refusal
+/// changes the greatest number.
 fn goes_round(rt: &(impl Abort + AllocGlobal), made: Option<impl Buckets>, buckets: u32) {
     let Some(mut pool) = made else {
         return refused(rt);
@@ -133,7 +136,8 @@ fn fixed_counts_what_it_holds(rt: HostRuntime) {
     }
 }
 
-/// Requests a byte, which reads one index word. The byte is at `place`, or the request fails if this is `None`.
+/// Requests a byte, which reads one index word. The byte is at `place`, or the request fails if
+/// this is `None`.
 fn by_one_read(rt: &impl Abort, pool: &mut PoolAllocator<Global>, place: Option<usize>) {
     let given = pool.allocate(layout(rt, 1, 1));
     same(rt, pool.last_reads(), 1);
@@ -143,7 +147,8 @@ fn by_one_read(rt: &impl Abort, pool: &mut PoolAllocator<Global>, place: Option<
     }
 }
 
-/// Takes all buckets of one byte, by one read each. Then the bucket at `place` is given back, and the next request gets it.
+/// Takes all buckets of one byte, by one read each. Then the bucket at `place` is given back, and
+/// the next request gets it.
 fn fills(rt: &(impl Abort + AllocGlobal), buckets: u32, place: usize) {
     let Some(mut pool) = pool_over(rt.alloc(), layout(rt, 1, 1), 4096, buckets as usize) else {
         return refused(rt);
@@ -163,7 +168,8 @@ fn fills(rt: &(impl Abort + AllocGlobal), buckets: u32, place: usize) {
     none_requested(rt);
 }
 
-/// One read finds that all buckets are held, or finds the only free one, in words that are full or not.
+/// One read finds that all buckets are held, or finds the only free one, in words that are full or
+/// not.
 // row: pool-sixty-five-buckets, pool-two-full-words
 #[test]
 fn one_read_where_all_are_held(rt: HostRuntime) {
@@ -179,8 +185,9 @@ fn has_no_number(rt: &impl Abort, pool: &PoolAllocator<Global>, places: &[usize]
     }
 }
 
-/// Checks the numbers of a pool's buckets, which begin at the region's start, and that no other place has a number: one beside a
-/// bucket's place, a stride before the first bucket or after the last one, and the least and the greatest address.
+/// Checks the numbers of a pool's buckets, which begin at the region's start, and that no other
+/// place has a number: one beside a bucket's place, a stride before the first bucket or after the
+/// last one, and the least and the greatest address.
 fn numbers(rt: &(impl Abort + AllocGlobal), of: Of, stride: usize, buckets: u32) {
     let [start, size, bucket_size, align] = of;
     let Some(pool) = pool_over(rt.alloc(), layout(rt, bucket_size, align), start, size) else {
@@ -206,7 +213,8 @@ fn numbers(rt: &(impl Abort + AllocGlobal), of: Of, stride: usize, buckets: u32)
     none_requested(rt);
 }
 
-/// Odd strides, powers of two, and products of both; regions that begin at the least place, and that end at the greatest one.
+/// Odd strides, powers of two, and products of both; regions that begin at the least place, and
+/// that end at the greatest one.
 #[test]
 fn a_number_at_each_place(rt: HostRuntime) {
     numbers(&rt, [4096, 1000, 96, 32], 96, 10);

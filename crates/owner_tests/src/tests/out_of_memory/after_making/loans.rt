@@ -32,8 +32,9 @@ fn a_loan_book(rt: HostRuntime) {
     none_requested(&rt);
 }
 
-/// Fills an allocator of sixteen chunks and the book's room for records. If memory fails, a further loan fails because of its
-/// record, before the allocator gets a request; with memory the allocator refuses it.
+/// Fills an allocator of sixteen chunks and the book's room for records. If memory fails, a further
+/// loan fails because of its record, before the allocator gets a request; with memory the allocator
+/// refuses it.
 fn fills<A: Allocator + Drop>(rt: &(impl Abort + AllocGlobal), allocator: A)
     requires { A.stands_for allocator [] }
 {

@@ -54,7 +54,8 @@ fn takes_all<A: BaseAllocator + Drop>(rt: &impl Abort, owner: &mut Owner<A>, zer
     same(rt, owner.allocate(all, zeroed), refused);
 }
 
-/// Makes each call that resizes, first plainly and then with cleared bytes, between a request and a return.
+/// Makes each call that resizes, first plainly and then with cleared bytes, between a request and a
+/// return.
 fn each_call<A: Kind + Allocator>(rt: &(impl Abort + AllocGlobal), of: Of) {
     let mut owner = fresh::<A>(rt, of);
     for (zeroed, end) in [(false, 4096), (true, 4160)] {
@@ -125,8 +126,8 @@ fn one_chunk_is_shrunk_and_grown(rt: HostRuntime) {
     none_requested(&rt);
 }
 
-/// Takes 48 bytes, which can't be grown to 129. They are grown, shrunk and given back: exactly the bytes by which they grew
-/// are zero.
+/// Takes 48 bytes, which can't be grown to 129. They are grown, shrunk and given back: exactly the
+/// bytes by which they grew are zero.
 fn is_grown_and_shrunk<A: Kind + Allocator>(rt: &(impl Abort + AllocGlobal), of: Of) {
     let mut owner = fresh::<A>(rt, of);
     let (place, len) = takes(rt, &mut owner, (48, 4), false);
@@ -149,7 +150,8 @@ fn a_bucket_is_grown_and_shrunk(rt: HostRuntime) {
     is_grown_and_shrunk::<FixedSizePoolAllocator<512>>(&rt, [4096, 1024, 128, 8]);
 }
 
-/// Takes all buckets of a pool at 4096, each of which is at a place of its own, and then one of them again, cleared.
+/// Takes all buckets of a pool at 4096, each of which is at a place of its own, and then one of
+/// them again, cleared.
 fn fills<A: Kind + Allocator>(
     rt: &(impl Abort + AllocGlobal),
     of: Of,
@@ -177,8 +179,8 @@ fn each_bucket_has_its_place(rt: HostRuntime) {
     fills::<PoolAllocator<Global>>(&rt, [4096, 64, 12, 8], (16, 4));
 }
 
-/// Spends a budget of one chunk over a pool of buckets of 128 bytes. Then the budget refuses a request before the pool gets it.
-/// A resize spends nothing.
+/// Spends a budget of one chunk over a pool of buckets of 128 bytes. Then the budget refuses a
+/// request before the pool gets it. A resize spends nothing.
 fn spends<A: Allocator + Drop>(rt: &(impl Abort + AllocGlobal), pool: A)
     requires fresh { A.stands_for pool [] }
     requires region { A.region_of (A.geometry pool) ≡ region_at 4096 1024 }

@@ -37,7 +37,8 @@ fn hold<'p>(rt: &impl Abort, pool: &'p SharedPoolAllocator, party: &mut CachingP
     bucket.expect(rt, "a bucket is free or cached")
 }
 
-/// Takes bucket 0 and gives it back, which caches it. Then the other party's request is refused, and both meet.
+/// Takes bucket 0 and gives it back, which caches it. Then the other party's request is refused,
+/// and both meet.
 fn caches(rt: &impl Abort, pool: &SharedPoolAllocator, a: &mut CachingParty, b: &mut CachingParty)
     requires first { a.old.party.allocator ≡ pool.now }
     requires second { b.old.party.allocator ≡ pool.now }

@@ -31,7 +31,8 @@ fn what_was_used_stays_used(rt: HostRuntime) {
     none_requested(rt);
 }
 
-/// A thousand parties meet. The last one hasn't seen what another one took then.
+/// A thousand parties meet. Afterwards one takes a chunk, and the last one, which has made no step
+/// and hasn't seen that, ends the sharing.
 #[test]
 fn the_last_party_made_no_step(rt: HostRuntime) {
     let rt = &rt;

@@ -1,4 +1,5 @@
-//! Parties of one thread that share a pool of buckets of 128 bytes. A request returns a bucket's number, place and length.
+//! Parties of one thread that share a pool of buckets of 128 bytes. A request returns a bucket's
+//! number, place and length.
 ghost use Rattle.std.specs.Prelude.{All, ◌<◌, ◌≡◌};
 
 use crate::tests::buckets::{add, fit, found, hold, last_of, pool_at_last, take, two};
@@ -127,8 +128,8 @@ fn a_detached_bucket_is_nobodys(rt: HostRuntime) {
     none_requested(rt);
 }
 
-/// Attaches the bucket of this number, which `from` may have detached, and gives it back if that succeeded. Returns whether it
-/// did.
+/// Attaches the bucket of this number, which `from` may have detached, and gives it back if that
+/// succeeded. Returns whether it did.
 fn attaches_number(
     pool: &SharedPoolAllocator,
     party: &mut PoolParty,
@@ -147,8 +148,8 @@ fn attaches_number(
     won
 }
 
-/// A bucket that was detached by its number is attached once, by the number of the party that detached it. A bucket with a
-/// token is not.
+/// A bucket that was detached by its number is attached once, by the number of the party that
+/// detached it. A bucket with a token is not.
 #[test]
 fn a_number_is_attached_once(rt: HostRuntime) {
     let (small, (pool, mut a, mut b)) = (layout(&rt, 48, 4), two(&rt, 128));
@@ -177,8 +178,8 @@ fn a_number_is_attached_once(rt: HostRuntime) {
     none_requested(rt);
 }
 
-/// A search begins in the party's part. The next one begins where the last one ended, or at the bucket that came back last, and
-/// goes on at bucket 0.
+/// A search begins in the party's part. The next one begins where the last one ended, or at the
+/// bucket that came back last, and goes on at bucket 0.
 #[test]
 fn a_search_goes_on(rt: HostRuntime) {
     let (small, (pool, mut a, mut b)) = (layout(&rt, 48, 4), two(&rt, 1024));
@@ -242,7 +243,8 @@ fn a_detached_bucket_is_found(rt: HostRuntime) {
     none_requested(rt);
 }
 
-/// A bucket is held from its taking to its return, even while it is detached. A refusal changes nothing.
+/// A bucket is held from its taking to its return, even while it is detached. A refusal changes
+/// nothing.
 #[test]
 fn held_buckets_are_counted(rt: HostRuntime) {
     let (small, (pool, mut a, mut b)) = (layout(&rt, 48, 4), two(&rt, 256));
@@ -283,7 +285,8 @@ fn shrink(
     pool.shrink(bucket, old, new)
 }
 
-/// A chunk is shrunk. Then a token of its bucket is made from the bucket's number, and the bucket is given back.
+/// A chunk is shrunk. Then a token of its bucket is made from the bucket's number, and the bucket
+/// is given back.
 #[test]
 fn a_bucket_by_its_number(rt: HostRuntime) {
     let (small, (pool, mut party, _)) = (layout(&rt, 48, 4), two(&rt, 128));
