@@ -8,12 +8,12 @@ use Rattle.bb_memory_seats.specs.Seats.{number_of, view_log}
 use Rattle.bb_memory_shared_pools.proofs.SharedPoolRequests.{HasAsked}
 use Rattle.bb_memory_shared_pools.proofs.SharedPoolTries.{held-append, hint-append, hint_through, test_below, test_not_below}
 use Rattle.bb_memory_shared_pools.specs.SharedPoolNextFit.{hint_after, miss_at, misses, probed, refused_search, start_of, taking_at, taking_search}
-use Rattle.bb_memory_shared_pools.specs.SharedPoolRule.{AfterGain, AfterMiss, AfterRefusal, AfterSearchWin, IsInSearch, IsSeatOfIdle, SeatView, probes_before}
+use Rattle.bb_memory_shared_pools.specs.SharedPoolRule.{AfterGain, AfterMiss, AfterProbe, AfterRefusal, AfterSearchWin, IsInSearch, IsSeatOfIdle, SeatView, probes_before}
 use Rattle.bb_memory_shared_pools.specs.declared.shared_pool.party.Hint.{Hint}
 use Rattle.std.proofs.Common.{Bool, None, Some, add-one, ap, append-nil, append_assoc, arith, false, inl, inr, refl, subst, suc, sym, true, zero, ℕ, ◌%◌, ◌++◌, ◌+◌, ◌-◌, ◌<◌, ◌∙◌, ◌≡◌, ◌≤◌}
 use Rattle.std.proofs.Math.Nat.{add-mod_left, add-zero, mod-eq_of_lt}
 use Rattle.std.proofs.lemmas.Bool.{cases_lt}
-use Rattle.std.specs.Prelude.{if◌then◌else◌, ◌==◌}
+use Rattle.std.specs.Prelude.{MatchBool, if◌then◌else◌, ◌==◌}
 use borrow.Author.Count.{below_more}
 
 -- PROBES
@@ -196,6 +196,17 @@ module _ (scene : PoolScene) (number : ℕ) (log : PoolLog) (first : ℕ) where
           below = subst (λ (b : ℕ). b < buckets) (sym is) (probe_below buckets first probe below);
           free = subst (λ (b : ℕ). ¬ IsHeldAfter log b) (sym is) free;
         }
+
+  -- the first probe, if the pool has bucket `first`
+  pub first_probed : (me new : Me ℕ SeatView) → IsInSearch scene number log first 0 me → first < scene.geometry.buckets →
+      (told : Bool) → AfterProbe scene (number_of me.0) (view_log me.0) first new told →
+      MatchBool told (AfterSearchWin scene number log first new first)
+      (IsInSearch scene number log first (probes_before scene.geometry.buckets first) new)
+  first_probed me new begun inside true won =
+      search_takes me new 0 begun first (sym (first_probe scene.geometry.buckets first inside)) won (omega arith)
+  first_probed me new begun inside false lost =
+      subst (λ (n : ℕ). IsInSearch scene number log first n new) (sym (probes_one scene.geometry.buckets first inside))
+      (search_goes_on me new 0 begun first (sym (first_probe scene.geometry.buckets first inside)) lost)
 
   pub search_refuses : (me : Me ℕ SeatView) → IsInSearch scene number log first scene.geometry.buckets me →
       AfterRefusal scene number log (refused_search scene.geometry.buckets number first) me

@@ -1,14 +1,15 @@
 //! Next fit: requests whose search begins at the party's hint.
 ghost use Rattle.bb_memory_pool_machine.specs.PoolLogs.{PoolLog};
+ghost use Rattle.bb_memory_pool_machine.specs.declared.steps.pool.PoolOutcome.TheVariants.{Takes};
 ghost use Rattle.bb_memory_seats.specs.Seats.{Stays, number_of, view_log};
-ghost use Rattle.bb_memory_shared_pools.specs.SharedPool.{ServesAlone};
-ghost use Rattle.bb_memory_shared_pools.specs.SharedPoolNextFit.{MayTakeFrom, hint_of, part_of, probed, refused_search};
+ghost use Rattle.bb_memory_shared_pools.specs.SharedPool.{ServesAlone, taken_bucket};
+ghost use Rattle.bb_memory_shared_pools.specs.SharedPoolNextFit.{MayTakeFrom, hint_after, hint_of, part_of, probed, refused_search};
 ghost use Rattle.bb_memory_shared_pools.specs.SharedPoolRule.{AfterRefusal, AfterSearchWin, IsIdleAt, IsInSearch, probes_before};
-ghost use Rattle.std.specs.Prelude.{IfSome, MatchOption, ℕ, ◌+◌, ◌<◌, ◌^◌, ◌≡◌};
+ghost use Rattle.std.specs.Prelude.{IsTrue, MatchBool, MatchOption, ℕ, ◌+◌, ◌<◌, ◌^◌, ◌≡◌, ◌≤◌};
 
 use super::bucket::Bucket;
 use super::buckets::SharedBucketPool;
-use super::party::PoolParty;
+use super::party::{Hint, PoolParty};
 use super::rule::View;
 use atomic_table::Seat;
 use bb_memory_traits::allocator::AllocationError;
@@ -39,52 +40,63 @@ impl<const CAPPED: usize, const MOST: usize> SharedBucketPool<CAPPED, MOST> {
         (before / self.number_of_parties() as u64) as u32
     }
 
-    /// Makes one whole search: probes each bucket from bucket `first` up, and then each below it,
-    /// until one is taken. The probe of bucket `first` is the fast path: it makes its exchange
-    /// without a load before it, since the bucket at the hint is mostly free. A call makes all other
-    /// probes.
-    fn next_fit(&self, party: u32, seat: &mut Seat<u8, View>, first: u32) -> Option<u32>
+    /// Makes the first probe of a search that begins at bucket `first`, if the pool has that bucket.
+    /// Returns whether that took the bucket. The probe makes its exchange without a load before it,
+    /// since the bucket at the hint is mostly free.
+    fn try_first(&self, party: u32, seat: &mut Seat<u8, View>, first: u32) -> bool
         requires party { number_of seat.old.me.0 ≡ party }
         requires seat { IsIdleAt self.now seat.old.table_id seat.old.me }
-        ensures step { Stays seat.old.table_id seat.new.table_id (MatchOption result
-            (AfterRefusal self.now.scene (number_of seat.old.me.0) (view_log seat.old.me.0)
-            (refused_search self.now.scene.geometry.buckets (number_of seat.old.me.0) first)
-            seat.new.me)
+        ensures step { Stays seat.old.table_id seat.new.table_id (MatchBool result
             (AfterSearchWin self.now.scene (number_of seat.old.me.0) (view_log seat.old.me.0)
-            first seat.new.me)) }
-        ensures fits { IfSome result (λ bucket. bucket + 1 < 2 ^ 32) }
+            first seat.new.me first)
+            (IsInSearch self.now.scene (number_of seat.old.me.0) (view_log seat.old.me.0)
+            first (probes_before self.now.scene.geometry.buckets first) seat.new.me)) }
+        ensures fits { IsTrue result → first + 1 < 2 ^ 32 }
     {
-        if first < self.number_of_buckets() && self.flags.try_at(party, seat, first) {
-            return Some(first);
-        }
-        self.later_probes(party, seat, first)
+        first < self.number_of_buckets() && self.flags.try_at(party, seat, first)
     }
 
-    /// Makes the probes of a search after that of bucket `first`, which missed, or all of them if the
-    /// pool has no such bucket. The clause holds for each log with which the search may have begun.
-    /// The function isn't inlined, so that a search whose first probe takes a bucket is
-    /// straight-line code.
+    /// Makes the probes of the hint's search after that of bucket `hint.bucket`, which missed, or all of
+    /// them if the pool has no such bucket, and moves the hint after a bucket that it took. The clause
+    /// `step` holds for each log with which the search may have begun. The function isn't inlined, so
+    /// that a search whose first probe takes a bucket is straight-line code.
     #[inline(never)]
-    fn later_probes(&self, party: u32, seat: &mut Seat<u8, View>, first: u32) -> Option<u32>
+    fn later_probes(&self, party: u32, seat: &mut Seat<u8, View>, hint: &mut Hint) -> Option<u32>
         requires party { number_of seat.old.me.0 ≡ party }
         requires seat { IsIdleAt self.now seat.old.table_id seat.old.me }
         ensures step { Stays seat.old.table_id seat.new.table_id ((number : ℕ) (log : PoolLog)
-            → IsInSearch self.now.scene number log first
-            (probes_before self.now.scene.geometry.buckets first) seat.old.me → MatchOption result
-            (AfterRefusal self.now.scene number log
-            (refused_search self.now.scene.geometry.buckets number first) seat.new.me)
-            (AfterSearchWin self.now.scene number log first seat.new.me)) }
-        ensures fits { IfSome result (λ bucket. bucket + 1 < 2 ^ 32) }
+            → IsInSearch self.now.scene number log hint.old.bucket
+            (probes_before self.now.scene.geometry.buckets hint.old.bucket) seat.old.me
+            → MatchOption result (AfterRefusal self.now.scene number log
+            (refused_search self.now.scene.geometry.buckets number hint.old.bucket) seat.new.me)
+            (AfterSearchWin self.now.scene number log hint.old.bucket seat.new.me)) }
+        ensures hint { MatchOption result (hint.new ≡ hint.old)
+            (λ bucket. hint.new ≡ hint_after hint.old (Takes bucket)) }
     {
+        let first = hint.bucket;
         let count = self.number_of_buckets();
         let from = if first < count { 1 } else { 0 };
         for probe in from..count {
             let bucket = probed(count, first, probe);
             if self.flags.probe(party, seat, bucket) {
+                hint.follow_taking(bucket);
                 return Some(bucket);
             }
         }
         None
+    }
+
+    /// Returns the token of the bucket of this number, with this length.
+    fn taken(&self, number: u32, len: usize) -> Bucket<'_>
+        requires number { number < self.now.scene.geometry.buckets }
+        requires len { len ≤ self.now.scene.geometry.bucket.size }
+        ensures { result ≡ taken_bucket self.now number len }
+    {
+        Bucket {
+            flags: &self.flags,
+            number,
+            len,
+        }
     }
 
     /// Takes a bucket for the party, as `allocate` does, but tries the buckets in another order: after the same tests of size and
@@ -111,15 +123,15 @@ impl<const CAPPED: usize, const MOST: usize> SharedBucketPool<CAPPED, MOST> {
         // Proof hint: brings the party's invariant into scope on the early returns.
         let _ = &party.number;
         self.flags.geometry().admit(layout)?;
-        let found = self.next_fit(party.number, &mut party.seat, party.hint.bucket);
-        let Some(number) = found else {
+        let first = party.hint.bucket;
+        if self.try_first(party.number, &mut party.seat, first) {
+            party.hint.follow_first(first);
+            return Ok(self.taken(first, layout.size()));
+        }
+        let later = self.later_probes(party.number, &mut party.seat, &mut party.hint);
+        let Some(number) = later else {
             return Err(AllocationError::OutOfMemory);
         };
-        party.hint.follow_taking(number);
-        Ok(Bucket {
-            flags: &self.flags,
-            number,
-            len: layout.size(),
-        })
+        Ok(self.taken(number, layout.size()))
     }
 }

@@ -30,6 +30,18 @@ impl Hint {
         self.bucket = self.rover;
     }
 
+    /// Moves the hint after this bucket, at which the search began, was taken.
+    pub(super) fn follow_first(&mut self, bucket: u32)
+        requires first { bucket ≡ self.old.bucket }
+        requires fits { bucket + 1 < 2 ^ 32 }
+        ensures { self.new ≡ hint_after self.old (Takes bucket) }
+    {
+        if bucket == self.rover {
+            self.rover = bucket + 1;
+        }
+        self.bucket = self.rover;
+    }
+
     /// Moves the hint after this bucket was given back.
     ///
     /// - If the bucket of the hint isn't before the rover, the next search begins at this bucket. The

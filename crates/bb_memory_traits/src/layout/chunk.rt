@@ -67,7 +67,7 @@ impl Chunk {
         // The address before the least place. With this mask, the place takes fewer instructions
         // than rounding `v` up.
         let before = (v - 1) | (layout.align() - 1);
-        if layout.size() >= end.checked_sub(before)? {
+        if layout.size() >= end.saturating_sub(before) {
             return None;
         }
         Some(Chunk::new_unchecked(before + 1, layout.size()))

@@ -9,11 +9,8 @@ use Rattle.std.proofs.Common.{ap, arith, bit_or, ℕ, ◌%◌, ◌+◌, ◌-◌,
 place-behind : (v : ℕ) (layout : Layout) → 0 < v → bit_or (v - 1) (layout.align - 1) + 1 ≡ least_place v layout.align
 place-behind v layout = least_place-behind v layout.align (power_of_two-from_test layout.align layout.valid.power_of_two)
 
-pub returns-in_err-checked_sub-clause-value : goal.returns-in_err-checked_sub-clause-value
-returns-in_err-checked_sub-clause-value c = grind (arith, bit_or, place-behind)
-
-pub returns-then-branch-clause-value : goal.returns-then-branch-clause-value
-returns-then-branch-clause-value c = grind (arith, bit_or, place-behind)
+pub returns-then-size-saturating_sub-clause-value : goal.returns-then-size-saturating_sub-clause-value
+returns-then-size-saturating_sub-clause-value c = grind (arith, bit_or, place-behind)
 
 pub returns-clause-value : goal.returns-clause-value
 returns-clause-value c = grind (arith, bit_or, place-behind)
