@@ -492,15 +492,16 @@ static uint32_t map_all(bb_pool_file *file) {
     return madvise(file->words, size, MADV_DONTFORK) == 0 ? BB_OK : BB_FILE_SYSTEM;
 }
 
-// Frees the pool of this process. Nothing in the file changes: before that, private memory is
-// mapped over the words, in which no bucket is in use. If the reservation was given up, the words
-// may be another thread's. The library doesn't touch them here, as `cases` shows.
+// Frees the pool of this process. Nothing in the file changes: the library doesn't touch the words
+// here, as `cases` shows. To be sure, private memory is first mapped over them, in which no bucket
+// is in use. If the system refuses that, the pool is freed all the same. If the reservation was
+// given up, the words may be another thread's.
 static void free_pool(bb_pool_file *file) {
+    const bool is_reserved = file->reserved != NULL;
     if (file->words == NULL)
         return;
-    if (file->reserved != NULL &&
-        !map_over(file, file->words_size, MAP_PRIVATE | MAP_ANONYMOUS, -1, 0))
-        return;
+    if (is_reserved)
+        map_over(file, file->words_size, MAP_PRIVATE | MAP_ANONYMOUS, -1, 0);
     memory_lend(file->words, 0, 1, 0);
     bb_shared_pool_abandon(&file->pool);
     memory_end_loan();

@@ -78,7 +78,8 @@ static void *system_mmap(void *at, size_t size, int protection, int flags, int f
     return (void *)syscall(SYS_mmap, at, size, protection, flags, fd, offset);
 }
 
-// Fails. The system says EAGAIN before it unmaps anything, and other errors after that.
+// Fails. The system says EAGAIN before it unmaps anything, and other errors after that. In both cases
+// nobody may touch these addresses until they are mapped again.
 static void *fail_over(void *to, size_t size) {
     if (mapping_error != EAGAIN) {
         const int private = MAP_PRIVATE | MAP_ANONYMOUS | MAP_FIXED;
@@ -86,8 +87,8 @@ static void *fail_over(void *to, size_t size) {
         EXPECT(others == to);
         others_size = size;
         memset(others, 'x', size);
-        EXPECT(mprotect(others, size, PROT_NONE) == 0);
     }
+    EXPECT(mprotect(to, size, PROT_NONE) == 0);
     errno = mapping_error;
     return MAP_FAILED;
 }
@@ -620,6 +621,33 @@ static size_t opened_beside_others(const bb_pool_file_options *options) {
     return size;
 }
 
+static const int MAPPING_ERRORS[] = {ENOMEM, EPERM, EAGAIN};
+
+// The system fails to map memory over the words of a file that is closed. All else is freed, and the
+// file stays as it is.
+static void refused_closes(void) {
+    bb_pool_file *other = open_it();
+    bb_pool_party *party = join_it(other);
+    const bb_number detached = bb_pool_file_detach(other, party, take_one(party));
+    EXPECT(detached.code == BB_OK);
+    take_one(party);
+    const size_t blocks_before = blocks;
+    for (int at = 0; at < 3; at++) {
+        const size_t before = mapped_pages();
+        bb_pool_file *file = open_it();
+        take_one(join_it(file));
+        EXPECT(info_of(other).held == 2);
+        mapping_error = MAPPING_ERRORS[at];
+        failing_mmap = 1;
+        close_it(file);
+        EXPECT(failing_mmap == 0 && (unmap_others() > 0) == (mapping_error != EAGAIN));
+        EXPECT(mapped_pages() == before && blocks == blocks_before);
+        EXPECT(info_of(other).held == 1 && info_of(other).detached == 1);
+        EXPECT(info_of(other).wrong == 0);
+    }
+    close_it(other);
+}
+
 // The system fails to map over the reserved addresses, having unmapped them, and another thread
 // takes them: they stay that thread's. With `mremap` the open goes on elsewhere. Without it the open
 // fails, and frees all else.
@@ -638,9 +666,8 @@ static void addresses(void) {
         EXPECT(opened_beside_others(&options) > 0 && failing_mremap == 0);
     }
     close_it(open_it());
-    const int errors[] = {ENOMEM, EPERM, EAGAIN};
     for (int at = 0; at < 3; at++) {
-        mapping_error = errors[at];
+        mapping_error = MAPPING_ERRORS[at];
         for (uint32_t call = 1; call <= 2; call++) {
             const size_t before = mapped_pages();
             failing_mmap = call;
@@ -650,6 +677,8 @@ static void addresses(void) {
             EXPECT(mapped_pages() == before && blocks == 0);
         }
     }
+    refused_closes();
+    EXPECT(blocks == 0);
     bb_use_memory(allocate_plainly, release_plainly, NULL);
     remove_it();
 }
