@@ -414,7 +414,7 @@ typedef struct bb_pool_file_figures {
 
 // Stores the figures of the file in `figures`.
 //
-// Codes: BB_UNINITIALIZED in a forked child; BB_MALLOC_REFUSED.
+// Codes: BB_UNINITIALIZED in a forked child; BB_MALLOC_REFUSED; BB_FILE_SYSTEM.
 uint32_t bb_pool_file_info(bb_pool_file *file, bb_pool_file_figures *figures);
 
 // Stores in `holder` what the flag of the bucket with this number says, as `bb_shared_pool_holder`
@@ -425,7 +425,8 @@ uint32_t bb_pool_file_holder(bb_pool_file *file, uint32_t number, bb_holder *hol
 
 // Returns 1 if a living process uses the party with this number, otherwise 0.
 //
-// Codes: BB_UNINITIALIZED in a forked child; BB_NO_PARTY if no party has this number.
+// Codes: BB_UNINITIALIZED in a forked child; BB_NO_PARTY if no party has this number;
+// BB_FILE_SYSTEM.
 bb_number bb_pool_file_is_alive(bb_pool_file *file, uint32_t party);
 
 // Returns the message in this slot without taking it: another party may have taken it already.
