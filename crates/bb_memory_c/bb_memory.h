@@ -119,8 +119,17 @@
 // CHECKERS
 
 // If AddressSanitizer or ThreadSanitizer is on, or if BB_VALGRIND is defined before the first
-// include, bb_memory_sanitize.h reports to the checker what is in use. BB_NO_SANITIZE turns that
-// off. Define each of these two macros in all files of a program, or in none.
+// include, bb_memory_sanitize.h reports to the checker what is in use. Define BB_VALGRIND in all
+// files of a program, or in none.
+
+// BB_NO_SANITIZE turns the reports off in the files that define it. bb_pool_file.h defines it in the
+// files that include that header. There are two rules, since a checker stops at a bucket that it
+// takes for free:
+//
+// - A pool, its parties and its buckets are used only in files that report, or only in files that
+//   don't.
+// - In C++, all files that include bb_memory.hpp report, or none does: a program has one copy of
+//   each inline function, which reports or doesn't.
 
 // With MemorySanitizer, call `__msan_unpoison` on each struct that one of these functions has
 // filled in.
