@@ -1,7 +1,7 @@
 // Pools in files for C++17, over bb_pool_file.h, whose terms, rules and codes hold here, too.
 
-// When they go out of scope, a file is closed, a party leaves, a bucket is freed, and a message frees
-// its bucket or is put back.
+// When they go out of scope, a file is closed, a party leaves, a bucket is freed, and a message
+// frees its bucket or is put back.
 
 //     struct order { int number; double price; };
 //
@@ -217,8 +217,8 @@ public:
             bb_pool_file_deallocate(file_, party_, chunk_.place);
     }
 
-    // Returns BB_OK if there is a bucket, otherwise why there is none: BB_NOT_HELD if it was posted,
-    // detached or moved.
+    // Returns BB_OK if there is a bucket, otherwise why there is none: BB_NOT_HELD if it was
+    // posted, detached or moved.
     std::uint32_t code() const noexcept { return chunk_.code; }
 
     // Returns whether there is a bucket.
@@ -227,8 +227,8 @@ public:
     // Returns where the bucket is, or null if there is none.
     void *data() const noexcept { return chunk_.place; }
 
-    // Posts the bucket, with a message of `len` bytes, without copying it. The code of this if there
-    // is no bucket; then the codes of `bb_pool_file_post`. After a refusal this still has its
+    // Posts the bucket, with a message of `len` bytes, without copying it. Returns `code()` if
+    // there is no bucket; then the codes of `bb_pool_file_post`. After a refusal this still has its
     // bucket.
     [[nodiscard]] std::uint32_t post(std::uint32_t slot, std::size_t len) noexcept {
         if (chunk_.code != BB_OK)
@@ -320,8 +320,8 @@ public:
         return pool_file_message(file_, party_, slot);
     }
 
-    // Allocates a whole bucket, to build a message in it. BB_OUT_OF_MEMORY if no bucket is free. The
-    // party has to have joined.
+    // Allocates a whole bucket, to build a message in it. BB_OUT_OF_MEMORY if no bucket is free.
+    // The party has to have joined.
     [[nodiscard]] pool_file_bucket bucket() noexcept {
         return pool_file_bucket(file_, party_, bb_pool_party_take(party_));
     }

@@ -122,8 +122,8 @@ static void *system_mmap(void *at, size_t size, int protection, int flags, int f
     return (void *)syscall(SYS_mmap, at, size, protection, flags, fd, offset);
 }
 
-// Fails. The system says EAGAIN before it unmaps anything, and other errors after that. In both cases
-// nobody may touch these addresses until they are mapped again.
+// Fails. The system says EAGAIN before it unmaps anything, and other errors after that. In both
+// cases nobody may touch these addresses until they are mapped again.
 static void *fail_over(void *to, size_t size) {
     if (mapping_error != EAGAIN) {
         const int private = MAP_PRIVATE | MAP_ANONYMOUS | MAP_FIXED;
@@ -682,8 +682,8 @@ static size_t opened_beside_others(const bb_pool_file_options *options) {
 
 static const int MAPPING_ERRORS[] = {ENOMEM, EPERM, EAGAIN};
 
-// The system fails to map memory over the words of a file that is closed. All else is freed, and the
-// file stays as it is.
+// The system fails to map memory over the words of a file that is closed. All else is freed, and
+// the file stays as it is.
 static void refused_closes(void) {
     bb_pool_file *other = open_it();
     bb_pool_party *party = join_it(other);
