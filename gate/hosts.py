@@ -25,6 +25,12 @@ from gate.temporary import temporary_folder
 NO_RT = '#!/bin/sh\necho "rt was called: $*" >&2\nexit 1\n'
 
 
+def unignored(top: Path, ignored: str) -> list[str]:
+    """Returns the files directly in `top` that no line `/NAME` of the `.gitignore` text names."""
+    names = {line[1:] for line in ignored.splitlines() if line.startswith("/")}
+    return sorted(file.name for file in top.iterdir() if file.is_file() and file.name not in names)
+
+
 class Hosts:
     """One run of the tests over a library, with a folder for its output."""
 
@@ -122,6 +128,8 @@ class Hosts:
         shown.write_text(script, encoding="utf-8")
         copy = self.work / "copy"
         shutil.copytree(self.top, copy, symlinks=True, ignore=shutil.ignore_patterns(*MADE))
+        ignored = (copy / ".gitignore").read_text(encoding="utf-8")
+        before = unignored(copy, ignored)
         home = self.work / "home"
         home.mkdir()
         must_run(
@@ -129,6 +137,9 @@ class Hosts:
             copy,
             {**environment, "HOME": str(home)},
         )
+        made = [name for name in unignored(copy, ignored) if name not in before]
+        if made:
+            raise Failed(f".gitignore doesn't name what the pages make: {' '.join(made)}")
         say("GUIDE.md, README.md: the programs for C that they show run in a fresh copy")
 
 

@@ -128,6 +128,17 @@ class PoolFile:
         self.compile([*flags, "-o", program, *sources, self.work / "bb_memory.o"])
         return f"{self.run_program(program, self.folders)}, under the checkers"
 
+    def run_mixed(self) -> str:
+        """Runs a program whose files report to a checker only in part."""
+        program = self.work / "mixed"
+        silent = self.work / "mixed_silent.o"
+        source = self.sources / "mixed.c"
+        flags = ["-std=c99", "-D_DEFAULT_SOURCE", *FLAGS, *CHECKERS]
+        self.compile([*flags, "-DSILENT", "-c", "-o", silent, source])
+        archive = self.prefix / "lib/libbb_memory.a"
+        self.compile([*flags, "-o", program, source, silent, archive])
+        return self.run_program(program, [self.folders[0] / "mixed"])
+
     def run_command(self) -> str:
         """Runs `bb-pool`, and compares what it prints with shown.txt."""
         path = self.folders[0] / "shown"
@@ -285,7 +296,8 @@ class PoolFile:
             jobs += [partial(self.run_kills, kills, words) for words in tests]
         for form in KILLS:
             jobs.append(partial(self.run_program, self.work / f"cases.{form}", self.folders))
-        jobs += [self.run_checked, self.compile_shown, self.run_command, self.run_examples]
+        jobs += [self.run_checked, self.run_mixed, self.compile_shown, self.run_command]
+        jobs += [self.run_examples]
         return jobs
 
     def check(self) -> None:

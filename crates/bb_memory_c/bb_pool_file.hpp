@@ -1,25 +1,28 @@
 // Pools in files for C++17, over bb_pool_file.h, whose terms, rules and codes hold here, too.
 
-// When they go out of scope, a file is closed, a party leaves, and a message frees its bucket or is
-// put back.
+// When they go out of scope, a file is closed, a party leaves, a bucket is freed, and a message
+// frees its bucket or is put back.
 
 //     struct order { int number; double price; };
 //
 //     bb::pool_file file;
 //     if (file.open("/dev/shm/orders", {sizeof(order), alignof(order), 1000, 16, 8, 0}) != BB_OK)
 //         return;
-//     // Each thread has a party. The file outlives its parties, and a party its messages.
+//     // Each thread has a party. The file outlives its parties, and a party its messages and
+//     // buckets.
 //     bb::pool_file_party party;
 //     if (party.join(file) != BB_OK)
 //         return;
 //     if (party.post(0, order{7, 1.5}) != BB_OK)
+//         return;
+//     if (file.wait_full(0, 1000) != BB_OK)
 //         return;
 //     bb::pool_file_message message = party.take(0);
 //     if (const order *got = message.as<order>())
 //         printf("order %d\n", got->number);
 //     message.done();
 
-// A refusal is a code. Files, parties and messages can be moved, but not copied.
+// A refusal is a code. Files, parties, buckets and messages can be moved, but not copied.
 
 #ifndef BB_POOL_FILE_HPP
 #define BB_POOL_FILE_HPP
@@ -81,6 +84,38 @@ public:
         if (file_ == nullptr || bb_pool_file_info(file_, &figures) != BB_OK)
             return std::nullopt;
         return figures;
+    }
+
+    // Waits until a message can be taken from the slot (with BB_ANY_SLOT, from any slot), for at
+    // most this many milliseconds. BB_UNINITIALIZED if there is no file; then the codes of
+    // `bb_pool_file_wait_full`.
+    [[nodiscard]] std::uint32_t wait_full(std::uint32_t slot,
+                                          std::uint32_t milliseconds) const noexcept {
+        return file_ != nullptr ? bb_pool_file_wait_full(file_, slot, milliseconds)
+                                : std::uint32_t{BB_UNINITIALIZED};
+    }
+
+    // Waits until the slot (with BB_ANY_SLOT, any slot) is empty, for at most this many
+    // milliseconds. The codes are those of `wait_full`.
+    [[nodiscard]] std::uint32_t wait_empty(std::uint32_t slot,
+                                           std::uint32_t milliseconds) const noexcept {
+        return file_ != nullptr ? bb_pool_file_wait_empty(file_, slot, milliseconds)
+                                : std::uint32_t{BB_UNINITIALIZED};
+    }
+
+    // Waits until a bucket is free, for at most this many milliseconds. BB_UNINITIALIZED if there
+    // is no file; then the codes of `bb_pool_file_wait_bucket`.
+    [[nodiscard]] std::uint32_t wait_bucket(std::uint32_t milliseconds) const noexcept {
+        return file_ != nullptr ? bb_pool_file_wait_bucket(file_, milliseconds)
+                                : std::uint32_t{BB_UNINITIALIZED};
+    }
+
+    // Frees what dead parties held; if `detached` is true, also the buckets that they detached and
+    // that are in no slot. Stores in `*freed` how many buckets were freed, unless `freed` is null.
+    // BB_UNINITIALIZED if there is no file; then the codes of `bb_pool_file_reap`.
+    std::uint32_t reap(bool detached, std::uint32_t *freed = nullptr) const noexcept {
+        return file_ != nullptr ? bb_pool_file_reap(file_, detached, freed)
+                                : std::uint32_t{BB_UNINITIALIZED};
     }
 
     // Returns the pointer for the functions of bb_pool_file.h, or null if there is no file.
@@ -159,6 +194,69 @@ private:
     bool is_done_ = false;
 };
 
+// A bucket that a party holds, or the code of a refusal. When it goes out of scope, the bucket is
+// freed, unless it was posted or detached.
+class pool_file_bucket {
+public:
+    pool_file_bucket(bb_pool_file *file, bb_pool_party *party, bb_chunk chunk) noexcept
+        : file_(file), party_(party), chunk_(chunk) {}
+
+    pool_file_bucket(pool_file_bucket &&other) noexcept
+        : file_(other.file_), party_(other.party_),
+          chunk_(std::exchange(other.chunk_, bb_chunk{BB_NOT_HELD, nullptr})) {}
+
+    pool_file_bucket &operator=(pool_file_bucket &&other) noexcept {
+        std::swap(file_, other.file_);
+        std::swap(party_, other.party_);
+        std::swap(chunk_, other.chunk_);
+        return *this;
+    }
+
+    ~pool_file_bucket() {
+        if (chunk_.code == BB_OK)
+            bb_pool_file_deallocate(file_, party_, chunk_.place);
+    }
+
+    // Returns BB_OK if there is a bucket, otherwise why there is none: BB_NOT_HELD if it was
+    // posted, detached or moved.
+    std::uint32_t code() const noexcept { return chunk_.code; }
+
+    // Returns whether there is a bucket.
+    explicit operator bool() const noexcept { return chunk_.code == BB_OK; }
+
+    // Returns where the bucket is, or null if there is none.
+    void *data() const noexcept { return chunk_.place; }
+
+    // Posts the bucket, with a message of `len` bytes, without copying it. Returns `code()` if
+    // there is no bucket; then the codes of `bb_pool_file_post`. After a refusal this still has its
+    // bucket.
+    [[nodiscard]] std::uint32_t post(std::uint32_t slot, std::size_t len) noexcept {
+        if (chunk_.code != BB_OK)
+            return chunk_.code;
+        const std::uint32_t code = bb_pool_file_post(file_, party_, slot, chunk_.place, len);
+        if (code == BB_OK)
+            chunk_ = bb_chunk{BB_NOT_HELD, nullptr};
+        return code;
+    }
+
+    // Detaches the bucket and returns its number, by which another party attaches it. Returns
+    // nothing if there is no bucket.
+    [[nodiscard]] std::optional<std::uint32_t> detach() noexcept {
+        if (chunk_.code != BB_OK)
+            return std::nullopt;
+        const bb_number number = bb_pool_file_detach(file_, party_, chunk_.place);
+        if (number.code != BB_OK)
+            return std::nullopt;
+        chunk_ = bb_chunk{BB_NOT_HELD, nullptr};
+        return static_cast<std::uint32_t>(number.number);
+    }
+
+private:
+    bb_pool_file *file_;
+    bb_pool_party *party_;
+    bb_chunk chunk_;
+};
+
 // A party of a file, which leaves when it goes out of scope: what it holds is freed.
 class pool_file_party {
 public:
@@ -187,7 +285,7 @@ public:
         return bb_pool_file_join(file_, &party_);
     }
 
-    // Leaves, if it has joined. Its messages have to go out of scope before that.
+    // Leaves, if it has joined. Its messages and buckets have to go out of scope before that.
     void leave() noexcept {
         if (party_ != nullptr)
             bb_pool_file_leave(file_, std::exchange(party_, nullptr));
@@ -220,6 +318,18 @@ public:
     // Takes the message in the slot. The party has to have joined.
     [[nodiscard]] pool_file_message take(std::uint32_t slot) noexcept {
         return pool_file_message(file_, party_, slot);
+    }
+
+    // Allocates a whole bucket, to build a message in it. BB_OUT_OF_MEMORY if no bucket is free.
+    // The party has to have joined.
+    [[nodiscard]] pool_file_bucket bucket() noexcept {
+        return pool_file_bucket(file_, party_, bb_pool_party_take(party_));
+    }
+
+    // Attaches the bucket with this number, which another party has detached, with the codes of
+    // `bb_pool_file_attach`. The party has to have joined.
+    [[nodiscard]] pool_file_bucket attach(std::uint32_t number) noexcept {
+        return pool_file_bucket(file_, party_, bb_pool_file_attach(file_, party_, number));
     }
 
     // Returns the handle for the functions of bb_memory.h and of bb_pool_file.h, or null if the

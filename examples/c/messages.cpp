@@ -15,13 +15,13 @@ static std::uint32_t send(bb::pool_file &file, bb::pool_file_party &mine, const 
     for (std::uint32_t slot = 0;; slot = (slot + 1) % options.slots) {
         std::uint32_t code = mine.post(slot, text.c_str(), text.size() + 1);
         if (code == BB_OUT_OF_MEMORY)
-            code = bb_pool_file_wait_bucket(file.get(), 1000);
+            code = file.wait_bucket(1000);
         else if (code == BB_DETACHED_FULL)
-            code = bb_pool_file_wait_empty(file.get(), BB_ANY_SLOT, 1000);
+            code = file.wait_empty(BB_ANY_SLOT, 1000);
         else
             return code;
         if (code == BB_FILE_TIMED_OUT)
-            code = bb_pool_file_reap(file.get(), false, nullptr);
+            code = file.reap(false);
         if (code != BB_OK)
             return code;
     }
@@ -53,9 +53,9 @@ int main(int argc, char **argv) {
     for (int number = 0; code == BB_OK && argc > 2 && number < std::stoi(argv[2]); number++)
         code = send(file, mine, std::to_string(getpid()) + " " + std::to_string(number));
     while (code == BB_OK && argc == 2) {
-        code = bb_pool_file_wait_full(file.get(), BB_ANY_SLOT, 1000);
+        code = file.wait_full(BB_ANY_SLOT, 1000);
         if (code == BB_FILE_TIMED_OUT)
-            code = bb_pool_file_reap(file.get(), false, nullptr);
+            code = file.reap(false);
         for (std::uint32_t slot = 0; code == BB_OK && slot < options.slots; slot++)
             code = receive(mine, slot);
     }

@@ -2,6 +2,7 @@
 // with files that it removes. No case can fill a file system: the requests for pages go through
 // `posix_fallocate` here.
 #define _GNU_SOURCE
+#include <dlfcn.h>
 #include <errno.h>
 #include <fcntl.h>
 #include <pthread.h>
@@ -61,6 +62,49 @@ int posix_fallocate(int fd, off_t at, off_t length) {
     return fallocate(fd, 0, at, length) == 0 ? 0 : errno;
 }
 
+// Which call of `pwrite` fails, counted from 1, or 0 for none: with this error, or if that is 0, by
+// writing only the first half.
+static uint32_t failing_pwrite;
+static int writing_error;
+
+ssize_t pwrite(int fd, const void *bytes, size_t size, off_t at) {
+    if (failing_pwrite > 0 && --failing_pwrite == 0) {
+        errno = writing_error;
+        if (writing_error != 0)
+            return -1;
+        size /= 2;
+    }
+    return syscall(SYS_pwrite64, fd, bytes, size, at);
+}
+
+// How many files were written to the disk, and the error if that fails, or 0. It has to come when a
+// file has its header, and no more.
+static uint32_t synced;
+static int syncing_error;
+
+int fdatasync(int fd) {
+    char header[PAGE] = "";
+    const ssize_t length = pread(fd, header, sizeof header, 0);
+    EXPECT(length > 16 && length < PAGE && memcmp(header, "bbpool\r\n\2\0\0\0\1", 13) == 0);
+    synced++;
+    errno = syncing_error;
+    return syncing_error == 0 ? 0 : -1;
+}
+
+// The error with which functions that every fork has to run are refused, or 0.
+static int atfork_error;
+
+int __register_atfork(void (*prepare)(void), void (*parent)(void), void (*child)(void), void *dso);
+
+int __register_atfork(void (*prepare)(void), void (*parent)(void), void (*child)(void), void *dso) {
+    int (*registered)(void (*)(void), void (*)(void), void (*)(void), void *);
+    if (atfork_error != 0)
+        return atfork_error;
+    void *found = dlsym(RTLD_NEXT, "__register_atfork");
+    memcpy(&registered, &found, sizeof found);
+    return registered(prepare, parent, child, dso);
+}
+
 // Whether the system maps pages a second time.
 static bool maps_again = true;
 
@@ -78,7 +122,8 @@ static void *system_mmap(void *at, size_t size, int protection, int flags, int f
     return (void *)syscall(SYS_mmap, at, size, protection, flags, fd, offset);
 }
 
-// Fails. The system says EAGAIN before it unmaps anything, and other errors after that.
+// Fails. The system says EAGAIN before it unmaps anything, and other errors after that. In both
+// cases nobody may touch these addresses until they are mapped again.
 static void *fail_over(void *to, size_t size) {
     if (mapping_error != EAGAIN) {
         const int private = MAP_PRIVATE | MAP_ANONYMOUS | MAP_FIXED;
@@ -86,8 +131,8 @@ static void *fail_over(void *to, size_t size) {
         EXPECT(others == to);
         others_size = size;
         memset(others, 'x', size);
-        EXPECT(mprotect(others, size, PROT_NONE) == 0);
     }
+    EXPECT(mprotect(to, size, PROT_NONE) == 0);
     errno = mapping_error;
     return MAP_FAILED;
 }
@@ -346,6 +391,15 @@ static void full(void) {
     EXPECT(fails_with(ENOSPC, path, &large) && requested > most);
     most = MOST_BYTES;
     EXPECT(stat(path, &stat_of) == 0 && stat_of.st_size == 0 && stat_of.st_blocks == 0);
+    for (uint32_t call = 1; call <= 2; call++) {
+        const int errors[] = {ENOSPC, 0};
+        for (int at = 0; at < 2; at++) {
+            writing_error = errors[at];
+            failing_pwrite = call;
+            EXPECT(fails_with(ENOSPC, path, &OPTIONS) && failing_pwrite == 0);
+            EXPECT(stat(path, &stat_of) == 0 && stat_of.st_size == 0 && stat_of.st_blocks == 0);
+        }
+    }
     const pid_t child = child_of();
     if (child == 0) {
         const struct rlimit limit = {1 << 20, 1 << 20};
@@ -455,9 +509,15 @@ static void signals(void) {
 }
 
 // A file from before the machine's start is made anew, but not while it is used, nor without
-// options.
+// options. So that this works after a power failure, too, the header is on the disk before the file
+// has its length.
 static void stale(void) {
+    const uint32_t synced_before = synced;
+    syncing_error = EIO;
+    EXPECT(fails_with(EIO, path, &OPTIONS) && synced == synced_before + 1);
+    syncing_error = 0;
     bb_pool_file *file = open_it();
+    EXPECT(synced == synced_before + 2);
     take_one(join_it(file));
     write_file(path, "x", 1, 48);
     EXPECT(code_of(path, NULL) == BB_OK && info_of(file).held == 1);
@@ -620,6 +680,33 @@ static size_t opened_beside_others(const bb_pool_file_options *options) {
     return size;
 }
 
+static const int MAPPING_ERRORS[] = {ENOMEM, EPERM, EAGAIN};
+
+// The system fails to map memory over the words of a file that is closed. All else is freed, and
+// the file stays as it is.
+static void refused_closes(void) {
+    bb_pool_file *other = open_it();
+    bb_pool_party *party = join_it(other);
+    const bb_number detached = bb_pool_file_detach(other, party, take_one(party));
+    EXPECT(detached.code == BB_OK);
+    take_one(party);
+    const size_t blocks_before = blocks;
+    for (int at = 0; at < 3; at++) {
+        const size_t before = mapped_pages();
+        bb_pool_file *file = open_it();
+        take_one(join_it(file));
+        EXPECT(info_of(other).held == 2);
+        mapping_error = MAPPING_ERRORS[at];
+        failing_mmap = 1;
+        close_it(file);
+        EXPECT(failing_mmap == 0 && (unmap_others() > 0) == (mapping_error != EAGAIN));
+        EXPECT(mapped_pages() == before && blocks == blocks_before);
+        EXPECT(info_of(other).held == 1 && info_of(other).detached == 1);
+        EXPECT(info_of(other).wrong == 0);
+    }
+    close_it(other);
+}
+
 // The system fails to map over the reserved addresses, having unmapped them, and another thread
 // takes them: they stay that thread's. With `mremap` the open goes on elsewhere. Without it the open
 // fails, and frees all else.
@@ -638,9 +725,8 @@ static void addresses(void) {
         EXPECT(opened_beside_others(&options) > 0 && failing_mremap == 0);
     }
     close_it(open_it());
-    const int errors[] = {ENOMEM, EPERM, EAGAIN};
     for (int at = 0; at < 3; at++) {
-        mapping_error = errors[at];
+        mapping_error = MAPPING_ERRORS[at];
         for (uint32_t call = 1; call <= 2; call++) {
             const size_t before = mapped_pages();
             failing_mmap = call;
@@ -650,6 +736,8 @@ static void addresses(void) {
             EXPECT(mapped_pages() == before && blocks == 0);
         }
     }
+    refused_closes();
+    EXPECT(blocks == 0);
     bb_use_memory(allocate_plainly, release_plainly, NULL);
     remove_it();
 }
@@ -1113,13 +1201,92 @@ static void reaps(void) {
     reapers();
 }
 
+// The system refuses to run functions at each fork: no file is opened. This comes before all else
+// that opens one.
+static void unhandled_forks(void) {
+    const pid_t child = child_of();
+    if (child == 0) {
+        bb_pool_file *file;
+        const int fd = memfd_create("pool", MFD_CLOEXEC);
+        atfork_error = ENOMEM;
+        for (int tries = 0; tries < 2; tries++)
+            EXPECT(bb_pool_file_open_fd(&file, fd, &OPTIONS) == BB_FILE_SYSTEM && errno == ENOMEM);
+        _exit(0);
+    }
+    end(child);
+}
+
+// A forked child frees what it has of the file. If no party has joined, that is all.
+static void freed_in_child(void) {
+    bb_use_memory(allocate, release, &blocks);
+    bb_pool_file *file = open_it();
+    const pid_t child = child_of();
+    if (child == 0) {
+        EXPECT(blocks > 0);
+        close_it(file);
+        EXPECT(blocks == 0);
+        _exit(0);
+    }
+    end(child);
+    close_it(file);
+    bb_use_memory(allocate_plainly, release_plainly, NULL);
+    remove_it();
+}
+
+// How many requests for memory a join has begun, and how many of these have ended.
+static uint32_t begun_requests;
+static uint32_t ended_requests;
+
+static void *allocate_slowly(void *context, size_t size, size_t align) {
+    (void)context;
+    (void)align;
+    __atomic_fetch_add(&begun_requests, 1, __ATOMIC_SEQ_CST);
+    usleep(50000);
+    __atomic_fetch_add(&ended_requests, 1, __ATOMIC_SEQ_CST);
+    return malloc(size);
+}
+
+static void *join_in_thread(void *file) {
+    join_it(file);
+    return NULL;
+}
+
+// A fork waits until no thread is in the midst of a join.
+static void forked_beside_a_join(void) {
+    bb_pool_file *file = open_it();
+    pthread_t thread;
+    begun_requests = 0;
+    ended_requests = 0;
+    bb_use_memory(allocate_slowly, release_plainly, NULL);
+    EXPECT(pthread_create(&thread, NULL, join_in_thread, file) == 0);
+    while (__atomic_load_n(&begun_requests, __ATOMIC_SEQ_CST) == 0)
+        sched_yield();
+    const pid_t child = child_of();
+    if (child == 0) {
+        EXPECT(begun_requests == ended_requests);
+        close_it(file);
+        _exit(0);
+    }
+    end(child);
+    EXPECT(pthread_join(thread, NULL) == 0);
+    bb_use_memory(allocate_plainly, release_plainly, NULL);
+    close_it(file);
+    remove_it();
+}
+
 // A forked child has nothing of the file, and may close what it has not.
 static void forked(void) {
     bb_pool_file *file = open_it();
     bb_pool_party *party = join_it(file);
     const bb_place place = take_one(party);
+    char *start = info_of(file).start;
+    unsigned char pages[4];
+    // The pages of words, slots and region, and one more that is reserved.
+    EXPECT(mincore(start - 2 * PAGE, 4 * PAGE, pages) == 0);
     const pid_t child = child_of();
     if (child == 0) {
+        for (int page = -2; page < 2; page++)
+            EXPECT(mincore(start + page * PAGE, PAGE, pages) != 0 && errno == ENOMEM);
         bb_pool_file_figures figures;
         bb_pool_party *more;
         bb_holder flag;
@@ -1251,13 +1418,19 @@ static void closed(void) {
     EXPECT(pipe(ready) == 0 && dup2(ready[1], 100) == 100);
     const pid_t child = child_of();
     if (child == 0) {
-        bb_pool_party *party = join_it(open_it());
+        bb_pool_file *own = open_it();
+        bb_pool_party *party = join_it(own);
         take_one(party);
         EXPECT(close_range(3, 99, 0) == 0);
         EXPECT(bb_pool_party_deallocate(party, take_one(party)) == BB_OK);
+        bb_pool_file_figures figures;
+        EXPECT(bb_pool_file_is_alive(own, 0).number == 1);  // it is this process's own
+        EXPECT(bb_pool_file_is_alive(own, 1).code == BB_FILE_SYSTEM && errno == EBADF);
+        EXPECT(bb_pool_file_info(own, &figures) == BB_FILE_SYSTEM && errno == EBADF);
         tell(100);
         pause();
     }
+    EXPECT(close(ready[1]) == 0 && close(100) == 0);  // the read ends if the child does
     hear(ready[0]);
     EXPECT(info_of(file).held == 1 && info_of(file).lost == 0 && reap(file, true) == 0);
     end_killed(child);
@@ -1266,8 +1439,6 @@ static void closed(void) {
     EXPECT(lock_byte(reader, F_RDLCK, 2) == 0 && reap(file, true) == 0);
     EXPECT(close(reader) == 0 && reap(file, true) == 1 && info_of(file).held == 0);
     close(ready[0]);
-    close(ready[1]);
-    close(100);
     close_it(file);
     remove_it();
 }
@@ -1432,6 +1603,7 @@ static void texts(void) {
 int main(int argc, char **argv) {
     alarm(300);  // a case that fails may wait for what doesn't come
     texts();
+    unhandled_forks();
     passed();
     for (int at = 1; at < argc; at++) {
         snprintf(path, sizeof path, "%s/bb-cases-%d", argv[at], (int)getpid());
@@ -1455,6 +1627,8 @@ int main(int argc, char **argv) {
         ping();
         reaps();
         forked();
+        freed_in_child();
+        forked_beside_a_join();
         orphans();
         executed();
         closed();

@@ -1,8 +1,9 @@
-// `owners FILE` tests that objects of C++ give back what they own when they end, and that messages
-// are values.
+// `owners FILE` tests that objects of C++ give back what they own when they end, that messages and
+// buckets are values, and that waits and reaps are those of the file.
 #include <cstdio>
 #include <cstdlib>
 #include <cstring>
+#include <sys/wait.h>
 #include <unistd.h>
 
 #include "bb_pool_file.hpp"
@@ -24,6 +25,89 @@ void expect(bool holds, int line) {
 }
 
 #define EXPECT(holds) expect(holds, __LINE__)
+
+// Makes a party that holds a bucket and has detached another one, and ends without leaving.
+void die(const char *path) {
+    const pid_t child = fork();
+    EXPECT(child >= 0);
+    if (child == 0) {
+        bb::pool_file file;
+        bb::pool_file_party party;
+        EXPECT(file.open(path) == BB_OK && party.join(file) == BB_OK);
+        bb::pool_file_bucket held = party.bucket();
+        bb::pool_file_bucket sent = party.bucket();
+        EXPECT(held && sent.detach());
+        _exit(0);
+    }
+    int status;
+    EXPECT(waitpid(child, &status, 0) == child && status == 0);
+}
+
+void run_waits(const char *path) {
+    bb::pool_file none;
+    std::uint32_t freed = 7;
+    EXPECT(none.wait_full(0, 0) == BB_UNINITIALIZED && none.wait_empty(0, 0) == BB_UNINITIALIZED);
+    EXPECT(none.wait_bucket(0) == BB_UNINITIALIZED && none.reap(true) == BB_UNINITIALIZED);
+    EXPECT(none.reap(true, &freed) == BB_UNINITIALIZED && freed == 7);
+    bb::pool_file file;
+    bb::pool_file_party party;
+    EXPECT(file.open(path) == BB_OK && party.join(file) == BB_OK);
+    EXPECT(file.wait_full(BB_ANY_SLOT, 1) == BB_FILE_TIMED_OUT);
+    EXPECT(file.wait_full(3, 1) == BB_INVALID_ARGUMENT && file.wait_empty(0, 1) == BB_OK);
+    EXPECT(party.post(0, 5) == BB_OK && file.wait_full(0, 1) == BB_OK);
+    EXPECT(file.wait_full(1, 1) == BB_FILE_TIMED_OUT && file.wait_empty(1, 1) == BB_OK);
+    EXPECT(file.wait_empty(0, 1) == BB_FILE_TIMED_OUT && file.wait_bucket(1) == BB_OK);
+    EXPECT(party.take(0).done() == BB_OK && file.wait_empty(0, 1) == BB_OK);
+    void *places[20];
+    EXPECT(bb_pool_party_take_many(party.get(), places, 20).number == 20);
+    EXPECT(file.wait_bucket(1) == BB_FILE_TIMED_OUT);
+    EXPECT(bb_pool_party_give_all_back(party.get()) == BB_OK);
+    die(path);
+    EXPECT(file.reap(false, &freed) == BB_OK && freed == 1 && file.info()->detached == 1);
+    EXPECT(file.reap(true, &freed) == BB_OK && freed == 1 && file.info()->detached == 0);
+    die(path);
+    EXPECT(file.reap(true) == BB_OK && file.info()->held == 0 && file.info()->detached == 0);
+}
+
+// Buckets that are filled where they are, and go in slots and by numbers.
+void run_buckets(const bb::pool_file &file, bb::pool_file_party &sender,
+                 bb::pool_file_party &receiver) {
+    {
+        bb::pool_file_bucket first = sender.bucket();
+        bb::pool_file_bucket second = sender.bucket();
+        EXPECT(first && first.code() == BB_OK && first.data() != second.data());
+        EXPECT(file.info()->held == 2);
+        second = std::move(first);
+        bb::pool_file_bucket third = std::move(second);
+        EXPECT(!second && second.code() == BB_NOT_HELD && second.data() == nullptr);
+        EXPECT(second.post(0, 1) == BB_NOT_HELD && !second.detach() && file.info()->held == 2);
+        std::memcpy(third.data(), "hello", 6);
+        EXPECT(third.post(9, 6) == BB_INVALID_ARGUMENT && third.post(0, 65) == BB_SIZE_TOO_LARGE);
+        EXPECT(third.post(0, 6) == BB_OK && !third && third.post(0, 6) == BB_NOT_HELD);
+    }
+    EXPECT(file.info()->held == 0 && file.info()->full_slots == 1);
+    {
+        bb::pool_file_message message = receiver.take(0);
+        EXPECT(message.size() == 6 &&
+               std::strcmp(static_cast<const char *>(message.data()), "hello") == 0);
+        EXPECT(message.done() == BB_OK);
+    }
+    std::optional<std::uint32_t> number;
+    {
+        bb::pool_file_bucket sent = sender.bucket();
+        std::memcpy(sent.data(), "number", 7);
+        number = sent.detach();
+        EXPECT(number && !sent && !sent.detach());
+    }
+    EXPECT(file.info()->held == 0 && file.info()->detached == 1);
+    {
+        bb::pool_file_bucket got = receiver.attach(*number);
+        EXPECT(got && std::strcmp(static_cast<const char *>(got.data()), "number") == 0);
+        EXPECT(sender.attach(*number).code() == BB_NOT_HELD);
+        EXPECT(sender.attach(20).code() == BB_NOT_A_BUCKET && file.info()->held == 1);
+    }
+    EXPECT(file.info()->held == 0 && file.info()->detached == 0);
+}
 
 void run(const char *path) {
     bb::pool_file file;
@@ -61,6 +145,7 @@ void run(const char *path) {
             EXPECT(message.done() == BB_NOT_HELD);
         }
         EXPECT(file.info()->held == 0 && file.info()->detached == 0);
+        run_buckets(file, sender, receiver);
         EXPECT(bb_pool_party_take(sender.get()).code == BB_OK);
         bb::pool_file_party moved = std::move(sender);
         EXPECT(sender.get() == nullptr && moved.get() != nullptr && file.info()->held == 1);
@@ -79,7 +164,8 @@ void run(const char *path) {
 int main(int argc, char **argv) {
     EXPECT(argc == 2);
     run(argv[1]);
+    run_waits(argv[1]);
     EXPECT(unlink(argv[1]) == 0);
-    puts("owners: files, parties and messages give back what they have");
+    puts("owners: files, parties, buckets and messages give back what they have");
     return 0;
 }
