@@ -32,8 +32,8 @@ const GAP: usize = 128;
 /// whether the party has it in use: holds it, and doesn't cache it. Gaps keep what different parties write on separate cache lines.
 #[derive(Drop)]
 pub struct JoinedPool {
-    pub(crate) pool: Arc<SharedPoolAllocator, Global>,
     pub(crate) party: CachingParty,
+    pub(crate) pool: Arc<SharedPoolAllocator, Global>,
     pub(crate) in_use: Vec<bool>,
     gap: [u64; 16],
 }

@@ -55,10 +55,10 @@ impl Layout {
             ↔ ((size ≤ self.size) × (align ≤ self.align) × IsPowerOfTwo align) }
         ensures value { IfSome result (λ layout. (layout.size ≡ size) × (layout.align ≡ align)) }
     {
-        if size > self.size || align > self.align {
+        if !align.is_power_of_two() {
             return None;
         }
-        if !align.is_power_of_two() {
+        if size > self.size || align > self.align {
             return None;
         }
         Some(Layout { size, align })

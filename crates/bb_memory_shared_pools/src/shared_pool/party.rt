@@ -74,9 +74,9 @@ impl Hint {
 /// party can't meet any more, so no later meeting has all parties.
 #[derive(Drop)]
 pub struct PoolParty {
+    pub(super) hint: Hint,
     pub(super) number: u32,
     pub(super) seat: Seat<u8, View>,
-    pub(super) hint: Hint,
 }
 
 impl Model for PoolParty {
