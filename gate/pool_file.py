@@ -200,8 +200,9 @@ class PoolFile:
         """Runs producers and consumers over one file, and kills them repeatedly."""
         programs = self.build_examples()
         path = self.folders[0] / "example"
-        messages = Messages(programs, path, self.prefix / "bin/bb-pool")
-        came = messages.run(self.work / "printed")
+        printed = self.work / "printed"
+        printed.mkdir()
+        came = Messages(programs, path, self.prefix / "bin/bb-pool", printed).run()
         path.unlink()
         return f"producers and consumers, {len(programs)} programs of each: {came}"
 
