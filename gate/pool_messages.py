@@ -31,7 +31,7 @@ PAUSE = 0.01
 ENDLESS = 1_000_000_000
 LAST = 500
 # The seconds after which a process is taken to hang.
-LONGEST = 240.0
+LONGEST = 600.0
 
 
 @dataclass(frozen=True)
