@@ -52,7 +52,8 @@ static void expect(bool holds, const char *what, int line) {
 
 #define EXPECT(holds) expect(holds, #holds, __LINE__)
 
-// The bytes that were requested of the file system so far, and after how many bytes it has no more.
+// The bytes that were requested of the file system so far, without those that it refused, and after
+// how many bytes it has no more.
 static size_t requested;
 static size_t most = MOST_BYTES;
 
@@ -60,7 +61,10 @@ int posix_fallocate(int fd, off_t at, off_t length) {
     requested += (size_t)length;
     if (requested > most)
         return ENOSPC;
-    return fallocate(fd, 0, at, length) == 0 ? 0 : errno;
+    if (fallocate(fd, 0, at, length) == 0)
+        return 0;
+    requested -= (size_t)length;
+    return errno;
 }
 
 // Whether the system maps pages a second time.
@@ -457,7 +461,7 @@ static void signals(void) {
     const struct itimerval often = {{0, 2000}, {0, 2000}};
     const struct itimerval never = {{0, 0}, {0, 0}};
     const struct sigaction action = {.sa_handler = on_signal};
-    signals_left = 1000;
+    signals_left = 200;
     EXPECT(sigaction(SIGPROF, &action, NULL) == 0);
     EXPECT(setitimer(ITIMER_PROF, &often, NULL) == 0);
     EXPECT(code_of(path, &large) == BB_OK);
