@@ -35,7 +35,9 @@ FLAGS = ("-O2", "-Wall", "-Wextra", "-Werror", "-pedantic", "-Wshadow", "-Wconve
 CHECKERS = ("-fsanitize=address,undefined", "-fno-sanitize-recover=all")
 PROGRAMS = ("cases", "kills", "shown", "trace")
 # The seconds after which a program is killed, since it hangs.
-LONGEST = "240"
+LONGEST = "600"
+# The bytes that a folder has to have room for. `cases` has the largest files, of 36 MB.
+ROOM = 48 << 20
 # Runs of `kills` with each form of the library: the arguments, except the second, the folder.
 KILLS = {
     "archive": (
@@ -81,12 +83,21 @@ class PoolFile:
         self.folders: list[Path] = []
 
     def make_folders(self, made: ExitStack) -> None:
-        """Makes folders for the pools' files, which other users can enter, too."""
+        """Makes folders for the pools' files, which other users can enter, too.
+
+        Raises Failed if no place has room for them.
+        """
         for place in (Path("/dev/shm"), Path(tempfile.gettempdir())):
-            if place.is_dir():
-                folder = made.enter_context(tempfile.TemporaryDirectory(dir=place))
-                os.chmod(folder, 0o755)
-                self.folders.append(Path(folder))
+            if not place.is_dir():
+                continue
+            if shutil.disk_usage(place).free < ROOM:
+                say(f"{place}: has no room for {ROOM >> 20} MB, skipped")
+                continue
+            folder = made.enter_context(tempfile.TemporaryDirectory(dir=place))
+            os.chmod(folder, 0o755)
+            self.folders.append(Path(folder))
+        if not self.folders:
+            raise Failed("no folder has room for the files of pools")
 
     def compile(self, words: Sequence[str | Path], compiler: str = "cc") -> None:
         """Runs a compiler that finds the installed headers."""
@@ -119,6 +130,14 @@ class PoolFile:
             self.compile(["-std=c11", *FLAGS, "-c", "-o", compiled, source])
             self.compile(["-o", self.work / f"{name}.archive", compiled, archive])
             self.compile(["-o", self.work / f"{name}.shared", compiled, *shared])
+
+    def run_cases(self) -> str:
+        """Runs `cases` with each form of the library, and then under the checkers.
+
+        They run one after another, since a small file system has no room for the files of two.
+        """
+        ran = [self.run_program(self.work / f"cases.{form}", self.folders) for form in KILLS]
+        return "\n".join([*ran, self.run_checked()])
 
     def run_checked(self) -> str:
         """Runs `cases` under the checkers of addresses and undefined behavior."""
@@ -211,8 +230,9 @@ class PoolFile:
         """Runs producers and consumers over one file, and kills them repeatedly."""
         programs = self.build_examples()
         path = self.folders[0] / "example"
-        messages = Messages(programs, path, self.prefix / "bin/bb-pool")
-        came = messages.run(self.work / "printed")
+        printed = self.work / "printed"
+        printed.mkdir()
+        came = Messages(programs, path, self.prefix / "bin/bb-pool", printed).run()
         path.unlink()
         return f"producers and consumers, {len(programs)} programs of each: {came}"
 
@@ -294,9 +314,7 @@ class PoolFile:
         for form, tests in KILLS.items():
             kills = self.work / f"kills.{form}"
             jobs += [partial(self.run_kills, kills, words) for words in tests]
-        for form in KILLS:
-            jobs.append(partial(self.run_program, self.work / f"cases.{form}", self.folders))
-        jobs += [self.run_checked, self.run_mixed, self.compile_shown, self.run_command]
+        jobs += [self.run_cases, self.run_mixed, self.compile_shown, self.run_command]
         jobs += [self.run_examples]
         return jobs
 

@@ -21,7 +21,7 @@ REPLAY = "crates/file_replay/out/file_replay"
 # The exit status of `file_replay` at a difference.
 DIFFERENCE = 1
 # The seconds after which a trace is taken to hang.
-LONGEST = 120
+LONGEST = 600
 # The traces of the code: the arguments, except the second, the folder.
 CODE = (
     ("duels", "7"),

@@ -75,7 +75,7 @@ fn refusals_say_what_the_file_is() {
 fn threads_wait_for_each_other() {
     let path = Scratch::new("threads");
     let file = PoolFile::open(&path.0, &OPTIONS).unwrap();
-    let time = Duration::from_secs(10);
+    let time = Duration::from_secs(120);
     assert!(!file.wait_full(None, Duration::ZERO).unwrap());
     thread::scope(|scope| {
         let party: PoolFileParty = file.join().unwrap();
@@ -126,7 +126,7 @@ fn a_killed_sender_loses_nothing() {
             .stdout(process::Stdio::null())
             .spawn()
             .unwrap();
-        let came = file.wait_full(Some(3), Duration::from_secs(10));
+        let came = file.wait_full(Some(3), Duration::from_secs(120));
         child.kill().unwrap();
         child.wait().unwrap();
         assert!(came.unwrap());

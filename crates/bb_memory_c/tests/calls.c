@@ -1,14 +1,15 @@
 // Tests each call with each of its errors, and each call that takes memory with each of its
 // requests for memory failing in turn: `malloc` and `posix_memalign` are wrapped at link time. The
 // places are only numbers: there is no memory at them.
+#define _POSIX_C_SOURCE 200809L
 #define BB_PLACES_ARE_NUMBERS
 #include <errno.h>
 #include <pthread.h>
-#include <sched.h>
 #include <stdint.h>
 #include <stdio.h>
 #include <stdlib.h>
 #include <string.h>
+#include <time.h>
 
 #include "bb_memory.h"
 
@@ -1519,9 +1520,13 @@ static void store(uint32_t *word, uint32_t value) {
     __atomic_store_n(word, value, __ATOMIC_SEQ_CST);
 }
 
+// Spins for a moment, which mostly is enough, and then sleeps. On a loaded machine each yield would
+// take as long as the turns of all others.
 static void wait_for(const uint32_t *word, uint32_t least) {
-    while (load(word) < least)
-        sched_yield();
+    const struct timespec moment = {0, 1000};
+    for (uint32_t spins = 0; load(word) < least; spins++)
+        if (spins >= 256)
+            nanosleep(&moment, NULL);
 }
 
 static void *receive(void *argument) {

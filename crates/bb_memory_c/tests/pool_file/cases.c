@@ -32,7 +32,9 @@ enum {
     // line of events.
     FIRST_SLOT = 2 * PAGE + 64,
     // The greatest number of bytes that one `open` here may request.
-    MOST_BYTES = 1 << 27
+    MOST_BYTES = 1 << 27,
+    // The seconds after which a child ends by itself, since its test has failed.
+    LONGEST = 600
 };
 
 static const bb_pool_file_options OPTIONS = {
@@ -51,7 +53,8 @@ static void expect(bool holds, const char *what, int line) {
 
 #define EXPECT(holds) expect(holds, #holds, __LINE__)
 
-// The bytes that were requested of the file system so far, and after how many bytes it has no more.
+// The bytes that were requested of the file system so far, without those that it refused, and after
+// how many bytes it has no more.
 static size_t requested;
 static size_t most = MOST_BYTES;
 
@@ -59,7 +62,10 @@ int posix_fallocate(int fd, off_t at, off_t length) {
     requested += (size_t)length;
     if (requested > most)
         return ENOSPC;
-    return fallocate(fd, 0, at, length) == 0 ? 0 : errno;
+    if (fallocate(fd, 0, at, length) == 0)
+        return 0;
+    requested -= (size_t)length;
+    return errno;
 }
 
 // Which call of `pwrite` fails, counted from 1, or 0 for none: with this error, or if that is 0, by
@@ -222,7 +228,7 @@ static pid_t child_of(void) {
     EXPECT(child >= 0);
     if (child == 0) {
         prctl(PR_SET_PDEATHSIG, SIGKILL);
-        alarm(120);
+        alarm(LONGEST);
     }
     return child;
 }
@@ -490,17 +496,26 @@ static void replaced(void) {
     remove_it();
 }
 
+// How many signals are still to come.
+static volatile sig_atomic_t signals_left;
+
 static void on_signal(int unused) {
     (void)unused;
+    const struct itimerval never = {{0, 0}, {0, 0}};
+    signals_left--;
+    if (signals_left == 0)
+        setitimer(ITIMER_PROF, &never, NULL);
 }
 
-// Signals end a request for pages on tmpfs; the file is made all the same.
+// Signals end a request for pages on tmpfs; the file is made all the same. They end after a while:
+// a slow machine may need more time for a request than there is between two of them.
 static void signals(void) {
     const bb_pool_file_options large = {
         .bucket_size = 4096, .bucket_align = 64, .buckets = 4000, .parties = 2, .slots = 1};
     const struct itimerval often = {{0, 2000}, {0, 2000}};
     const struct itimerval never = {{0, 0}, {0, 0}};
     const struct sigaction action = {.sa_handler = on_signal};
+    signals_left = 200;
     EXPECT(sigaction(SIGPROF, &action, NULL) == 0);
     EXPECT(setitimer(ITIMER_PROF, &often, NULL) == 0);
     EXPECT(code_of(path, &large) == BB_OK);
@@ -1075,11 +1090,21 @@ static void waits(void) {
     close_it(file);
 }
 
+// Runs a wait. Returns 1 if it lasts as long as one that nobody wakes, which sleeps for a tenth of a
+// second.
+static uint32_t is_late(uint32_t (*wait)(bb_pool_file *, uint32_t, uint32_t), bb_pool_file *file) {
+    const uint64_t begun = milliseconds();
+    EXPECT(wait(file, 0, BB_NO_TIMEOUT) == BB_OK);
+    return milliseconds() - begun >= 100;
+}
+
 // One bucket goes to another process and back, and each side waits for the other: for a message,
-// for an empty slot, and for a free bucket.
+// for an empty slot, and for a free bucket. If a wake was lost, almost each wait for it would be
+// late. A loaded machine may make a few of them late.
 static void ping(void) {
     enum {
-        ROUNDS = 60
+        ROUNDS = 60,
+        MOST_LATE = 23
     };
 
     bb_pool_file *file = open_it();
@@ -1090,24 +1115,26 @@ static void ping(void) {
     if (child == 0) {
         bb_pool_file *own = open_it();
         bb_pool_party *mine = join_it(own);
+        uint32_t late = 0;
         for (int round = 0; round < ROUNDS; round++) {
-            EXPECT(bb_pool_file_wait_full(own, 0, BB_NO_TIMEOUT) == BB_OK);
+            late += is_late(bb_pool_file_wait_full, own);
             const bb_message message = bb_pool_file_take(own, mine, 0);
-            usleep(100);  // so long that the sender sleeps
+            usleep(1000);  // so long that the sender sleeps
             EXPECT(message.code == BB_OK && bb_pool_file_done(own, mine, 0) == BB_OK);
-            usleep(100);
+            usleep(1000);
             EXPECT(bb_pool_file_deallocate(own, mine, message.place) == BB_OK);
         }
+        EXPECT(late <= MOST_LATE);
         _exit(0);
     }
-    const uint64_t begun = milliseconds();
+    uint32_t late_for_slot = 0;
+    uint32_t late_for_bucket = 0;
     for (int round = 0; round < ROUNDS; round++) {
         EXPECT(bb_pool_file_post(file, party, 0, take_one(party), 5) == BB_OK);
-        EXPECT(bb_pool_file_wait_empty(file, 0, BB_NO_TIMEOUT) == BB_OK);
-        EXPECT(bb_pool_file_wait_bucket(file, BB_NO_TIMEOUT) == BB_OK);
-        usleep(100);
-        // A lost wake costs a tenth of a second each time.
-        EXPECT(milliseconds() - begun < 40 * ROUNDS);
+        late_for_slot += is_late(bb_pool_file_wait_empty, file);
+        late_for_bucket += is_late(wait_bucket, file);
+        EXPECT(late_for_slot <= MOST_LATE && late_for_bucket <= MOST_LATE);
+        usleep(1000);
     }
     end(child);
     close_it(file);
@@ -1329,14 +1356,14 @@ enum {
 // Starts a process that sleeps, in one of several ways, and returns it. The process ends by itself
 // if this test fails.
 static pid_t start_by(int way) {
-    char *argv[] = {"sleep", "20", NULL};
+    char *argv[] = {"sleep", "120", NULL};
     char *none[] = {NULL};
     pid_t started = -1;
     switch (way) {
     case BY_FORK:
         started = fork();
         if (started == 0) {
-            alarm(20);
+            alarm(120);
             pause();
         }
         break;
@@ -1351,7 +1378,7 @@ static pid_t start_by(int way) {
     default:
         started = (pid_t)syscall(SYS_clone, SIGCHLD, 0, 0, 0, 0);
         if (started == 0) {
-            alarm(20);
+            alarm(120);
             pause();
         }
     }
@@ -1370,15 +1397,20 @@ static void orphans(void) {
         if (child == 0) {
             take_one(join_it(open_it()));
             started = start_by(way);
-            usleep(100000);  // the started process has passed its handler, or its exec
             EXPECT(write(ready[1], &started, sizeof started) == sizeof started);
             pause();
         }
         EXPECT(read(ready[0], &started, sizeof started) == sizeof started);
         EXPECT(info_of(file).held == 1);
         end_killed(child);
-        EXPECT(kill(started, 0) == 0);
-        EXPECT(reap(file, false) == (way == BY_CLONE ? 0 : 1));
+        uint32_t freed = reap(file, false);
+        // The started process may not have come to its handler yet, or to the end of its exec.
+        for (int tries = 0; way != BY_CLONE && freed == 0; tries++) {
+            EXPECT(tries < 5000);
+            usleep(1000);
+            freed = reap(file, false);
+        }
+        EXPECT(freed == (way == BY_CLONE ? 0 : 1));
         EXPECT(kill(started, SIGKILL) == 0);
         for (int tries = 0; info_of(file).held > 0 && tries < 2000; tries++) {
             usleep(1000);
@@ -1398,7 +1430,7 @@ static void executed(void) {
     const pid_t child = child_of();
     if (child == 0) {
         take_one(join_it(open_it()));
-        execl("/bin/sleep", "sleep", "20", (char *)NULL);
+        execl("/bin/sleep", "sleep", "120", (char *)NULL);
     }
     for (int tries = 0; reap(file, false) == 0; tries++) {
         EXPECT(tries < 5000);
@@ -1601,7 +1633,7 @@ static void texts(void) {
 }
 
 int main(int argc, char **argv) {
-    alarm(300);  // a case that fails may wait for what doesn't come
+    alarm(LONGEST);  // a case that fails may wait for what doesn't come
     texts();
     unhandled_forks();
     passed();

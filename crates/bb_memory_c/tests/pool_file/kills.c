@@ -378,7 +378,7 @@ static int run_worker(char **argv) {
 // Has a child end if this test fails.
 static void end_with_parent(void) {
     prctl(PR_SET_PDEATHSIG, SIGKILL);
-    alarm(120);
+    alarm(600);
 }
 
 // RUN

@@ -372,7 +372,7 @@ static void note_hands(void) {
 
 // Says through a pipe that this process has begun, and does nothing.
 static void idle(int ready) {
-    alarm(120);
+    alarm(600);
     // Whoever reads what this program writes doesn't wait for this process.
     close(STDOUT_FILENO);
     close(STDERR_FILENO);
@@ -405,7 +405,7 @@ static void start_idle(void) {
 // Makes calls forever. It stops before each call with SIGUSR2, and after each with SIGUSR1.
 static void work(uint32_t process, uint32_t first_seed) {
     prctl(PR_SET_PDEATHSIG, SIGKILL);
-    alarm(120);
+    alarm(600);
     me = process;
     mine = &shared[process];
     seed = first_seed + 7919 * process;
