@@ -55,6 +55,8 @@ impl Layout {
             ↔ ((size ≤ self.size) × (align ≤ self.align) × IsPowerOfTwo align) }
         ensures value { IfSome result (λ layout. (layout.size ≡ size) × (layout.align ≡ align)) }
     {
+        // In this order, each test compiles to a jump of its own, which takes fewer instructions than
+        // combining the results.
         if !align.is_power_of_two() {
             return None;
         }

@@ -37,7 +37,7 @@ impl Hint {
         ensures { self.new ≡ hint_after self.old (Takes bucket) }
     {
         if bucket == self.rover {
-            self.rover = bucket + 1;
+            self.rover += 1;
         }
         self.bucket = self.rover;
     }
