@@ -1,15 +1,14 @@
 //! Next fit: requests whose search begins at the party's hint.
 ghost use Rattle.bb_memory_pool_machine.specs.PoolLogs.{PoolLog};
-ghost use Rattle.bb_memory_pool_machine.specs.declared.steps.pool.PoolOutcome.TheVariants.{Takes};
 ghost use Rattle.bb_memory_seats.specs.Seats.{Stays, number_of, view_log};
 ghost use Rattle.bb_memory_shared_pools.specs.SharedPool.{ServesAlone, taken_bucket};
-ghost use Rattle.bb_memory_shared_pools.specs.SharedPoolNextFit.{MayTakeFrom, hint_after, hint_of, part_of, probed, refused_search};
+ghost use Rattle.bb_memory_shared_pools.specs.SharedPoolNextFit.{MayTakeFrom, hint_of, part_of, probed, refused_search};
 ghost use Rattle.bb_memory_shared_pools.specs.SharedPoolRule.{AfterRefusal, AfterSearchWin, IsIdleAt, IsInSearch, probes_before};
-ghost use Rattle.std.specs.Prelude.{IsTrue, MatchBool, MatchOption, ℕ, ◌+◌, ◌<◌, ◌^◌, ◌≡◌, ◌≤◌};
+ghost use Rattle.std.specs.Prelude.{IfSome, IsTrue, MatchBool, MatchOption, ℕ, ◌+◌, ◌<◌, ◌^◌, ◌≡◌, ◌≤◌};
 
 use super::bucket::Bucket;
 use super::buckets::SharedBucketPool;
-use super::party::{Hint, PoolParty};
+use super::party::PoolParty;
 use super::rule::View;
 use atomic_table::Seat;
 use bb_memory_traits::allocator::AllocationError;
@@ -56,30 +55,27 @@ impl<const CAPPED: usize, const MOST: usize> SharedBucketPool<CAPPED, MOST> {
         first < self.number_of_buckets() && self.flags.try_at(party, seat, first)
     }
 
-    /// Makes the probes of the hint's search after that of bucket `hint.bucket`, which missed, or all of
-    /// them if the pool has no such bucket, and moves the hint after a bucket that it took. The clause
-    /// `step` holds for each log with which the search may have begun. The function isn't inlined, so
-    /// that a search whose first probe takes a bucket is straight-line code.
+    /// Makes the probes of a search after that of bucket `first`, which missed, or all of them if the
+    /// pool has no such bucket. The clause holds for each log with which the search may have begun.
+    /// The function isn't inlined, so that a search whose first probe takes a bucket is
+    /// straight-line code.
     #[inline(never)]
-    fn later_probes(&self, party: u32, seat: &mut Seat<u8, View>, hint: &mut Hint) -> Option<u32>
+    fn later_probes(&self, party: u32, seat: &mut Seat<u8, View>, first: u32) -> Option<u32>
         requires party { number_of seat.old.me.0 ≡ party }
         requires seat { IsIdleAt self.now seat.old.table_id seat.old.me }
         ensures step { Stays seat.old.table_id seat.new.table_id ((number : ℕ) (log : PoolLog)
-            → IsInSearch self.now.scene number log hint.old.bucket
-            (probes_before self.now.scene.geometry.buckets hint.old.bucket) seat.old.me
-            → MatchOption result (AfterRefusal self.now.scene number log
-            (refused_search self.now.scene.geometry.buckets number hint.old.bucket) seat.new.me)
-            (AfterSearchWin self.now.scene number log hint.old.bucket seat.new.me)) }
-        ensures hint { MatchOption result (hint.new ≡ hint.old)
-            (λ bucket. hint.new ≡ hint_after hint.old (Takes bucket)) }
+            → IsInSearch self.now.scene number log first
+            (probes_before self.now.scene.geometry.buckets first) seat.old.me → MatchOption result
+            (AfterRefusal self.now.scene number log
+            (refused_search self.now.scene.geometry.buckets number first) seat.new.me)
+            (AfterSearchWin self.now.scene number log first seat.new.me)) }
+        ensures fits { IfSome result (λ bucket. bucket + 1 < 2 ^ 32) }
     {
-        let first = hint.bucket;
         let count = self.number_of_buckets();
         let from = if first < count { 1 } else { 0 };
         for probe in from..count {
             let bucket = probed(count, first, probe);
             if self.flags.probe(party, seat, bucket) {
-                hint.follow_taking(bucket);
                 return Some(bucket);
             }
         }
@@ -128,10 +124,11 @@ impl<const CAPPED: usize, const MOST: usize> SharedBucketPool<CAPPED, MOST> {
             party.hint.follow_first(first);
             return Ok(self.taken(first, layout.size()));
         }
-        let later = self.later_probes(party.number, &mut party.seat, &mut party.hint);
+        let later = self.later_probes(party.number, &mut party.seat, first);
         let Some(number) = later else {
             return Err(AllocationError::OutOfMemory);
         };
+        party.hint.follow_taking(number);
         Ok(self.taken(number, layout.size()))
     }
 }

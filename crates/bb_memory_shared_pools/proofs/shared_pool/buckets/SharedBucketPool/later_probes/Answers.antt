@@ -9,26 +9,25 @@ use Rattle.std.proofs.Common.{ap, arith, subst, ℕ, ◌∙◌, ◌≡◌}
 
 pub returns-then-probe-clause-step : goal.returns-then-probe-clause-step
 returns-then-probe-clause-step g c =
-    let is = c.probed-bucket.ensures.value ∙ ap (λ (n : ℕ). probed n c.args.hint.now.bucket c.loop-probe.probe)
+    let is = c.probed-bucket.ensures.value ∙ ap (λ (n : ℕ). probed n c.args.first c.loop-probe.probe)
     c.number_of_buckets-count.ensures.value in
     record {
       table = c.probe.ensures.table ∙ c.loop-probe.invariant.table;
-      step = λ number log begun. search_takes c.args.self.now.scene number log c.args.hint.now.bucket c.loop-probe.seat.me
+      step = λ number log begun. search_takes c.args.self.now.scene number log c.args.first c.loop-probe.seat.me
           c.probe.new.seat.me c.loop-probe.probe (c.loop-probe.invariant.so_far number log begun) c.probed-bucket.result is
           (rw c.if-probe.true at (rw c.self.view_is at c.probe.ensures.step)) (omega arith);
     }
 
 pub loop-probe-preserved : goal.loop-probe-preserved
 loop-probe-preserved g c =
-    let is = c.probed-bucket.ensures.value ∙ ap (λ (n : ℕ). probed n c.args.hint.now.bucket c.loop-probe.probe)
+    let is = c.probed-bucket.ensures.value ∙ ap (λ (n : ℕ). probed n c.args.first c.loop-probe.probe)
     c.number_of_buckets-count.ensures.value in
     let missed = rw c.if-probe.false at (rw c.self.view_is at c.probe.ensures.step) in
     record {
       table = c.probe.ensures.table ∙ c.loop-probe.invariant.table;
-      hint = c.loop-probe.invariant.hint;
       own = ap (λ (m : Me ℕ SeatView). number_of m.0) missed.ended.seat.is ∙ c.loop-probe.invariant.own;
       idle = idle_where c.args.self.now.scene _ _ c.probe.new.seat.me missed.ended;
-      so_far = λ number log begun. search_goes_on c.args.self.now.scene number log c.args.hint.now.bucket c.loop-probe.seat.me
+      so_far = λ number log begun. search_goes_on c.args.self.now.scene number log c.args.first c.loop-probe.seat.me
           c.probe.new.seat.me c.loop-probe.probe (c.loop-probe.invariant.so_far number log begun) c.probed-bucket.result is
           missed;
     }
@@ -39,7 +38,7 @@ returns-clause-step g c =
     let end : c.loop-probe.probe ≡ scene.geometry.buckets = omega arith in
     record {
       table = c.loop-probe.invariant.table;
-      step = λ number log begun. search_refuses scene number log c.args.hint.now.bucket c.loop-probe.seat.me
-          (subst (λ (n : ℕ). IsInSearch scene number log c.args.hint.now.bucket n c.loop-probe.seat.me) end
+      step = λ number log begun. search_refuses scene number log c.args.first c.loop-probe.seat.me
+          (subst (λ (n : ℕ). IsInSearch scene number log c.args.first n c.loop-probe.seat.me) end
           (c.loop-probe.invariant.so_far number log begun));
     }

@@ -7,7 +7,6 @@ use Rattle.std.proofs.Common.{ℕ, ◌≡◌}
 abbrev pub invariant-loop-probe : goal.invariant-loop-probe
 invariant-loop-probe g l = record {
   table : l.seat.table_id ≡ l.initial.seat.table_id;
-  hint : l.hint ≡ l.initial.hint;
   own : number_of l.seat.me.0 ≡ l.party;
   idle : IsSeatOfIdle l.self.scene (number_of l.seat.me.0) (view_log l.seat.me.0) l.seat.me;
   so_far : (number : ℕ) (log : PoolLog) → IsInSearch l.self.scene number log l.first (probes_before l.self.scene.geometry.buckets l.first)
