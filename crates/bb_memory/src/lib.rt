@@ -3,14 +3,12 @@
 //! of this one:
 //!
 //! - `allocator`, `equality`, `layout`, `region`, `steps`: from `bb_memory_base`.
-//! - `heap_allocator`: from `bb_memory_heap`. `one_chunk_allocator`, `pool_allocator`: from
-//!   `bb_memory_owned`.
+//! - `heap_allocator`, `one_chunk_allocator`, `pool_allocator`: from `bb_memory_owned`.
 //! - `bump_allocator`, `shared_bump`: from `bb_memory_bump`. `shared_pool`: from
 //!   `bb_memory_shared_pools`.
 #![tactic(auto)]
 
 pub use bb_memory_base::{allocator, equality, layout, region, steps};
 pub use bb_memory_bump::{bump_allocator, shared_bump};
-pub use bb_memory_heap::heap_allocator;
-pub use bb_memory_owned::{one_chunk_allocator, pool_allocator};
+pub use bb_memory_owned::{heap_allocator, one_chunk_allocator, pool_allocator};
 pub use bb_memory_shared_pools::shared_pool;

@@ -1,2 +1,4 @@
+pub mod Heap
+pub mod HeapLending
 pub mod OneChunk
 pub mod Pool

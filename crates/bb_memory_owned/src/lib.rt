@@ -1,5 +1,5 @@
 //! Allocators with one owner over a region that is given as two numbers: its start and its size in
-//! bytes.
+//! bytes. Also blocks of bytes from the language's allocator.
 //!
 //! The modules, in the order in which to read them:
 //!
@@ -10,10 +10,12 @@
 //!     `bb_memory_index_set`.
 //!   - `fixed_size`: the pool that records its buckets in an array of its own. `laws`: what the
 //!     definitions mean.
+//! - `heap_allocator`: heap blocks, which need no region.
 //!
 //! The bump is in crate `bb_memory_bump`, with the bump that threads share. Crate `bb_memory`
 //! re-exports all of this.
 #![tactic(auto)]
 
+pub mod heap_allocator;
 pub mod one_chunk_allocator;
 pub mod pool_allocator;

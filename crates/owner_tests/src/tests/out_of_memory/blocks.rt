@@ -1,7 +1,7 @@
 //! Heap blocks. If memory runs out, `allocate` makes no block, and `grow` returns its block
 //! unchanged; then the call is made again.
 use crate::tests::checks::{layout, refused, same};
-use bb_memory_heap::heap_allocator::{
+use bb_memory_owned::heap_allocator::{
     AllocationError, AllocationGrowError, AllocationShrinkError, HeapAllocator, HeapBlock,
 };
 use bb_memory_traits::layout::Layout;

@@ -1,7 +1,7 @@
 //! A heap block.
 use crate::tests::checks::{check, layout, none_requested, same};
 use crate::tests::out_of_memory::blocks::{counted, digits, made, shrunk};
-use bb_memory_heap::heap_allocator::HeapAllocator;
+use bb_memory_owned::heap_allocator::HeapAllocator;
 use bb_memory_traits::layout::Layout;
 use test_marks::{refuse_memory, some_was_freed};
 

@@ -2,7 +2,7 @@
 use crate::tests::checks::{check, layout, none_requested, refused, same};
 use crate::tests::kinds::{fixed_over, pool_over};
 use bb_memory_bump::bump_allocator::bump_object_law;
-use bb_memory_heap::heap_allocator::heap_law;
+use bb_memory_owned::heap_allocator::heap_law;
 use bb_memory_owned::one_chunk_allocator::{OneChunkAllocator, one_chunk_object_law};
 use bb_memory_owned::pool_allocator::{
     PoolAllocator, pool_count_law, pool_geometry_law, pool_held_law, pool_object_law,

@@ -1,6 +1,6 @@
 //! Blocks of bytes from the language's allocator. Lengths are in bytes, and alignments are ignored.
-ghost use Rattle.bb_memory_heap.specs.Heap.{MayAllocate, MayGrow, MayShrink};
-ghost use Rattle.bb_memory_heap.specs.HeapLending.{LendsBlock, written};
+ghost use Rattle.bb_memory_owned.specs.Heap.{MayAllocate, MayGrow, MayShrink};
+ghost use Rattle.bb_memory_owned.specs.HeapLending.{LendsBlock, written};
 ghost use Rattle.std.specs.Borrow.{sem};
 ghost use Rattle.std.specs.Prelude.{List, length, ℕ, ◌≡◌};
 

@@ -1,5 +1,5 @@
 -- A heap block whose bytes were lent.
-use Rattle.bb_memory_heap.specs.contracts.heap_allocator.HeapBlock.{the_row}
+use Rattle.bb_memory_owned.specs.contracts.heap_allocator.HeapBlock.{the_row}
 use Rattle.std.specs.Borrow.{Array, Fml, Lends, MutBor, u8}
 use Rattle.std.specs.Prelude.{List, drop, length, take, ℕ, ◌++◌}
 

@@ -1,4 +1,4 @@
-use Rattle.bb_memory_heap.proofs.heap_allocator.HeapAllocator.grow.Goals as goal
+use Rattle.bb_memory_owned.proofs.heap_allocator.HeapAllocator.grow.Goals as goal
 use Rattle.std.proofs.Common.{arith}
 use Rattle.std.proofs.lemmas.Grind.{elements}
 
