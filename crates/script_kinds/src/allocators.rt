@@ -6,9 +6,9 @@ ghost use Rattle.bb_memory_traits.specs.Chunk.{Chunk};
 ghost use Rattle.script_kinds.specs.Allocators.{AllocatorRules, LiveState, bump_rules, live_rules, one_chunk_rules, refusal_name};
 ghost use Rattle.std.specs.Prelude.{IfOk, IfSome, List, OnErr, OnOk, Some, [], ◌++◌, ◌≡◌};
 
+use bb_memory_base::allocator::{run_base, run_full};
 use bb_memory_bump::bump_allocator::BumpAllocator;
 use bb_memory_owned::one_chunk_allocator::OneChunkAllocator;
-use bb_memory_runs::{run_base, run_full};
 use bb_memory_traits::allocator::{
     AllocationError, AllocationGrowError, AllocationShrinkError, Command, Reply,
 };

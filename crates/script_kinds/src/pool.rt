@@ -4,8 +4,8 @@ ghost use Rattle.script_kinds.specs.Allocators.{IsPoolPlan, fixed_rules, pool_nu
 ghost use Rattle.std.specs.Prelude.{IfSome, Some, ◌≡◌};
 
 use crate::allocators::ScriptedAllocator;
+use bb_memory_base::allocator::run_full;
 use bb_memory_owned::pool_allocator::{FixedSizePoolAllocator, PoolAllocator};
-use bb_memory_runs::run_full;
 use bb_memory_traits::allocator::{Command, Reply};
 use bb_memory_traits::layout::{Chunk, Layout};
 use scripts::words::{Labelled, Numbers, is_word, layout, write_labelled};

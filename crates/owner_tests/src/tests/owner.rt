@@ -3,7 +3,7 @@ ghost use Rattle.bb_memory_traits.specs.Chunk.{region_at};
 ghost use Rattle.bb_memory_traits.specs.HeldBytes.{held_region};
 ghost use Rattle.std.specs.Prelude.{IfSome, Some, [], slice_get, ◌%◌, ◌≡◌};
 
-use bb_memory_runs::{run_base, run_full};
+use bb_memory_base::allocator::{run_base, run_full};
 use bb_memory_traits::allocator::{Allocator, BaseAllocator, Command, Reply};
 use bb_memory_traits::layout::{Chunk, Layout};
 use bb_memory_traits::region::Region;

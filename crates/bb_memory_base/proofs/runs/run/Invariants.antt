@@ -1,5 +1,5 @@
-use Rattle.bb_memory_runs.proofs.run.Given as goal
-use Rattle.bb_memory_runs.specs.Runs.{AllocatorStep, EachGiven}
+use Rattle.bb_memory_base.proofs.runs.run.Given as goal
+use Rattle.bb_memory_base.specs.Runs.{AllocatorStep, EachGiven}
 use Rattle.bb_memory_traits.specs.Chunk.{Fits}
 use Rattle.bb_memory_traits.specs.Object.{IsRun, note_after_run}
 use Rattle.std.proofs.Common.{length, take, vec_capacity, vec_len, ◌+◌, ◌≡◌, ◌≤◌}

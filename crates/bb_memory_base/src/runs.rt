@@ -1,7 +1,5 @@
 //! Runs of commands over any allocator.
-#![tactic(auto)]
-
-ghost use Rattle.bb_memory_runs.specs.Runs.{AnswersRun, Applies};
+ghost use Rattle.bb_memory_base.specs.Runs.{AnswersRun, Applies};
 ghost use Rattle.bb_memory_traits.specs.Chunk.{Chunk};
 ghost use Rattle.bb_memory_traits.specs.Object.{MayBeGrown, ResizableStep, Step, note_after_run, object_of, resizable_object_of};
 ghost use Rattle.bb_memory_traits.specs.declared.allocator.Command.{Command};

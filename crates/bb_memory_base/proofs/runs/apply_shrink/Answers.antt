@@ -1,4 +1,4 @@
-use Rattle.bb_memory_runs.proofs.apply_shrink.Goals as goal
+use Rattle.bb_memory_base.proofs.runs.apply_shrink.Goals as goal
 use Rattle.std.proofs.Common.{arith}
 use Rattle.std.proofs.lemmas.Grind.{elements}
 

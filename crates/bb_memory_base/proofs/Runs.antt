@@ -1,5 +1,5 @@
 -- Runs of an allocator with its live list, one command longer.
-use Rattle.bb_memory_runs.specs.Runs.{AllocatorStep, EachGiven}
+use Rattle.bb_memory_base.specs.Runs.{AllocatorStep, EachGiven}
 use Rattle.bb_memory_traits.specs.Chunk.{Chunk}
 use Rattle.bb_memory_traits.specs.Object.{IsRun, note_after_command, note_after_run}
 use Rattle.bb_memory_traits.specs.declared.allocator.AllocationError.{AllocationError}

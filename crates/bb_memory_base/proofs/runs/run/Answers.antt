@@ -1,5 +1,5 @@
-use Rattle.bb_memory_runs.proofs.Runs.{EachGiven-push, IsRun-listed, note-push}
-use Rattle.bb_memory_runs.proofs.run.Goals as goal
+use Rattle.bb_memory_base.proofs.Runs.{EachGiven-push, IsRun-listed, note-push}
+use Rattle.bb_memory_base.proofs.runs.run.Goals as goal
 use Rattle.bb_memory_traits.proofs.Runs.{IsRun-push}
 use Rattle.std.proofs.Common.{[], ap, arith, sym, take, ◌++◌, ◌+◌, ◌∙◌, ◌∷◌, ◌≡◌}
 use Rattle.std.proofs.lemmas.List.{length-take-le, take_all, take_more}

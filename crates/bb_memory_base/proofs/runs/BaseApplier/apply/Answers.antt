@@ -1,4 +1,4 @@
-use Rattle.bb_memory_runs.proofs.BaseApplier.apply.Goals as goal
+use Rattle.bb_memory_base.proofs.runs.BaseApplier.apply.Goals as goal
 use Rattle.std.proofs.Common.{arith}
 use Rattle.std.proofs.lemmas.Grind.{elements}
 
