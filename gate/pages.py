@@ -10,6 +10,7 @@ It checks that
 - the calls and labels of clauses that PROMISES.md and the edits name exist,
 - the numbers that pages repeat are right,
 - pages, and comments that users read, have none of the words in `gate/wording.py`,
+- each definition and each lemma has a use (`gate/unused.py`),
 - what threads share has no new text by which a call could wait (`gate/places.py`),
 - the files that a person has to read are as they were read (`gate/readings.py`).
 """
@@ -20,7 +21,7 @@ from dataclasses import dataclass
 from fnmatch import filter as matching
 from pathlib import Path
 
-from gate import contracts, links, places, process, public, readings, versions, wording
+from gate import contracts, links, places, process, public, readings, unused, versions, wording
 from gate.crates import TOP, Workspace
 from gate.edits import BadEdit, parse_edit
 from gate.files import TreeChanged, texts_below
@@ -226,6 +227,7 @@ def findings(tree: Tree) -> Iterator[str]:
     yield from wrong_first_words(tree)
     yield from wording.wrong(tree.texts)
     yield from wording.unused(tree.texts)
+    yield from unused.findings(tree.texts)
     yield from places.findings(tree.texts)
     yield from readings.findings(tree.texts)
     yield from long_subject(tree.top)

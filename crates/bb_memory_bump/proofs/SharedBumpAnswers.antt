@@ -3,7 +3,7 @@ use Rattle.atomic_table.specs.Seated.{TableId}
 use Rattle.atomic_table.specs.Table.{Me}
 use Rattle.bb_memory_bump.specs.Bump.{AllocationError, Layout, OutOfMemory}
 use Rattle.bb_memory_bump.specs.SharedBump.{BumpParty, IsAnsweredAt, IsFoundBy, IsRefused, IsWon, MayTake, floor_of, seen_by, with_entries}
-use Rattle.bb_memory_bump.specs.SharedBumpRule.{AfterCall, AfterRefusal, AfterWin, IsCounted, SeatView, met_by, party_in}
+use Rattle.bb_memory_bump.specs.SharedBumpRule.{AfterCall, AfterRefusal, AfterWin, SeatView, met_by, party_in}
 use Rattle.bb_memory_bump_machine.proofs.BumpBounds.{won_grows}
 use Rattle.bb_memory_bump_machine.specs.BumpLogs.{BumpLog, chunks_won, losses_in, seen_in}
 use Rattle.bb_memory_bump_machine.specs.BumpMachine.{BumpScene, chunk_at}
@@ -29,11 +29,6 @@ nothing_added : (party : BumpParty) (added : BumpLog) → party ≡ with_entries
 nothing_added party added same =
     added_once party added []
     ((λ i. record { allocator = party.allocator; number = party.number; log = append-nil party.log i; met = party.met }) ∙ same)
-
-counted_found : (scene : BumpScene) (log : BumpLog) (met : ℕ) (added : BumpLog) (party : BumpParty) →
-    IsCounted scene log met added →
-    party.allocator.scene ≡ scene → log ≡ party.log → met ≡ party.met → IsFoundBy party added
-counted_found scene log met added party counted scene_is log_is met_is = grind arith
 
 -- if no step was made
 pub nothing_found : (party : BumpParty) (added : BumpLog) → party ≡ with_entries party added → IsFoundBy party added

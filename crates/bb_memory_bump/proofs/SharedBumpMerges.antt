@@ -20,12 +20,6 @@ use Rattle.std.specs.Prelude.{Contains, map}
 
 -- GATHERING
 
--- a party's seat stands only for that party
-pub parties_of : (table : TableId) (number : ℕ) (me : Me ℕ SeatView) (party : BumpParty) → IsPartySeat number me →
-    party_in table number me.0 ≡ party → me.0.parties ≡ numbered_of party ∷ []
-parties_of table number me party fields view_is =
-    ap (λ (m : Me ℕ SeatView). m.0.parties) fields.seat.seat.is ∙ ap (λ (p : BumpParty). numbered_of p ∷ []) view_is
-
 -- the last of a list comes to the seat
 pub all_merged : (table : TableId) (number : ℕ) (me : Me ℕ SeatView) (party : BumpParty) (items rest : List BumpParty) →
     IsPartySeat number me → party_in table number me.0 ≡ party → items ≡ rest ++ party ∷ [] →

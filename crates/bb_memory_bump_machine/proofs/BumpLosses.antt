@@ -6,8 +6,8 @@ use Rattle.bb_memory_bump_machine.specs.BumpLogs.{BumpEntry, BumpLog, HasNoClear
 use Rattle.bb_memory_bump_machine.specs.BumpMachine.{BumpMove, BumpOutcome, BumpScene, BumpState, BumpStep, Exchange, IsIdle, IsInCall, OngoingCall, PartyMove, bump_after, bump_step, left_by, moved, opening_state}
 use Rattle.bb_memory_lists.proofs.SliceGets.{slice_get-set_same}
 use Rattle.bb_memory_traits.specs.Chunk.{Region}
-use Rattle.std.proofs.Common.{Bool, List, None, Some, [], ap, arith, false, refl, subst, sym, true, ℕ, ◌++◌, ◌+◌, ◌<◌, ◌∙◌, ◌∷◌, ◌≡◌, ◌≢◌, ◌≤◌}
-use Rattle.std.proofs.lemmas.Bool.{eq-eqb, eqb-true}
+use Rattle.std.proofs.Common.{Bool, List, None, Some, [], ap, arith, false, refl, subst, sym, true, ℕ, ◌++◌, ◌+◌, ◌<◌, ◌∙◌, ◌∷◌, ◌≡◌, ◌≤◌}
+use Rattle.std.proofs.lemmas.Bool.{eqb-true}
 use Rattle.std.proofs.lemmas.List.Sums.{sum_by-cons}
 use Rattle.std.proofs.lemmas.Option.{same_Some}
 use Rattle.std.specs.Prelude.{count_by, if◌then◌else◌}
@@ -17,9 +17,6 @@ use Rattle.std.specs.Prelude.{count_by, if◌then◌else◌}
 -- a party's call, if it is in one, has seen at most the position
 abbrev pub SeesNoMore : BumpState → ℕ → Type 0
 SeesNoMore state party = (call : OngoingCall) → IsInCall state party call → call.seen ≤ state.position
-
-less_when_apart : (position old seen : ℕ) → position ≢ old → old ≡ seen → seen ≤ position → seen < position
-less_when_apart position old seen apart same below = grind (arith, apart)
 
 step_sees : (region : Region) (state : BumpState) (step : BumpStep) (move : BumpMove) (party : ℕ) →
     StepView region state step move → ¬ IsClear step → SeesNoMore state party → SeesNoMore move.state party
@@ -220,22 +217,6 @@ losses_few scene before stretch party within idle none few =
     let little = one_call_loses_little scene.region party (left_by scene before) stretch none idle few in
     let same = ap (λ (state : BumpState). state.position) (bump_after-append scene.region (opening_state scene) before stretch) in
     omega (arith, little, same, position_in_size scene (before ++ stretch) within)
-
-loss_raises : (region : Region) (state : BumpState) (move : BumpMove) (party position : ℕ) (call : OngoingCall) →
-    StepView region state (Exchange party) move → IsInCall state party call → call.seen ≤ state.position →
-    IsLossAt position move.outcome → call.seen < position
-loss_raises region state move party position call (exchanges other old turn at view) is below lost =
-    let own = same_Some old call (one_there state other other (Some old) (Some call) (eq-eqb other other refl) at is) in
-    raised turn view (ap (λ (c : OngoingCall). c.seen) own) lost
-  where
-    raised : (turn : PartyMove) → ExchangeView region state.position old turn → old.seen ≡ call.seen →
-        IsLossAt position turn.outcome → call.seen < position
-    raised turn (wins same) own lost = absurd lost
-    raised turn (loses apart fit) own lost =
-        omega (arith, lost, less_when_apart state.position old.seen call.seen apart own below)
-    raised turn (refuses_loss apart fit) own lost =
-        omega (arith, lost, less_when_apart state.position old.seen call.seen apart own below)
-loss_raises region state move party position call (passes other) is below lost = absurd lost
 
 pub losses_raise : (scene : BumpScene) (before stretch : List BumpStep) (party position : ℕ) (call : OngoingCall) →
     scene.opening ≤ scene.region.size →

@@ -1,6 +1,6 @@
 -- The machine's tests, and what they find.
 use Rattle.bb_memory_file_machine.specs.FileLaws.{IsFlag, IsInSome, IsLock, IsSlot}
-use Rattle.bb_memory_file_machine.specs.FileMachine.{DetachedBy, Empty, FileWords, Flag, Free, HeldBy, Message, Outside, Place, Slot, finds_flag, finds_free, finds_own, finds_slot, has_bucket, is_flag, is_own, is_slot, may_call, same_flag, same_slot, some_has}
+use Rattle.bb_memory_file_machine.specs.FileMachine.{DetachedBy, Empty, FileWords, Flag, Free, HeldBy, Message, Slot, finds_flag, finds_free, finds_own, finds_slot, has_bucket, is_flag, is_own, is_slot, same_flag, same_slot, some_has}
 use Rattle.bb_memory_pool_machine.proofs.PoolSteps.{test_same}
 use Rattle.std.proofs.Common.{Bool, List, None, Option, Some, [], ap, false, refl, suc, true, zero, ℕ, ◌∙◌, ◌∷◌, ◌≡◌}
 use Rattle.std.proofs.lemmas.Bool.{eqb-true}
@@ -117,13 +117,3 @@ own_found process (Some (Some other)) e = ap (λ (p : ℕ). Some (Some p)) (eqb-
 
 pub own_there : (words : FileWords) (process party : ℕ) → is_own words process party ≡ true → IsLock words party process
 own_there words process party e = own_found process (slice_get words.locks party) e
-
--- the process is in no call, and has the lock
-pub record MayCall (words : FileWords) (process : ℕ) (place : Place) (party : ℕ) : Type 0 where
-  pub outside : place ≡ Outside
-  pub lock : IsLock words party process
-
-pub may_call_there : (words : FileWords) (process : ℕ) (place : Place) (party : ℕ) → may_call words process place party ≡ true →
-    MayCall words process place party
-may_call_there words process Outside party e = record { outside = refl; lock = own_there words process party e }
-may_call_there words process place party e = absurd (cc)

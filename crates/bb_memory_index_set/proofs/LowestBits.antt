@@ -7,10 +7,7 @@ use Rattle.std.proofs.lemmas.Nat.Bits.{bit_at-suc, bit_at-trailing_ones, bit_at_
 use Rattle.std.specs.Int.{bit_at, trailing_ones}
 use Rattle.std.specs.Prelude.{bit_or}
 
--- half of a number, and of the next
-half_even : (n : ℕ) → n % 2 ≡ 0 → (n + 1) / 2 ≡ n / 2
-half_even n even = omega (arith, even)
-
+-- half of an odd number, and of the next
 half_odd : (n : ℕ) → n % 2 ≡ 1 → (n + 1) / 2 ≡ n / 2 + 1
 half_odd n odd = omega (arith, odd)
 

@@ -178,9 +178,3 @@ fresh_set bound count words zero listed same is are none room named =
         );
       };
     })
-
--- the list, one entry longer
-pub named_more : (listed : List ℕ) (count k : ℕ) → 0 < k → k - 1 < length listed →
-    ((j : ℕ) → j + 1 < k → get_or listed j 0 ≡ count - 1 - j) →
-    (j : ℕ) → j + 1 < k + 1 → get_or (set listed (k - 1) (count - k)) j 0 ≡ count - 1 - j
-named_more listed count k some room named j below = grind (arith, common_steps)

@@ -56,10 +56,6 @@ tally-released numbers count most i is has = grind (arith, member_count-released
 pub tally-some : (numbers : List Bool) (count most i : ℕ) → IsTally numbers count most → Has numbers i → 1 ≤ count
 tally-some numbers count most i is has = omega (arith, is.members, member_count-released numbers i has)
 
--- the greatest number of members is at least the number of them
-pub tally-most : (numbers : List Bool) (count most : ℕ) → IsTally numbers count most → most ≡ max most (member_count numbers)
-tally-most numbers count most is = omega (arith, is.members, is.few)
-
 pub tally-fresh : (bound : ℕ) → IsTally (replicate bound false) 0 0
 tally-fresh bound = record { members = sym (member_count-fresh bound); few = omega arith; within = omega arith }
 

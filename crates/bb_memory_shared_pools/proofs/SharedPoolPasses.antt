@@ -9,7 +9,7 @@ use Rattle.bb_memory_shared_pools.proofs.SharedPoolRequests.{HasAsked}
 use Rattle.bb_memory_shared_pools.proofs.SharedPoolTries.{held-taking, idle_after_refusal, idle_after_taking, same_held}
 use Rattle.bb_memory_shared_pools.specs.SharedPool.{AreAllHeldAfter, losses, refused_pass, taking_pass}
 use Rattle.bb_memory_shared_pools.specs.SharedPoolRule.{AfterPassWin, AfterRefusal, AfterTryLoss, AfterTryWin, IsSeatOf, SeatView}
-use Rattle.std.proofs.Common.{None, Some, [], add-one, ap, append-nil, append_assoc, arith, subst, sym, ℕ, ◌++◌, ◌+◌, ◌<◌, ◌∙◌, ◌∷◌, ◌≡◌}
+use Rattle.std.proofs.Common.{None, Some, [], add-one, ap, append_assoc, subst, sym, ℕ, ◌++◌, ◌+◌, ◌<◌, ◌∙◌, ◌∷◌, ◌≡◌}
 use borrow.Author.Count.{below_more}
 
 -- a pass in progress: since it began, the seat's party has lost at the buckets below this one
@@ -24,12 +24,6 @@ seat_after scene number log more entry new seat =
     subst (λ (l : PoolLog). IsSeatOf scene number l new) (append_assoc log more (entry ∷ [])) seat
 
 module _ (scene : PoolScene) (number : ℕ) (log : PoolLog) where
-  pub begins : (me : Me ℕ SeatView) → IsSeatOf scene number log me → IsPassing scene number log 0 me
-  begins me of = record {
-    seat = subst (λ (l : PoolLog). IsSeatOf scene number l me) (sym (append-nil log)) of;
-    held = λ one other below. absurd (omega arith);
-  }
-
   module _ (me new : Me ℕ SeatView) (bucket : ℕ) (passing : IsPassing scene number log bucket me) where
     -- one more loss. If the party is the only one, the bucket is held after its log, as all before
     pub goes_on : AfterTryLoss scene (number_of me.0) (view_log me.0) bucket new → IsPassing scene number log (bucket + 1) new

@@ -17,10 +17,6 @@ use Rattle.std.specs.Prelude.{map, remove, slice_get, slice_set}
 
 -- the chunks after each change
 
-pub chunks-push : (samples : List Sample) (sample : Sample) →
-    chunks_of (samples ++ sample ∷ []) ≡ chunks_of samples ++ sample.chunk ∷ []
-chunks-push samples sample = simp map-append
-
 pub chunks-remove : (samples : List Sample) (i : ℕ) → chunks_of (remove samples i) ≡ remove (chunks_of samples) i
 chunks-remove samples i = simp (map-append, take-map, drop-map)
 

@@ -1,15 +1,10 @@
 -- Each call has only one answer, or leads to at least one book.
-use Rattle.bb_memory_traits.specs.Chunk.{Chunk}
 use Rattle.loan_book.proofs.BookSteps.{one_position, one_sample, unpublished-nowhere}
 use Rattle.loan_book.specs.Book.{Book, IsAt, IsBook, IsOut, IsPublished, IsUnpublished, LoanError, Sample, returns_to_come}
-use Rattle.loan_book.specs.Calls.{Answers, GivesBack, Loans, Publishes, with_returns, without}
+use Rattle.loan_book.specs.Calls.{GivesBack, Publishes, with_returns, without}
 use Rattle.loan_book.specs.declared.error.LoanError.TheVariants.{AlreadyPublished, NoReaders, UnknownSample}
 use Rattle.std.proofs.Common.{Bool, Err, Ok, Result, ap, arith, false, refl, subst, sym, true, ℕ, ◌<◌, ◌∙◌, ◌≡◌}
 use Rattle.std.specs.Prelude.{◌↔◌}
-
-pub loan-one_book : (may_allocate : Answers) (old : Book) (size : ℕ) (answer : Result (ℕ × Chunk) LoanError) (new next : Book) →
-    Loans may_allocate old size answer new → Loans may_allocate old size answer next → new ≡ next
-loan-one_book may_allocate old size answer new next first second = grind (arith, first, second)
 
 -- when each answer to a publish comes
 abbrev pub PublishCause : Book → ℕ → ℕ → Result (Unit {0}) LoanError → Type 0
