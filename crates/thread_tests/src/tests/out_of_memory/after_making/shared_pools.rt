@@ -43,7 +43,8 @@ fn two_parties_of_one_bucket(rt: HostRuntime) {
     none_requested(rt);
 }
 
-/// The last party's part of the pool is its last bucket, even after all parties met.
+/// The last party's part of the pool is its last bucket, even after all parties met. Bucket `i`
+/// begins at 4096 + 128 i: the last one, 511, at 69504, and the region ends before 69632.
 #[test]
 fn as_many_parties_as_buckets(rt: HostRuntime) {
     let (pool, mut all) = pool_at_last(&rt, 65536, 512);
