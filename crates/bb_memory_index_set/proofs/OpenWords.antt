@@ -116,19 +116,26 @@ set_filled bound words listed current open_count left next is are some full last
           ]));
     }
 
--- a release: a full word has a bit less, and is current, and the one that was current is listed
+-- the word at this place was full, and a release has opened it
+pub record Opens (bound : ℕ) (words new : List ℕ) (at : ℕ) : Type 0 where
+  pub are : AreIndexWords bound new
+  pub puts : PutsAt words at new
+  pub within : at < length words
+  pub full : get_or words at 0 ≡ 2 ^ 64 - 1
+  pub not_full : get_or new at 0 ≢ 2 ^ 64 - 1
+
+-- the opened word is current, and the one that was current is listed
 pub set_opened : (bound : ℕ) (words listed new named : List ℕ) (current open_count at : ℕ) →
-    IsWordSet bound words listed current open_count →
-    AreIndexWords bound new → PutsAt words at new → at < length words → get_or words at 0 ≡ 2 ^ 64 - 1 →
-    get_or new at 0 ≢ 2 ^ 64 - 1 → length named ≡ length listed →
+    IsWordSet bound words listed current open_count → Opens bound words new at → length named ≡ length listed →
     ((k : ℕ) → k < open_count → get_or named k 0 ≡ open_word listed current open_count k) →
     IsWordSet bound new named at (open_count + 1)
-set_opened bound words listed new named current open_count at is are puts within full not_full len name = record {
-  are = are;
-  room = omega (arith, len, is.room, puts.len);
-  listing = rw puts.len (opened (length words) (IsOpen words) (IsOpen new) (open_word listed current open_count)
-      (open_word named at (open_count + 1)) open_count at is.listing (stay_open words new at puts) within (λ clear. clear full)
-      not_full
+set_opened bound words listed new named current open_count at is opens len name = record {
+  are = opens.are;
+  room = omega (arith, len, is.room, opens.puts.len);
+  listing = rw opens.puts.len (opened (length words) (IsOpen words) (IsOpen new) (open_word listed current open_count)
+      (open_word named at (open_count + 1)) open_count at is.listing (stay_open words new at opens.puts) opens.within
+      (λ clear. clear opens.full)
+      opens.not_full
       (last_open_word named at (open_count + 1) open_count (omega arith))
       (λ k h. under_word named at (open_count + 1) k (omega (arith, h)) ∙ name k h));
 }

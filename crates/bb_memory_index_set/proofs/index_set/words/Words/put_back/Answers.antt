@@ -1,7 +1,7 @@
 use Rattle.bb_memory_index_set.proofs.LastFreed.{others_have, put_back}
 use Rattle.bb_memory_index_set.proofs.Listings.{room_left}
 use Rattle.bb_memory_index_set.proofs.NumberWords.{has_word}
-use Rattle.bb_memory_index_set.proofs.OpenWords.{named_current, set_opened, set_still}
+use Rattle.bb_memory_index_set.proofs.OpenWords.{Opens, named_current, set_opened, set_still}
 use Rattle.bb_memory_index_set.proofs.Tallies.{tally-some}
 use Rattle.bb_memory_index_set.proofs.index_set.words.Words.put_back.Goals.{else-self-gt0, then-self-gt0}
 use Rattle.bb_memory_index_set.proofs.index_set.words.Words.put_back.Goals as goal
@@ -43,13 +43,19 @@ invariant_of-self g c =
     let full = told.was_full c.if-was_full.true in
     let fits = room_left _ _ _ inside.open_count at is.listing within (λ clear. clear full) in
     let room = is.room in
+    let opens : Opens inside.bound words c.clear-was_full.new.self.words at = record {
+      are = left.are;
+      puts = told.others;
+      within = within;
+      full = full;
+      not_full = told.not_full;
+    } in
     elim c.if-self-gt0.branch [
       | then-self-gt0 w ↦
           let named = w.list.ensures.listed ∙ ap (λ (l : List ℕ). set l (inside.open_count - 1) inside.current) told.listed in
           rw (w.self-inside-is, w.list.ensures.words) (
             set_opened inside.bound words listed c.clear-was_full.new.self.words w.list.new.self.listed
-                inside.current inside.open_count at is
-                left.are told.others within full told.not_full
+                inside.current inside.open_count at is opens
                 (ap length named ∙ length-set listed (inside.open_count - 1) inside.current)
                 (λ k h. ap (λ (l : List ℕ). get_or l k 0) named
                 ∙ named_current listed inside.current inside.open_count k h (omega (arith, fits, room))),
@@ -59,7 +65,7 @@ invariant_of-self g c =
       | else-self-gt0 w ↦
           rw w.self-inside-is (
             set_opened inside.bound words listed c.clear-was_full.new.self.words c.clear-was_full.new.self.listed inside.current
-                inside.open_count at is left.are told.others within full told.not_full (ap length told.listed)
+                inside.open_count at is opens (ap length told.listed)
                 (λ k h. absurd (omega (arith, h, w.if-self-gt0.false))),
             left.still_last_freed,
             left.tally inside.count inside.most c.self.invariant.2,
