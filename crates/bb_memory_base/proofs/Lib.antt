@@ -1,1 +1,1 @@
-mod Runs
+mod LongerRuns

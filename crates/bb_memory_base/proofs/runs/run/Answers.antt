@@ -1,4 +1,4 @@
-use Rattle.bb_memory_base.proofs.Runs.{EachGiven-push, IsRun-listed, note-push}
+use Rattle.bb_memory_base.proofs.LongerRuns.{EachGiven-push, IsRun-listed, note-push}
 use Rattle.bb_memory_base.proofs.runs.run.Goals as goal
 use Rattle.bb_memory_traits.proofs.Runs.{IsRun-push}
 use Rattle.std.proofs.Common.{[], ap, arith, sym, take, ◌++◌, ◌+◌, ◌∙◌, ◌∷◌, ◌≡◌}
