@@ -10,14 +10,14 @@ use Rattle.bb_memory_pool_machine.specs.PoolMachine.{PoolScene, PoolState, left_
 use Rattle.bb_memory_pool_machine.specs.declared.steps.pool.Flag.{Flag}
 use Rattle.bb_memory_pool_machine.specs.declared.steps.pool.Flag.TheVariants.{DetachedBy, Free, HeldBy}
 use Rattle.bb_memory_seats.proofs.PartyNumbers.{all_there, has_number, logs_had, numbers_differ, owner}
-use Rattle.bb_memory_seats.specs.Seats.{both_of, standing_for, times_in}
+use Rattle.bb_memory_seats.specs.Seats.{IsSplit, Stays, both_of, first_of, others_of, standing_for, times_in}
 use Rattle.bb_memory_shared_pools.specs.SharedPool.{IsSharedScene, PoolParty, SharedPool}
 use Rattle.bb_memory_shared_pools.specs.SharedPoolMeetings.{HaveMet, IsHeldByOne, MetDetached, MetUndetached}
-use Rattle.bb_memory_shared_pools.specs.SharedPoolRule.{AfterMeetingLoad, IsPartySeat, NumberedLog, SeatView, numbered_of, party_in}
+use Rattle.bb_memory_shared_pools.specs.SharedPoolRule.{AfterMeetingLoad, IsPartySeat, NumberedLog, SeatView, StandsAt, numbered_of, party_in}
 use Rattle.bb_memory_shared_pools.specs.declared.shared_pool.party.Hint.{Hint}
-use Rattle.std.proofs.Common.{Bool, List, Some, [], ap, arith, inl, inr, length, refl, replicate, subst, sym, true, ℕ, ◌++◌, ◌∙◌, ◌∷◌, ◌≡◌, ◌≤◌}
+use Rattle.std.proofs.Common.{Bool, List, Some, [], ap, append_assoc, arith, inl, inr, length, refl, replicate, subst, sym, true, ℕ, ◌++◌, ◌∙◌, ◌∷◌, ◌≡◌, ◌≤◌}
 use Rattle.std.proofs.lemmas.List.{length-map, length-replicate, map-append}
-use Rattle.std.proofs.lemmas.List.Elements.{All-contains, All-from_recursion, All-nil, All-replicate}
+use Rattle.std.proofs.lemmas.List.Elements.{All-contains, All-from_recursion, All-nil, All-pop, All-replicate}
 use Rattle.std.proofs.lemmas.Option.{same_Some}
 use Rattle.std.specs.Prelude.{All, Contains, map, slice_get}
 
@@ -146,13 +146,10 @@ none_met scene items shared none =
       },
     )
 
--- the party that goes back after the meeting
-pub met_party : (table was : TableId) (number : ℕ) (me new : Me ℕ SeatView) (party : PoolParty) →
-    party_in was number me.0 ≡ party → table ≡ was → new ≡ me → party_in table number new.0 ≡ party
-met_party table was number me new party view_is same is = (λ i. party_in (same i) number (is i).0) ∙ view_is
+-- THERE AND BACK
 
 -- the party's seat is as it was if it stands only for that party again
-pub same_seat : (pool : SharedPool) (table : TableId) (number : ℕ) (hint : Hint) (me new : Me ℕ SeatView) (party : PoolParty) →
+same_seat : (pool : SharedPool) (table : TableId) (number : ℕ) (hint : Hint) (me new : Me ℕ SeatView) (party : PoolParty) →
     IsPartySeat number hint me → party_in table number me.0 ≡ party → party.allocator ≡ pool →
     new ≡ (standing_for pool.scene (numbered_of party ∷ []), []) → new ≡ me
 same_seat pool table number hint me new party is view_is its back =
@@ -161,10 +158,48 @@ same_seat pool table number hint me new party is view_is its back =
     back ∙ (λ i. (standing_for (sym scene i) (numbered_of (sym view_is i) ∷ []), [])) ∙ sym is.seat.seat.is
 
 -- the seat of parties to which one more comes
-pub comes : (scene : PoolScene) (seat guest there : Me ℕ SeatView) (table : TableId) (number : ℕ) (hint : Hint)
+comes : (scene : PoolScene) (seat guest there : Me ℕ SeatView) (table : TableId) (number : ℕ) (hint : Hint)
     (party : PoolParty) →
     IsPartySeat number hint guest → party_in table number guest.0 ≡ party → seat ≡ (standing_for scene seat.0.parties, []) →
     there ≡ (both_of seat.0 guest.0, seat.1) → there ≡ (standing_for scene (numbered_of party ∷ seat.0.parties), [])
 comes scene seat guest there table number hint party is view_is here merged =
     let its = parties_of table number hint guest party is view_is in
     merged ∙ λ i. (standing_for (here i).0.scene (its i ++ seat.0.parties), (here i).1)
+
+-- The last of these parties has come to a seat and gone back: all of them made the step, with the parties of that seat, and both
+-- seats are as they were.
+pub record CameBack (Step : List NumberedLog → Type 0) (items : List PoolParty) (last : PoolParty) (number : ℕ)
+    (was is its : TableId) (old new guest back : Me ℕ SeatView) : Type 0 where
+  pub table : is ≡ was
+  pub seat : new ≡ old
+  pub step : Step (map numbered_of items ++ old.0.parties)
+  pub own : back ≡ guest
+  pub value : party_in its number back.0 ≡ last
+
+-- the parties before the last made the step when that one's seat had joined
+pub merged_back : (Step : List NumberedLog → Type 0) (pool : SharedPool) (items before : List PoolParty) (last : PoolParty)
+    (number : ℕ) (hint : Hint) {was joined met is home its : TableId} {old there stepped new guest back : Me ℕ SeatView} →
+    All (λ party. party.allocator ≡ pool) items → items ≡ before ++ last ∷ [] → IsPartySeat number hint guest →
+    party_in home number guest.0 ≡ last → StandsAt pool was old → Stays was joined (there ≡ (both_of old.0 guest.0, old.1)) →
+    met ≡ joined → stepped ≡ there → Step (map numbered_of before ++ there.0.parties) →
+    IsSplit met stepped is new its back → CameBack Step items last number was is its old new guest back
+merged_back Step pool items before last number hint {home = home} {old = old} {guest = guest} all items_are fields view_is here
+    merged table kept step split =
+    let pool_is = (All-pop (λ (p : PoolParty). p.allocator ≡ pool) items before (Some last) items_are all).1 in
+    let come = comes pool.scene old guest _ home number hint last fields view_is here.seat merged.step in
+    let own = same_seat pool home number hint guest _ last fields view_is pool_is
+    (split.first ∙ ap (λ (m : Me ℕ SeatView). (first_of m.0, [])) (kept ∙ come)) in
+    let same = table ∙ merged.table in
+    let its_table = split.its_table ∙ same ∙ here.table
+    ∙ sym (ap (λ (p : PoolParty). p.allocator.table) view_is ∙ ap (λ b. b.table) pool_is) in
+    let rest = map numbered_of before in
+    record {
+      table = split.table ∙ same;
+      seat = split.rest ∙ ap (λ (m : Me ℕ SeatView). (others_of m.0, m.1)) (kept ∙ come) ∙ sym here.seat;
+      step = subst Step (ap (λ (m : Me ℕ SeatView). rest ++ m.0.parties) come
+          ∙ sym (append_assoc rest (numbered_of last ∷ []) old.0.parties)
+          ∙ ap (λ (all : List NumberedLog). all ++ old.0.parties)
+          (sym (map-append numbered_of before (last ∷ [])) ∙ ap (map numbered_of) (sym items_are))) step;
+      own = own;
+      value = (λ i. party_in (its_table i) number (own i).0) ∙ view_is;
+    }
