@@ -12,9 +12,10 @@ use Rattle.bb_memory_pool_machine.specs.declared.steps.pool.PoolStep.{PoolStep}
 use Rattle.bb_memory_pool_machine.specs.declared.steps.pool.PoolStep.TheVariants.{GiveBack, Try}
 use Rattle.bb_memory_traits.specs.Chunk.{IsRegion}
 use Rattle.scripts.specs.Scripts.{Rules}
-use Rattle.scripts.specs.Words.{IsParty, Words, bounds_numbers, name_line, region_of, words, words_text, words_then}
+use Rattle.scripts.specs.Words.{IsParty, Words, bounds_numbers, name_line, region_of, words, words_then}
 use Rattle.scripts.specs.declared.words.Bounds.{Bounds}
 use Rattle.scripts.specs.declared.words.Numbers.TheVariants.{One, Three, Two, Zero}
+use Rattle.std.specs.Fmt.{decimal}
 use Rattle.std.specs.List.{flat_map}
 use Rattle.std.specs.Prelude.{List, None, Option, Some, [], codes, true, ℕ, ◌++◌, ◌<◌, ◌^◌, ◌≡◌, ◌≤◌}
 
@@ -74,7 +75,7 @@ pool_step_words _ = words [] Zero
 
 -- the number of a bucket's holder, or a dash if no party holds it
 abbrev pub holder_text : Option ℕ → List ℕ
-holder_text (Some party) = words_text (words [] (One party))
+holder_text (Some party) = codes " " ++ decimal party
 holder_text None = codes " -"
 
 -- the line of a pool step's outcome

@@ -5,7 +5,8 @@ use bb_memory_bump_machine::steps::{BumpOutcome, BumpStep, BumpWorld};
 use bb_memory_pool_machine::steps::{PoolOutcome, PoolStep, PoolWorld};
 use scripts::driving::ScriptKind;
 use scripts::words::{
-    Bounds, Numbers, PARTIES, Text, is_word, layout, party_of, region, to_u32, write_words,
+    Bounds, Numbers, PARTIES, Text, is_word, layout, party_of, region, to_u32, write_number,
+    write_words,
 };
 use std::alloc::{AllocError, Global};
 
@@ -166,7 +167,7 @@ impl ScriptKind for PoolSteps {
         line.extend_from_slice(b"held")?;
         for bucket in 0..world.number_of_buckets() {
             match world.holder(bucket) {
-                Some(party) => write_words(b"", Numbers::One(party as usize), b"", line)?,
+                Some(party) => write_number(b" ", party as usize, line)?,
                 None => line.extend_from_slice(b" -")?,
             }
         }

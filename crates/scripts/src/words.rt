@@ -201,7 +201,8 @@ pub fn write_labelled(
     line.extend_from_slice(end)
 }
 
-fn write_number(label: &[u8], value: usize, line: &mut Vec<u8>) -> Result<(), AllocError>
+/// Writes a text, and then a number in decimal.
+pub fn write_number(label: &[u8], value: usize, line: &mut Vec<u8>) -> Result<(), AllocError>
     ensures { OnOk result (line.new.items ≡ line.old.items ++ (label.now ++ decimal value)) }
 {
     line.extend_from_slice(label)?;

@@ -1,11 +1,8 @@
 use Rattle.script_kinds.proofs.Telling.{holders_more}
-use Rattle.script_kinds.proofs.steps.PoolStepsScriptKind.write_state.Goals.{in-None+in_ok-extend_from_slice-in-None as none, in-Some+in_ok-write_words-in-Some as some}
+use Rattle.script_kinds.proofs.steps.PoolStepsScriptKind.write_state.Goals.{in-None+in_ok-extend_from_slice-in-None as none, in-Some+in_ok-write_number-in-Some as some}
 use Rattle.script_kinds.proofs.steps.PoolStepsScriptKind.write_state.Goals as goal
 use Rattle.script_kinds.specs.Steps.{holder_text}
-use Rattle.scripts.specs.Words.{words, words_text}
-use Rattle.scripts.specs.declared.words.Numbers.TheVariants.{One}
-use Rattle.std.proofs.Common.{[], ap, arith, codes, length, ◌++◌, ◌<◌, ◌∙◌, ◌≡◌}
-use Rattle.std.proofs.lemmas.List.{append-nil}
+use Rattle.std.proofs.Common.{ap, arith, codes, length, ◌++◌, ◌<◌, ◌∙◌, ◌≡◌}
 
 pub loop-bucket-preserved : goal.loop-bucket-preserved
 loop-bucket-preserved c =
@@ -16,8 +13,7 @@ loop-bucket-preserved c =
     let more : c.match-holder.line.items ≡ before ++ holder_text c.holder.result =
     elim c.match-holder.branch [
       | some w ↦
-          rw w.in-Some.is (ap (λ l. l.items) w.line-is ∙ (w.in_ok-write_words-in-Some.ensures
-          ∙ ap (λ l. before ++ l) (append-nil (words_text (words [] (One w.in-Some.party))))))
+          rw w.in-Some.is (ap (λ l. l.items) w.line-is ∙ w.in_ok-write_number-in-Some.ensures)
       | none w ↦
           rw w.in-None.is (ap (λ l. l.items) w.line-is ∙ w.in_ok-extend_from_slice-in-None.ensures.items)
     ] in
