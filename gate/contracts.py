@@ -200,7 +200,24 @@ def untrue(index: Index) -> Iterator[str]:
             if not index.is_labelled(name, labels):
                 words = " ".join([name, *labels])
                 yield f"{counts.PAGE}: nothing has this name and these labels: {words}"
+    yield from uncited(index)
     yield from counts.wrong(index.texts)
+
+
+def uncited(index: Index) -> Iterator[str]:
+    """Yields each clause of a theorem that no row of PROMISES.md cites."""
+    cited = {
+        (name, label)
+        for row in rows_of(index.texts[counts.PAGE].partition(counts.HEADING)[0])
+        for name, labels in row.names
+        for label in labels
+    }
+    for call in index.declared:
+        if not call.name.endswith("_theorem"):
+            continue
+        for clause in call.clauses:
+            if (call.name, clause.label) not in cited:
+                yield f"{counts.PAGE}: no row cites {call.name}: {clause.label}"
 
 
 def fix(top: Path) -> list[str]:
