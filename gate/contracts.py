@@ -23,11 +23,12 @@ import argparse
 import re
 import signal
 from collections.abc import Iterable, Iterator, Mapping
+from dataclasses import dataclass
 from pathlib import Path
 
 from gate import counts, public, rattle, users, versions
 from gate.crates import TOP
-from gate.edits import BadEdit, Edit, parse_edit
+from gate.edits import BadEdit, Edit, Promise, parse_edit
 from gate.files import texts_below
 from gate.index import Call, Definition, Index, Type, labels_of
 from gate.process import Failed, say
@@ -61,14 +62,19 @@ def is_same(call: Call, other: Call) -> bool:
     return call.contract == other.contract
 
 
+def breaks(index: Index, promise: Promise, call: Call) -> bool:
+    """Returns whether the promise that an edit breaks is one of this call."""
+    if promise.call.rpartition("::")[2] != call.name:
+        return False
+    return any(is_same(call, other) for other in index.calls(promise.call))
+
+
 def mutants_of(index: Index, call: Call, edits: Iterable[Edit]) -> Iterator[str]:
     """Yields the mutants that break a clause of a call, each with the clause's label."""
     for edit in edits:
-        promise = edit.promise
-        if promise is None or promise.call.rpartition("::")[2] != call.name:
-            continue
-        if any(is_same(call, other) for other in index.calls(promise.call)):
-            yield f"{promise.label}: {edit.path.relative_to('crates')}"
+        for promise in edit.promises:
+            if breaks(index, promise, call):
+                yield f"{promise.label}: {edit.path.relative_to('crates')}"
 
 
 def lines_of_call(index: Index, call: Call, edits: list[Edit]) -> list[str]:
@@ -151,35 +157,67 @@ def labels(index: Index) -> list[str]:
     return sorted(lines)
 
 
-def cells_of_calls(page: str) -> Iterator[str]:
-    """Yields each table cell of PROMISES.md that names what carries a promise."""
+@dataclass(frozen=True)
+class Row:
+    """A row of a table of PROMISES.md: the sentence that begins it, and what carries it.
+
+    `names` has each name with the labels that follow it.
+    """
+
+    title: str
+    names: tuple[tuple[str, list[str]], ...]
+
+
+def names_of(cell: str) -> Iterator[tuple[str, list[str]]]:
+    """Yields each name in a cell with the labels that follow it."""
+    for names, labels in NAMES_OF_A_CELL.findall(cell):
+        for name in re.findall(r"[\w:]+", names):
+            yield name, re.findall(r"`(\w+)`", labels)
+
+
+def rows_of(page: str) -> Iterator[Row]:
+    """Yields each table row of PROMISES.md that names what carries a promise."""
     columns: list[int] = []
     for line in page.split("\n"):
         if not line.startswith("|"):
             columns = []
             continue
         cells = [cell.strip() for cell in line.strip("|").split("|")]
-        if columns:
-            yield from (cells[column] for column in columns if column < len(cells))
-        else:
+        if not columns:
             columns = [number for number, cell in enumerate(cells) if CALLS.match(cell)]
-
-
-def names_of(page: str) -> Iterator[tuple[str, list[str]]]:
-    """Yields each name in the tables of PROMISES.md with the labels that follow it."""
-    for cell in cells_of_calls(page):
-        for names, labels in NAMES_OF_A_CELL.findall(cell):
-            for name in re.findall(r"[\w:]+", names):
-                yield name, re.findall(r"\w+", labels)
+            continue
+        names = [
+            name for column in columns if column < len(cells) for name in names_of(cells[column])
+        ]
+        if names:
+            yield Row(rattle.first_sentence(cells[0]), tuple(names))
 
 
 def untrue(index: Index) -> Iterator[str]:
     """Yields everything in PROMISES.md that is wrong: names, labels, and numbers of lines."""
-    for name, labels in names_of(index.texts[counts.PAGE].partition(counts.HEADING)[0]):
-        if not index.is_labelled(name, labels):
-            words = " ".join([name, *labels])
-            yield f"{counts.PAGE}: nothing has this name and these labels: {words}"
+    for row in rows_of(index.texts[counts.PAGE].partition(counts.HEADING)[0]):
+        for name, labels in row.names:
+            if not index.is_labelled(name, labels):
+                words = " ".join([name, *labels])
+                yield f"{counts.PAGE}: nothing has this name and these labels: {words}"
+    yield from uncited(index)
     yield from counts.wrong(index.texts)
+
+
+def uncited(index: Index) -> Iterator[str]:
+    """Yields each clause of a theorem that no row of PROMISES.md cites."""
+    cited = {
+        (name, label)
+        for row in rows_of(index.texts[counts.PAGE].partition(counts.HEADING)[0])
+        for name, labels in row.names
+        for label in labels
+    }
+    for call in index.declared:
+        if not call.name.endswith("_theorem"):
+            continue
+        for clause in call.clauses:
+            if (call.name, clause.label) not in cited:
+                yield f"{counts.PAGE}: no row cites {call.name}: {clause.label}"
 
 
 def fix(top: Path) -> list[str]:

@@ -8,9 +8,10 @@ An edit begins with lines of its own; the others have the form of `rt must-fail`
     old: Ok(geometry.chunk(i, layout.size()))
     new: Ok(geometry.chunk(i - i, layout.size()))
 
-The second line has a call, as users write it, and the label of the clause that the body breaks. An
-edit in `refused-by-text` has no such line. Each text is one line, and the file has the old text
-exactly once. Further pairs apply to the result of the earlier ones.
+The second line has a call, as users write it, and the label of the clause that the body breaks. If
+the function serves several calls, the edit has such a line for each of them. An edit in
+`refused-by-text` has no such line. Each text is one line, and the file has the old text exactly
+once. Further pairs apply to the result of the earlier ones.
 """
 
 import re
@@ -46,11 +47,11 @@ class Change:
 
 @dataclass(frozen=True)
 class Edit:
-    """A wrong body: the function that it changes, the promise that it breaks, and its changes."""
+    """A wrong body: the function that it changes, the promises that it breaks, and its changes."""
 
     path: Path
     function: str
-    promise: Promise | None
+    promises: tuple[Promise, ...]
     changes: tuple[Change, ...]
 
 
@@ -62,7 +63,7 @@ def read_edit(path: Path) -> Edit:
 def parse_edit(path: Path, text: str) -> Edit:
     """Reads the edit in the text of the file at `path`. Raises BadEdit if the form is wrong."""
     function = None
-    promise = None
+    promises = []
     file = None
     old = None
     changes = []
@@ -74,7 +75,7 @@ def parse_edit(path: Path, text: str) -> Edit:
         if word == "# function":
             function = value
         elif word == "# promise":
-            promise = parse_promise(value, number)
+            promises.append(parse_promise(value, number))
         elif word == "file":
             file = value
         elif word == "old":
@@ -90,7 +91,7 @@ def parse_edit(path: Path, text: str) -> Edit:
         raise BadEdit("a line `# function: PATH` is missing")
     if old is not None or not changes:
         raise BadEdit("lines `file:`, `old:` and `new:` are missing")
-    return Edit(path, function, promise, tuple(changes))
+    return Edit(path, function, tuple(promises), tuple(changes))
 
 
 def parse_promise(value: str, number: int) -> Promise:

@@ -8,6 +8,7 @@ It checks that
 - each example of README.md and GUIDE.md is in that script, or in a file that is proved or tested,
 - what pages and comments name or link to exists,
 - the calls and labels of clauses that PROMISES.md and the edits name exist,
+- each function of C, and each row of PROMISES.md with its calls, has a mutant (`gate/promised.py`),
 - the numbers that pages repeat are right,
 - pages, and comments that users read, have none of the words in `gate/wording.py`,
 - each definition and each lemma has a use (`gate/unused.py`),
@@ -21,7 +22,18 @@ from dataclasses import dataclass
 from fnmatch import filter as matching
 from pathlib import Path
 
-from gate import contracts, links, places, process, public, readings, unused, versions, wording
+from gate import (
+    contracts,
+    links,
+    places,
+    process,
+    promised,
+    public,
+    readings,
+    unused,
+    versions,
+    wording,
+)
 from gate.crates import TOP, Workspace
 from gate.edits import BadEdit, parse_edit
 from gate.files import TreeChanged, texts_below
@@ -184,21 +196,22 @@ def lost_edits(tree: Tree) -> Iterator[str]:
 
 
 def wrong_promises(tree: Tree) -> Iterator[str]:
-    """Yields each edit without a `# promise:`, or whose `# promise:` names no clause of a call."""
+    """Yields each edit without a `# promise:`, and each `# promise:` that names no clause of a call."""
     for path, text in sorted(tree.texts.items()):
         if contracts.EDIT_PATH.fullmatch(path) is None:
             continue
         try:
-            promise = parse_edit(Path(path), text).promise
+            promises = parse_edit(Path(path), text).promises
         except BadEdit as error:
             yield f"{path}: {error}"
             continue
-        if promise is None:
+        if not promises:
             yield f"{path}: has no line `# promise: CALL: LABEL`"
-        elif not tree.index.calls(promise.call):
-            yield f"{path}: no call is named {promise.call}"
-        elif not tree.index.has_promise(promise.call, promise.label):
-            yield f"{path}: {promise.call} has no clause {promise.label}"
+        for promise in promises:
+            if not tree.index.calls(promise.call):
+                yield f"{path}: no call is named {promise.call}"
+            elif not tree.index.has_promise(promise.call, promise.label):
+                yield f"{path}: {promise.call} has no clause {promise.label}"
 
 
 def long_subject(top: Path) -> Iterator[str]:
@@ -223,6 +236,7 @@ def findings(tree: Tree) -> Iterator[str]:
     yield from versions.wrong(tree.texts)
     yield from lost_edits(tree)
     yield from wrong_promises(tree)
+    yield from promised.wrong(tree.index)
     yield from unnamed_crates(tree)
     yield from wrong_first_words(tree)
     yield from wording.wrong(tree.texts)

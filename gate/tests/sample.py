@@ -98,6 +98,14 @@ old:         0
 new:         1
 """
 
+OTHER_EDIT = """\
+# function: pools::Buckets::allocate
+# promise: Pool::allocate: answer
+file: src/pools.rt
+old:         size
+new:         size - size
+"""
+
 HEADER = """\
 #define BB_VERSION "1.2.3"
 #define BB_VERSION_MAJOR 1
@@ -127,6 +135,7 @@ TEXTS = {
     "crates/high/src/lib.rt": "pub mod pools;\n",
     "crates/high/src/pools.rt": POOLS,
     "crates/high/must-fail/counts_one.edit": EDIT,
+    "crates/high/must-fail/gives_nothing.edit": OTHER_EDIT,
     "crates/bb_memory_c/bb_memory.h": HEADER,
     "bindings/rust/Cargo.toml": '[package]\nname = "bb_memory"\nversion = "1.2.3"\n',
     "bindings/rust/Cargo.lock": '[[package]]\nname = "bb_memory"\nversion = "1.2.3"\n',

@@ -15,8 +15,14 @@ class EditTest(unittest.TestCase):
     def test_form(self) -> None:
         edit = parse_edit(PATH, EDIT)
         self.assertEqual(edit.function, "a::f")
-        self.assertEqual(edit.promise, Promise("Pool::f", "answer"))
+        self.assertEqual(edit.promises, (Promise("Pool::f", "answer"),))
         self.assertEqual(edit.changes, (Change("src/a.rt", "    x + 1", "    x"),))
+
+    def test_edit_of_several_promises(self) -> None:
+        edit = parse_edit(PATH, "# promise: Bump::f: answer\n" + EDIT)
+        self.assertEqual(
+            edit.promises, (Promise("Bump::f", "answer"), Promise("Pool::f", "answer"))
+        )
 
     def test_changes_apply_one_after_the_other(self) -> None:
         edit = parse_edit(PATH, EDIT + "old:     x\nnew:\n")

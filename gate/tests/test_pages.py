@@ -80,6 +80,13 @@ class Faults(unittest.TestCase):
             "PROMISES.md: nothing has this name and these labels: Poo::count value", found
         )
 
+    def test_clause_of_a_theorem_that_no_row_cites(self) -> None:
+        theorem = "pub fn pool_theorem()\n    ensures run { 0 ≡ 0 }\n{\n}\n"
+        pools = {"crates/high/src/pools.rt": f"{TEXTS['crates/high/src/pools.rt']}\n{theorem}"}
+        self.finds(pools, "PROMISES.md: no row cites pool_theorem: run")
+        row = "; `pool_theorem`: `run` | none |"
+        self.assertEqual(found_in({**pools, **changed("PROMISES.md", " | none |", row)}), [])
+
     def test_name(self) -> None:
         self.finds(changed("README.md", "`Pool::count`", "`Pool::size_of`"), "Pool::size_of")
 
