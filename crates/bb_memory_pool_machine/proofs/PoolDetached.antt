@@ -176,7 +176,8 @@ undetached_at_miss state step move party bucket from (misses_from other at sende
     )
 undetached_at_miss state step move party bucket from _ same is = absurd (cc)
 
--- a bucket that a party misses when it tries to attach the bucket from a sender isn't detached by this sender
+-- a bucket that a party misses when it tries to attach the bucket from a sender isn't detached by
+-- this sender
 pub missed_from_sender : (scene : PoolScene) (steps : List PoolStep) (party bucket from k : ℕ) →
     MissesFromAt (history_of scene steps) party bucket from k →
     (bucket < scene.geometry.buckets) × (¬ IsFlag (left_by scene (take k steps)) bucket (DetachedBy from))
@@ -193,7 +194,8 @@ detached_at_token : (state : PoolState) (step : PoolStep) (move : PoolMove) (par
 detached_at_token state step move party bucket from (finds_token other at sender idle detached) same is = grind arith
 detached_at_token state step move party bucket from _ same is = absurd (cc)
 
--- a bucket whose token a party finds is then detached by the sender that the party named, as that sender's log shows
+-- a bucket whose token a party finds is then detached by the sender that the party named, as that
+-- sender's log shows
 pub token_from_sender : (scene : PoolScene) (steps : List PoolStep) (party bucket from k : ℕ) →
     FindsTokenAt (history_of scene steps) party bucket from k →
     IsFlag (left_by scene (take k steps)) bucket (DetachedBy from) × WasDetached (log_of scene (take k steps) from) bucket

@@ -232,11 +232,13 @@ pub record FoundHeld (scene : PoolScene) (steps : List PoolStep) (party last buc
 abbrev pub AttachesFromAt : PoolLog → ℕ → ℕ → ℕ → ℕ → Type 0
 AttachesFromAt history party bucket from k = slice_get history k ≡ Some (entry_of (AttachFrom party bucket from) (Attaches bucket))
 
--- in entry k of the history the party misses the bucket that it tries to attach from the party `from`
+-- in entry k of the history the party misses the bucket that it tries to attach from the party
+-- `from`
 abbrev pub MissesFromAt : PoolLog → ℕ → ℕ → ℕ → ℕ → Type 0
 MissesFromAt history party bucket from k = slice_get history k ≡ Some (entry_of (AttachFrom party bucket from) (Misses bucket))
 
--- in entry k of the history the party finds a token of the bucket that the party `from` has detached
+-- in entry k of the history the party finds a token of the bucket that the party `from` has
+-- detached
 abbrev pub FindsTokenAt : PoolLog → ℕ → ℕ → ℕ → ℕ → Type 0
 FindsTokenAt history party bucket from k = slice_get history k ≡ Some (entry_of (FindToken party bucket from) (Misses bucket))
 
