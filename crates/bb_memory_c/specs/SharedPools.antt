@@ -10,7 +10,7 @@ use Rattle.bb_memory_index_set.specs.IndexSets.{Has}
 use Rattle.bb_memory_pool_machine.specs.PoolLogs.{MayBeFound}
 use Rattle.bb_memory_pool_machine.specs.declared.steps.pool.Flag.{Flag}
 use Rattle.bb_memory_shared_pools.specs.SharedPool.{AreFresh, PoolParty, SharedPool, TakenBucket, attach_entry, chunk_of, detach_entry, return_detached_entry, taken_bucket, with_entries}
-use Rattle.bb_memory_shared_pools.specs.SharedPoolCaching.{AttachesCaching, CachingParty, IsOut, ReturnsCaching, ServesCaching}
+use Rattle.bb_memory_shared_pools.specs.SharedPoolCaching.{AttachesCaching, CachingParty, IsOut, MissesCaching, ReturnsCaching, ServesCaching}
 use Rattle.bb_memory_shared_pools.specs.SharedPoolCaching as caching
 use Rattle.bb_memory_shared_pools.specs.SharedPoolLeaving.{GivesAllBack}
 use Rattle.bb_memory_shared_pools.specs.SharedPoolMeetings.{MetDetached, MetUndetached}
@@ -288,14 +288,14 @@ pub record TellsDetachNumber (party : CachingParty) (place : ℕ) (told : Figure
   pub unchanged : told.code ≢ ok → after ≡ party
 
 -- A party is to attach the bucket of this number, if `from` has detached it by number. C gets the
--- bucket's place if the party's exchange won. If it lost, or no bucket has this number, nothing
--- changes.
+-- bucket's place if the party's exchange won. If it lost, the party's log has the miss. If no bucket
+-- has this number, nothing changes.
 pub record TellsAttachNumber (party : CachingParty) (number from : ℕ) (told : Answer) (after : CachingParty) : Type 0 where
-  pub past : (geometry_of party).buckets ≤ number → told ≡ refused not_a_bucket
-  pub lost : number < (geometry_of party).buckets → told.code ≢ ok → told ≡ refused not_held
+  pub past : (geometry_of party).buckets ≤ number → (told ≡ refused not_a_bucket) × (after ≡ party)
+  pub lost : number < (geometry_of party).buckets → told.code ≢ ok
+      → (told ≡ refused not_held) × MissesCaching party number from after
   pub attached : told.code ≡ ok → (number < (geometry_of party).buckets) × AttachesCaching party number from after
       × (told ≡ answer_of (Ok (chunk_of (taken_bucket party.party.allocator number (geometry_of party).bucket.size))))
-  pub unchanged : told.code ≢ ok → after ≡ party
 
 -- ATTACHING
 

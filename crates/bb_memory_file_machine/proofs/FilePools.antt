@@ -11,7 +11,8 @@ use Rattle.bb_memory_lists.proofs.SliceGets.{length-set_at, slice_get-replicate,
 use Rattle.bb_memory_pool_machine.proofs.PoolRuns.{taken_is_held}
 use Rattle.bb_memory_pool_machine.proofs.PoolSteps.{test_same}
 use Rattle.bb_memory_pool_machine.specs.PoolLogs.{AllAllowed, IsAllowed, IsPoolRun, Layout, PoolEntry, entry_of, pool_history}
-use Rattle.bb_memory_pool_machine.specs.PoolMachine.{PoolMove, PoolState, attach_from, attach_from_flag, attaching, detach_flag, detaching, give_flag, passed, pool_after, pool_step, return_of, try_at, try_one}
+use Rattle.bb_memory_pool_machine.specs.PoolMachine.{PoolMove, PoolState, attach_from, attach_from_flag, attaching, detach_flag, detaching, give_flag, move_of, passed, pool_after, pool_step, return_of, try_at, try_one}
+use Rattle.bb_memory_pool_machine.specs.declared.steps.pool.PoolOutcome.TheVariants.{Misses}
 use Rattle.bb_memory_traits.specs.Chunk.{Chunk}
 use Rattle.bb_memory_traits.specs.PoolObject.{IsHeld, IsPoolGeometry, PoolGeometry}
 use Rattle.std.proofs.Common.{Bool, List, None, Option, Some, [], ap, arith, length, refl, replicate, subst, suc, sym, zero, ℕ, ◌+◌, ◌<◌, ◌↔◌, ◌∷◌, ◌≡◌}
@@ -85,7 +86,8 @@ module _ (parties : ℕ) (flags : List Flag) (party bucket : ℕ) (below : party
       let later : List Flag = slice_set flags bucket (HeldBy party) in
       subst (λ (found : Option (Option ℕ)). Leaves parties later (attach_from state party bucket from found)) (sym idle)
       (subst (λ (found : Option Flag). Leaves parties later (attach_from_flag state party bucket from found)) (sym is)
-      (subst (λ (same : Bool). Leaves parties later (if same then attaching state party bucket else passed state))
+      (subst (λ (same : Bool).
+      Leaves parties later (if same then attaching state party bucket else move_of (Misses bucket) state))
       (sym (test_same from from refl)) (tt, refl)))
 
 -- the shared pool allows these steps, which lead from these flags to those

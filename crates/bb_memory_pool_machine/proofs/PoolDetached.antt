@@ -2,12 +2,13 @@
 use Rattle.bb_memory_lists.proofs.ListEntries.{any_contained, contains-behind, contains-filter, contains-first, contains-none}
 use Rattle.bb_memory_lists.proofs.SliceGets.{slice_get-replicated, slice_get-set_apart, slice_get-set_at}
 use Rattle.bb_memory_pool_machine.proofs.PoolPasses.{entry_step}
-use Rattle.bb_memory_pool_machine.proofs.PoolSteps.{StepKind, attaches, attaches_from, calls-step, detaches, gives, gives_detached, kind_of, takes, takes_at, test_same}
-use Rattle.bb_memory_pool_machine.specs.PoolLogs.{AttachesFromAt, PoolEntry, PoolLog, WasAttachedFrom, WasDetached, entries_by, entry_of, history_of, is_by, log_of, pool_history}
-use Rattle.bb_memory_pool_machine.specs.PoolMachine.{AttachFrom, Attaches, Detach, DetachedBy, Detaches, Flag, Free, HeldBy, IsDetached, IsFlag, IsHolder, IsTaken, PoolMove, PoolScene, PoolState, PoolStep, left_by, opening_state, pool_after, pool_step}
-use Rattle.std.proofs.Common.{List, None, Option, Some, [], ap, arith, inl, inr, length, refl, suc, sym, zero, ℕ, ◌<◌, ◌∙◌, ◌∷◌, ◌≡◌, ◌≤◌}
+use Rattle.bb_memory_pool_machine.proofs.PoolSteps.{StepKind, attaches, attaches_from, calls-step, detaches, finds_token, gives, gives_detached, kind_of, length-left_by, misses_from, takes, takes_at, test_same}
+use Rattle.bb_memory_pool_machine.specs.PoolLogs.{AttachesFromAt, FindsTokenAt, MissesFromAt, PoolEntry, PoolLog, WasAttachedFrom, WasDetached, entries_by, entry_of, history_of, is_by, log_of, pool_history}
+use Rattle.bb_memory_pool_machine.specs.PoolMachine.{AttachFrom, Attaches, Detach, DetachedBy, Detaches, FindToken, Flag, Free, HeldBy, IsDetached, IsFlag, IsHolder, IsTaken, Misses, PoolMove, PoolScene, PoolState, PoolStep, left_by, opening_state, pool_after, pool_step}
+use Rattle.std.proofs.Common.{List, None, Option, Some, [], ap, arith, inl, inr, length, refl, subst, suc, sym, zero, ℕ, ◌<◌, ◌∙◌, ◌∷◌, ◌≡◌, ◌≤◌}
 use Rattle.std.proofs.lemmas.Bool.{cases_eq}
 use Rattle.std.proofs.lemmas.List.{length-replicate}
+use Rattle.std.proofs.lemmas.Option.{same_Some, slice_get_within}
 use Rattle.std.specs.Prelude.{Bool, Contains, false, if◌then◌else◌, slice_get, slice_set, take, true, ◌⊎◌}
 
 -- at the opening no flag is taken
@@ -161,6 +162,52 @@ attached_from_sender scene steps party bucket from k attached =
     (entry_step (opening_state scene) steps k step (Attaches bucket) attached) in
     (flag, was_detached_by scene (take k steps) bucket from flag)
 
+-- MISSED FROM A PARTY
+
+undetached_at_miss : (state : PoolState) (step : PoolStep) (move : PoolMove) (party bucket from : ℕ) → StepKind state step move →
+    step ≡ AttachFrom party bucket from → move.outcome ≡ Misses bucket →
+    (bucket < length state.flags) × (¬ IsFlag state bucket (DetachedBy from))
+undetached_at_miss state step move party bucket from (misses_from other at sender flag idle found apart) same is =
+    let its : at ≡ bucket = cc in
+    let whose : sender ≡ from = cc in
+    let there = subst (λ (b : ℕ). IsFlag state b flag) its found in (
+      slice_get_within state.flags bucket flag there,
+      λ sent. apart (same_Some flag (DetachedBy from) (sym there ∙ sent) ∙ ap DetachedBy (sym whose)),
+    )
+undetached_at_miss state step move party bucket from _ same is = absurd (cc)
+
+-- a bucket that a party misses when it tries to attach the bucket from a sender isn't detached by
+-- this sender
+pub missed_from_sender : (scene : PoolScene) (steps : List PoolStep) (party bucket from k : ℕ) →
+    MissesFromAt (history_of scene steps) party bucket from k →
+    (bucket < scene.geometry.buckets) × (¬ IsFlag (left_by scene (take k steps)) bucket (DetachedBy from))
+missed_from_sender scene steps party bucket from k missed =
+    let there : PoolState = left_by scene (take k steps) in
+    let step : PoolStep = AttachFrom party bucket from in
+    let found = undetached_at_miss there step (pool_step there step) party bucket from (kind_of there step) refl
+    (entry_step (opening_state scene) steps k step (Misses bucket) missed) in
+    let within = found.0 in
+    (omega (arith, within, length-left_by scene (take k steps)), found.1)
+
+detached_at_token : (state : PoolState) (step : PoolStep) (move : PoolMove) (party bucket from : ℕ) → StepKind state step move →
+    step ≡ FindToken party bucket from → move.outcome ≡ Misses bucket → IsFlag state bucket (DetachedBy from)
+detached_at_token state step move party bucket from (finds_token other at sender idle detached) same is = grind arith
+detached_at_token state step move party bucket from _ same is = absurd (cc)
+
+-- a bucket whose token a party finds is then detached by the sender that the party named, as that
+-- sender's log shows
+pub token_from_sender : (scene : PoolScene) (steps : List PoolStep) (party bucket from k : ℕ) →
+    FindsTokenAt (history_of scene steps) party bucket from k →
+    IsFlag (left_by scene (take k steps)) bucket (DetachedBy from) × WasDetached (log_of scene (take k steps) from) bucket
+token_from_sender scene steps party bucket from k found =
+    let there : PoolState = left_by scene (take k steps) in
+    let step : PoolStep = FindToken party bucket from in
+    let flag = detached_at_token there step (pool_step there step) party bucket from (kind_of there step) refl
+    (entry_step (opening_state scene) steps k step (Misses bucket) found) in
+    (flag, was_detached_by scene (take k steps) bucket from flag)
+
+-- WHOSE LOG HAS A STEP
+
 -- each entry of a party's log is in the history
 kept_there : (own : Bool) (first entry : PoolEntry) (kept rest : PoolLog) → (Contains kept entry → Contains rest entry) →
     Contains (if own then first ∷ kept else kept) entry → Contains (first ∷ rest) entry
@@ -169,7 +216,7 @@ kept_there true first entry kept rest there (zero, below, same) = contains-first
 kept_there true first entry kept rest there (suc k, below, same) =
     contains-behind first entry rest (there (k, omega (arith, below), same))
 
-in_history : (party : ℕ) (history : PoolLog) (entry : PoolEntry) → Contains (entries_by party history) entry →
+pub in_history : (party : ℕ) (history : PoolLog) (entry : PoolEntry) → Contains (entries_by party history) entry →
     Contains history entry
 in_history party [] entry has = absurd (contains-none entry has)
 in_history party (first ∷ rest) entry has =

@@ -1,17 +1,18 @@
 -- Consequences of a pool's flags and logs agreeing.
+use Rattle.bb_memory_lists.proofs.ListEntries.{contains-behind, contains-first, contains-none}
 use Rattle.bb_memory_pool_machine.proofs.PoolDetached.{none_detached_alone, none_detached_at_opening, none_held_at_opening, none_taken_at_opening}
 use Rattle.bb_memory_pool_machine.proofs.PoolFlags.{names_made}
 use Rattle.bb_memory_pool_machine.proofs.PoolHolders.{holder_in_log, is_holder, nobody_holds, step_holds}
-use Rattle.bb_memory_pool_machine.proofs.PoolSteps.{StepKind, attaches, attaches_from, calls-step, detaches, gives, gives_detached, is_refused, kind_of, length-left_by, loses, misses, passes, takes, takes_at, test_apart}
-use Rattle.bb_memory_pool_machine.specs.PoolLogs.{AllAllowed, CommonInterleaving, HasLog, Interleaving, IsAllowed, IsDetachedIn, IsHeldAfter, LogsAgree, MayBeFound, PoolEntry, PoolLog, entries_by, entry_of, held_after, history_of, is_by, is_taken, log_of, pool_history}
-use Rattle.bb_memory_pool_machine.specs.PoolMachine.{DetachedBy, Flag, Free, HeldBy, IsDetached, IsHolder, IsTaken, PoolMove, PoolScene, PoolState, PoolStep, Takes, Try, TryAt, left_by, opening_state, pool_step}
-use Rattle.std.proofs.Common.{Bool, List, None, Option, Some, [], ap, arith, false, inl, inr, length, refl, subst, sym, true, ℕ, ◌<◌, ◌∙◌, ◌∷◌, ◌≡◌, ◌≤◌}
+use Rattle.bb_memory_pool_machine.proofs.PoolSteps.{StepKind, attaches, attaches_from, calls-step, detaches, finds_token, gives, gives_detached, is_refused, kind_of, length-left_by, loses, misses, misses_from, passes, takes, takes_at, test_apart}
+use Rattle.bb_memory_pool_machine.specs.PoolLogs.{AllAllowed, CommonInterleaving, HasLog, Interleaving, IsAllowed, IsDetachedIn, IsHeldAfter, IsLostAttach, LogsAgree, MayBeFound, PoolEntry, PoolLog, entries_by, entry_of, held_after, history_of, is_by, is_taken, log_of, pool_history}
+use Rattle.bb_memory_pool_machine.specs.PoolMachine.{DetachedBy, Flag, Free, HeldBy, IsDetached, IsHolder, IsTaken, PoolMove, PoolOutcome, PoolScene, PoolState, PoolStep, Takes, left_by, opening_state, pool_step}
+use Rattle.std.proofs.Common.{Bool, List, None, Option, Some, [], ap, arith, false, inl, inr, length, refl, subst, suc, sym, true, zero, ℕ, ◌<◌, ◌∙◌, ◌∷◌, ◌≡◌, ◌≤◌}
 use Rattle.std.proofs.lemmas.Bool.{cases_lt}
 use Rattle.std.proofs.lemmas.List.{length-replicate}
 use Rattle.std.proofs.lemmas.List.Elements.{recursion_from_All}
 use Rattle.std.proofs.lemmas.Option.{same_Some, slice_get_within}
 use Rattle.std.specs.List.{AllByRecursion}
-use Rattle.std.specs.Prelude.{if◌then◌else◌, slice_get, ◌==◌, ◌⊎◌}
+use Rattle.std.specs.Prelude.{Contains, if◌then◌else◌, slice_get, ◌==◌, ◌⊎◌}
 
 -- WHO TAKES STEPS
 
@@ -38,6 +39,8 @@ module _ (state : PoolState) (party : ℕ) (absent : IsAbsent state party) where
   another_steps step move (misses other bucket idle taken) allowed = there other None idle
   another_steps step move (attaches other bucket idle detached) allowed = there other None idle
   another_steps step move (attaches_from other bucket from idle detached) allowed = there other None idle
+  another_steps step move (misses_from other bucket from flag idle at apart) allowed = there other None idle
+  another_steps step move (finds_token other bucket from idle detached) allowed = there other None idle
   another_steps step move (gives_detached other bucket idle detached) allowed = there other None idle
   another_steps step move (gives other bucket held) allowed = holds other bucket held
   another_steps step move (detaches other bucket held others) allowed = holds other bucket held
@@ -70,13 +73,16 @@ nobody_else scene steps party past allowed =
     let each = recursion_from_All (λ (e : PoolEntry). IsAllowed e.outcome) (history_of scene steps) allowed in
     absent_steps (opening_state scene) steps party absent each
 
--- THE FIRST STEP
+-- THE FIRST TAKING
 
+-- an allowed first step takes a bucket, or is a lost attach, which changes nothing
 first_kind : (scene : PoolScene) (step : PoolStep) (move : PoolMove) → StepKind (opening_state scene) step move →
     IsAllowed move.outcome →
-    (party : ℕ) × (bucket : ℕ) × ((step ≡ Try party) ⊎ (step ≡ TryAt party bucket)) × (move.outcome ≡ Takes bucket)
-first_kind scene step move (takes party bucket next free) allowed = (party, bucket, inl refl, refl)
-first_kind scene step move (takes_at party bucket idle free) allowed = (party, bucket, inr refl, refl)
+    ((bucket : ℕ) × (move.outcome ≡ Takes bucket))
+    ⊎ (IsLostAttach (entry_of step move.outcome) × (move.state ≡ opening_state scene))
+first_kind scene step move (takes party bucket next free) allowed = inl (bucket, refl)
+first_kind scene step move (takes_at party bucket idle free) allowed = inl (bucket, refl)
+first_kind scene step move (misses_from party bucket from flag idle at apart) allowed = inr ((party, bucket, from, refl), refl)
 first_kind scene step move (misses party bucket idle taken) allowed = absurd (none_taken_at_opening scene bucket taken)
 first_kind scene step move (loses party bucket next taken more) allowed = absurd (none_taken_at_opening scene bucket taken)
 first_kind scene step move (is_refused party bucket next taken last) allowed = absurd (none_taken_at_opening scene bucket taken)
@@ -85,17 +91,66 @@ first_kind scene step move (detaches party bucket taken others) allowed = absurd
 first_kind scene step move (attaches party bucket idle detached) allowed = absurd (none_detached_at_opening scene bucket detached)
 first_kind scene step move (attaches_from party bucket from idle detached) allowed =
     absurd (none_detached_at_opening scene bucket (from, detached))
+first_kind scene step move (finds_token party bucket from idle detached) allowed =
+    absurd (none_detached_at_opening scene bucket (from, detached))
 first_kind scene step move (gives_detached party bucket idle detached) allowed =
     absurd (none_detached_at_opening scene bucket detached)
 first_kind scene step move (passes other) allowed = absurd allowed
 
--- if all steps are allowed, the first takes a bucket
-pub first_takes : (scene : PoolScene) (step : PoolStep) (steps : List PoolStep) → AllAllowed (history_of scene (step ∷ steps)) →
-    (party : ℕ) × (bucket : ℕ) × ((step ≡ Try party) ⊎ (step ≡ TryAt party bucket))
-    × ((pool_step (opening_state scene) step).outcome ≡ Takes bucket)
-first_takes scene step steps allowed =
-    let each = recursion_from_All (λ (e : PoolEntry). IsAllowed e.outcome) (history_of scene (step ∷ steps)) allowed in
-    first_kind scene step (pool_step (opening_state scene) step) (kind_of (opening_state scene) step) each.0
+-- some entry of the history takes a bucket
+pub record HasTaking (history : PoolLog) : Type 0 where
+  pub step : PoolStep
+  pub bucket : ℕ
+  pub there : Contains history (entry_of step (Takes bucket))
+
+first_or_behind : (first entry : PoolEntry) (rest : PoolLog) → Contains (first ∷ rest) entry →
+    (first ≡ entry) ⊎ Contains rest entry
+first_or_behind first entry rest (zero, below, same) = inl same
+first_or_behind first entry rest (suc k, below, same) = inr (k, omega (arith, below), same)
+
+taking_first : (step : PoolStep) (outcome : PoolOutcome) (rest : PoolLog) (bucket : ℕ) → outcome ≡ Takes bucket →
+    HasTaking (entry_of step outcome ∷ rest)
+taking_first step outcome rest bucket took = record {
+  step = step;
+  bucket = bucket;
+  there = contains-first (entry_of step outcome) (entry_of step (Takes bucket)) rest (ap (entry_of step) took);
+}
+
+taking_behind : (first : PoolEntry) (rest : PoolLog) → HasTaking rest → HasTaking (first ∷ rest)
+taking_behind first rest has = record {
+  step = has.step;
+  bucket = has.bucket;
+  there = contains-behind first (entry_of has.step (Takes has.bucket)) rest has.there;
+}
+
+some_taking : (scene : PoolScene) (steps : List PoolStep) (entry : PoolEntry) →
+    AllByRecursion (λ (e : PoolEntry). IsAllowed e.outcome) (history_of scene steps) → Contains (history_of scene steps) entry →
+    ¬ IsLostAttach entry → HasTaking (history_of scene steps)
+some_taking scene [] entry allowed has stepped = absurd (contains-none entry has)
+some_taking scene (step ∷ steps) entry (here, rest) has stepped =
+    let opening : PoolState = opening_state scene in
+    let move : PoolMove = pool_step opening step in
+    let first : PoolEntry = entry_of step move.outcome in
+    let later : PoolLog = pool_history move.state steps in
+    elim (first_kind scene step move (kind_of opening step) here) [
+      | inl took ↦ taking_first step move.outcome later took.0 took.1
+      | inr lost ↦
+          let same : later ≡ history_of scene steps = ap (λ (s : PoolState). pool_history s steps) lost.1 in
+          let allowed = subst (AllByRecursion (λ (e : PoolEntry). IsAllowed e.outcome)) same rest in
+          elim (first_or_behind first entry later has) [
+            | inl is ↦ absurd (stepped (subst IsLostAttach is lost.0))
+            | inr behind ↦
+                taking_behind first later (subst HasTaking (sym same)
+                (some_taking scene steps entry allowed (subst (λ (l : PoolLog). Contains l entry) same behind) stepped))
+          ]
+    ]
+
+-- if all steps are allowed, and some step isn't a lost attach, some step takes a bucket
+pub some_step_takes : (scene : PoolScene) (steps : List PoolStep) (entry : PoolEntry) → AllAllowed (history_of scene steps) →
+    Contains (history_of scene steps) entry → ¬ IsLostAttach entry → HasTaking (history_of scene steps)
+some_step_takes scene steps entry allowed has stepped =
+    some_taking scene steps entry
+    (recursion_from_All (λ (e : PoolEntry). IsAllowed e.outcome) (history_of scene steps) allowed) has stepped
 
 -- WHAT FLAGS AND LOGS SAY ABOUT EACH OTHER
 

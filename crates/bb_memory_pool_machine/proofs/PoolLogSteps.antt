@@ -1,10 +1,10 @@
 -- Each step that a party's log allows leaves flags and logs that agree.
 use Rattle.bb_memory_pool_machine.proofs.PoolLogEntries.{agree_on, log_pass}
 use Rattle.bb_memory_pool_machine.proofs.PoolLogFacts.{machine_flag, named_from_log}
-use Rattle.bb_memory_pool_machine.proofs.PoolSteps.{calls-left_by, length-left_by, test_same}
+use Rattle.bb_memory_pool_machine.proofs.PoolSteps.{calls-left_by, length-left_by, test_apart, test_same}
 use Rattle.bb_memory_pool_machine.specs.PoolLogs.{HasLog, IsAllowed, IsDetachedIn, IsHeldAfter, LogsAgree, PoolEntry, PoolLog, entry_of, is_taken, loss_at, next_bucket, pass_in, with_entry}
-use Rattle.bb_memory_pool_machine.specs.PoolMachine.{Attach, AttachFrom, Attaches, Detach, DetachedBy, Detaches, Flag, Free, GiveBack, GiveBackDetached, Gives, HeldBy, Loses, Misses, PoolScene, PoolState, RefusedAtLoss, Takes, Try, TryAt, attach, attach_flag, attach_from, attach_from_flag, attaching, detach, detach_flag, detaching, give_detached, give_detached_flag, give_flag, left_by, loss, move_of, passed, pool_step, return_of, taking, try_at, try_flag, try_next, try_one, with_pass}
-use Rattle.std.proofs.Common.{Bool, List, None, Option, Some, ap, arith, false, length, refl, replicate, subst, sym, true, ℕ, ◌+◌, ◌<◌, ◌∙◌, ◌≡◌}
+use Rattle.bb_memory_pool_machine.specs.PoolMachine.{Attach, AttachFrom, Attaches, Detach, DetachedBy, Detaches, FindToken, Flag, Free, GiveBack, GiveBackDetached, Gives, HeldBy, Loses, Misses, PoolScene, PoolState, RefusedAtLoss, Takes, Try, TryAt, attach, attach_flag, attach_from, attach_from_flag, attaching, detach, detach_flag, detaching, find_token, find_token_flag, give_detached, give_detached_flag, give_flag, left_by, loss, move_of, passed, pool_step, return_of, taking, try_at, try_flag, try_next, try_one, with_pass}
+use Rattle.std.proofs.Common.{Bool, List, None, Option, Some, ap, arith, false, length, refl, replicate, subst, sym, true, ℕ, ◌+◌, ◌<◌, ◌∙◌, ◌≡◌, ◌≢◌}
 use Rattle.std.proofs.lemmas.Bool.{lt-ltb}
 use Rattle.std.proofs.lemmas.List.Elements.{All-nil}
 use Rattle.std.proofs.lemmas.Option.{get_or_from_slice_get, slice_get_within}
@@ -107,11 +107,40 @@ module _ (scene : PoolScene) (flags : List Flag) (logs : List PoolLog) (party : 
       LogsAgree scene (slice_set flags bucket (HeldBy party))
       (with_entry logs party log (entry_of (AttachFrom party bucket from) (Attaches bucket)))
   attach_from_agrees from idle detached =
-      let same = ap (λ (b : Bool). if b then attaching state party bucket else passed state) (test_same from from refl) in
+      let same = ap (λ (b : Bool). if b then attaching state party bucket else move_of (Misses bucket) state)
+      (test_same from from refl) in
       agree_on scene flags logs party log agree at (AttachFrom party bucket from) (λ other. refl) (attaching state party bucket)
       (ap (attach_from state party bucket from) (pass_there None idle)
       ∙ ap (attach_from_flag state party bucket from) (there (DetachedBy from) detached) ∙ same)
       tt (slice_set flags bucket (HeldBy party)) (becomes (HeldBy party))
+
+  missed_from : (from : ℕ) (flag : Flag) → flag ≢ DetachedBy from →
+      attach_from_flag state party bucket from (Some flag) ≡ move_of (Misses bucket) state
+  missed_from from Free apart = refl
+  missed_from from (HeldBy holder) apart = refl
+  missed_from from (DetachedBy sender) apart =
+      ap (λ (b : Bool). if b then attaching state party bucket else move_of (Misses bucket) state)
+      (test_apart sender from (λ same. apart (ap DetachedBy same)))
+
+  -- a miss of a bucket that the party hasn't detached
+  pub miss_from_agrees : (from : ℕ) → pass_in log ≡ None → (flag : Flag) → flag ≢ DetachedBy from →
+      slice_get flags bucket ≡ Some flag →
+      LogsAgree scene flags (with_entry logs party log (entry_of (AttachFrom party bucket from) (Misses bucket)))
+  miss_from_agrees from idle flag apart is =
+      agree_on scene flags logs party log agree at (AttachFrom party bucket from) (λ other. refl) (move_of (Misses bucket) state)
+      (ap (attach_from state party bucket from) (pass_there None idle)
+      ∙ ap (attach_from_flag state party bucket from) (there flag is) ∙ missed_from from flag apart)
+      tt flags agree.leaves
+
+  -- a token of a bucket that the party has detached
+  pub find_token_agrees : (from : ℕ) → pass_in log ≡ None → slice_get flags bucket ≡ Some (DetachedBy from) →
+      LogsAgree scene flags (with_entry logs party log (entry_of (FindToken party bucket from) (Misses bucket)))
+  find_token_agrees from idle detached =
+      let same = ap (λ (b : Bool). if b then move_of (Misses bucket) state else passed state) (test_same from from refl) in
+      agree_on scene flags logs party log agree at (FindToken party bucket from) (λ other. refl) (move_of (Misses bucket) state)
+      (ap (find_token state bucket from) (pass_there None idle)
+      ∙ ap (find_token_flag state bucket from) (there (DetachedBy from) detached) ∙ same)
+      tt flags agree.leaves
 
   pub give_detached_agrees : pass_in log ≡ None → IsDetachedIn flags bucket →
       LogsAgree scene (slice_set flags bucket Free)

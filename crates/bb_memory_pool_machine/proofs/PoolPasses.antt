@@ -187,11 +187,11 @@ refused_found_held scene steps party last bucket is refused below =
 -- MISSES
 
 -- a bucket that is missed is taken
-taken_at_miss : (state : PoolState) (step : PoolStep) (move : PoolMove) (bucket : ℕ) → StepKind state step move →
-    move.outcome ≡ Misses bucket → IsTaken state bucket
-taken_at_miss state step move bucket (misses other at idle taken) is =
-    let same : at ≡ bucket = cc in subst (IsTaken state) same taken
-taken_at_miss state step move bucket _ is = absurd (cc)
+taken_at_miss : (state : PoolState) (step : PoolStep) (move : PoolMove) (party bucket : ℕ) → StepKind state step move →
+    step ≡ TryAt party bucket → move.outcome ≡ Misses bucket → IsTaken state bucket
+taken_at_miss state step move party bucket (misses other at idle taken) same is =
+    let its : at ≡ bucket = cc in subst (IsTaken state) its taken
+taken_at_miss state step move party bucket _ same is = absurd (cc)
 
 -- at a miss the bucket is held in the run
 pub missed_is_held : (scene : PoolScene) (steps : List PoolStep) (party bucket k : ℕ) → IsPoolGeometry scene.geometry →
@@ -200,7 +200,7 @@ pub missed_is_held : (scene : PoolScene) (steps : List PoolStep) (party bucket k
 missed_is_held scene steps party bucket k is missed =
     let there : PoolState = left_by scene (take k steps) in
     let step : PoolStep = TryAt party bucket in
-    let taken = taken_at_miss there step (pool_step there step) bucket (kind_of there step)
+    let taken = taken_at_miss there step (pool_step there step) party bucket (kind_of there step) refl
     (entry_step (opening_state scene) steps k step (Misses bucket) missed) in
     let within = taken_within there bucket taken in
     let below : bucket < scene.geometry.buckets = omega (arith, within, length-left_by scene (take k steps)) in

@@ -1,7 +1,7 @@
 -- Steps of the pool machine, by their kinds.
-use Rattle.bb_memory_pool_machine.specs.PoolMachine.{Attach, AttachFrom, Detach, DetachedBy, Flag, Free, GiveBack, GiveBackDetached, HeldBy, IsDetached, IsFlag, IsHolder, IsTaken, Loses, Misses, PoolMove, PoolScene, PoolState, PoolStep, RefusedAtLoss, Try, TryAt, attach, attach_flag, attach_from, attach_from_flag, attaching, detach_flag, detaching, give_detached, give_detached_flag, give_flag, left_by, move_of, opening_state, passed, pool_after, pool_step, return_of, taking, try_at, try_flag, try_next, try_one, with_pass}
-use Rattle.std.proofs.Common.{Bool, List, None, Option, Some, [], ap, false, inl, inr, length, refl, true, ℕ, ◌+◌, ◌<◌, ◌∙◌, ◌∷◌, ◌≡◌, ◌≢◌, ◌≤◌}
-use Rattle.std.proofs.lemmas.Bool.{eq-eqb, eqb-true, ltb-false, ltb-true, ne_eqb}
+use Rattle.bb_memory_pool_machine.specs.PoolMachine.{Attach, AttachFrom, Detach, DetachedBy, FindToken, Flag, Free, GiveBack, GiveBackDetached, HeldBy, IsDetached, IsFlag, IsHolder, IsTaken, Loses, Misses, PoolMove, PoolScene, PoolState, PoolStep, RefusedAtLoss, Try, TryAt, attach, attach_flag, attach_from, attach_from_flag, attaching, detach_flag, detaching, find_token, find_token_flag, give_detached, give_detached_flag, give_flag, left_by, move_of, opening_state, passed, pool_after, pool_step, return_of, taking, try_at, try_flag, try_next, try_one, with_pass}
+use Rattle.std.proofs.Common.{Bool, List, None, Option, Some, [], ap, false, inl, inr, length, refl, sym, true, ℕ, ◌+◌, ◌<◌, ◌∙◌, ◌∷◌, ◌≡◌, ◌≢◌, ◌≤◌}
+use Rattle.std.proofs.lemmas.Bool.{eq-eqb, eqb-true, false≢true, ltb-false, ltb-true, ne_eqb}
 use Rattle.std.proofs.lemmas.List.{length-replicate, length-set}
 use Rattle.std.specs.Prelude.{if◌then◌else◌, nat_lt, slice_get, unwrap_or, ◌==◌}
 
@@ -38,6 +38,10 @@ pub data StepKind (state : PoolState) : PoolStep → PoolMove → Type 0 where
       StepKind state (Attach party bucket) (attaching state party bucket)
   attaches_from : (party bucket from : ℕ) → IsIdle state party → IsFlag state bucket (DetachedBy from) →
       StepKind state (AttachFrom party bucket from) (attaching state party bucket)
+  misses_from : (party bucket from : ℕ) (flag : Flag) → IsIdle state party → IsFlag state bucket flag → flag ≢ DetachedBy from →
+      StepKind state (AttachFrom party bucket from) (move_of (Misses bucket) state)
+  finds_token : (party bucket from : ℕ) → IsIdle state party → IsFlag state bucket (DetachedBy from) →
+      StepKind state (FindToken party bucket from) (move_of (Misses bucket) state)
   gives_detached : (party bucket : ℕ) → IsIdle state party → IsDetached state bucket →
       StepKind state (GiveBackDetached party bucket) (return_of state bucket)
   passes : (step : PoolStep) → StepKind state step (passed state)
@@ -118,23 +122,50 @@ module _ (state : PoolState) (party bucket : ℕ) where
   kind_of_attach (Some None) is = kind_of_attach_flag (slice_get state.flags bucket) is refl
   kind_of_attach _ is = passes (Attach party bucket)
 
+  sent_flag : (sender from : ℕ) → (sender == from) ≡ true → IsFlag state bucket (DetachedBy sender) →
+      IsFlag state bucket (DetachedBy from)
+  sent_flag sender from test is = is ∙ ap (λ (s : ℕ). Some (DetachedBy s)) (eqb-true sender from test)
+
+  by_another : (sender from : ℕ) → (sender == from) ≡ false → DetachedBy sender ≢ DetachedBy from
+  by_another sender from test same = let is : sender ≡ from = cc in false≢true (sym test ∙ test_same sender from is)
+
   kind_of_attach_from_of : (sender from : ℕ) (same : Bool) → (sender == from) ≡ same → IsIdle state party →
       IsFlag state bucket (DetachedBy sender) → StepKind state (AttachFrom party bucket from)
-      (if same then attaching state party bucket else passed state)
-  kind_of_attach_from_of sender from true test idle is =
-      attaches_from party bucket from idle (is ∙ ap (λ (s : ℕ). Some (DetachedBy s)) (eqb-true sender from test))
-  kind_of_attach_from_of sender from false test idle is = passes (AttachFrom party bucket from)
+      (if same then attaching state party bucket else move_of (Misses bucket) state)
+  kind_of_attach_from_of sender from true test idle is = attaches_from party bucket from idle (sent_flag sender from test is)
+  kind_of_attach_from_of sender from false test idle is =
+      misses_from party bucket from (DetachedBy sender) idle is (by_another sender from test)
 
   kind_of_attach_from_flag : (from : ℕ) (found : Option Flag) → IsIdle state party → slice_get state.flags bucket ≡ found →
       StepKind state (AttachFrom party bucket from) (attach_from_flag state party bucket from found)
   kind_of_attach_from_flag from (Some (DetachedBy sender)) idle is =
       kind_of_attach_from_of sender from (sender == from) refl idle is
-  kind_of_attach_from_flag from _ idle is = passes (AttachFrom party bucket from)
+  kind_of_attach_from_flag from (Some Free) idle is = misses_from party bucket from Free idle is (λ same. absurd (cc))
+  kind_of_attach_from_flag from (Some (HeldBy holder)) idle is =
+      misses_from party bucket from (HeldBy holder) idle is (λ same. absurd (cc))
+  kind_of_attach_from_flag from None idle is = passes (AttachFrom party bucket from)
 
   kind_of_attach_from : (from : ℕ) (found : Option (Option ℕ)) → slice_get state.calls party ≡ found →
       StepKind state (AttachFrom party bucket from) (attach_from state party bucket from found)
   kind_of_attach_from from (Some None) is = kind_of_attach_from_flag from (slice_get state.flags bucket) is refl
   kind_of_attach_from from _ is = passes (AttachFrom party bucket from)
+
+  kind_of_find_token_of : (sender from : ℕ) (same : Bool) → (sender == from) ≡ same → IsIdle state party →
+      IsFlag state bucket (DetachedBy sender) → StepKind state (FindToken party bucket from)
+      (if same then move_of (Misses bucket) state else passed state)
+  kind_of_find_token_of sender from true test idle is = finds_token party bucket from idle (sent_flag sender from test is)
+  kind_of_find_token_of sender from false test idle is = passes (FindToken party bucket from)
+
+  kind_of_find_token_flag : (from : ℕ) (found : Option Flag) → IsIdle state party → slice_get state.flags bucket ≡ found →
+      StepKind state (FindToken party bucket from) (find_token_flag state bucket from found)
+  kind_of_find_token_flag from (Some (DetachedBy sender)) idle is =
+      kind_of_find_token_of sender from (sender == from) refl idle is
+  kind_of_find_token_flag from _ idle is = passes (FindToken party bucket from)
+
+  kind_of_find_token : (from : ℕ) (found : Option (Option ℕ)) → slice_get state.calls party ≡ found →
+      StepKind state (FindToken party bucket from) (find_token state bucket from found)
+  kind_of_find_token from (Some None) is = kind_of_find_token_flag from (slice_get state.flags bucket) is refl
+  kind_of_find_token from _ is = passes (FindToken party bucket from)
 
   kind_of_give_detached_flag : (found : Option Flag) → IsIdle state party → slice_get state.flags bucket ≡ found →
       StepKind state (GiveBackDetached party bucket) (give_detached_flag state bucket found)
@@ -161,6 +192,7 @@ kind_of state (TryAt party bucket) = kind_of_try_at state party bucket (slice_ge
 kind_of state (Detach party bucket) = kind_of_detach state party bucket (slice_get state.flags bucket) refl
 kind_of state (Attach party bucket) = kind_of_attach state party bucket (slice_get state.calls party) refl
 kind_of state (AttachFrom party bucket from) = kind_of_attach_from state party bucket from (slice_get state.calls party) refl
+kind_of state (FindToken party bucket from) = kind_of_find_token state party bucket from (slice_get state.calls party) refl
 kind_of state (GiveBackDetached party bucket) = kind_of_give_detached state party bucket (slice_get state.calls party) refl
 
 -- HOW MANY FLAGS THERE ARE

@@ -1,6 +1,6 @@
 -- The pool machine's histories, its parties' logs, and the calls of the pool object that its steps
 -- make.
-use Rattle.bb_memory_pool_machine.specs.PoolMachine.{Attach, AttachFrom, Attaches, Detach, DetachedBy, Detaches, Flag, Free, GiveBack, GiveBackDetached, Gives, IsFlag, IsInCall, Loses, Misses, NamesMade, Passed, PoolOutcome, PoolScene, PoolState, PoolStep, RefusedAtLoss, Takes, Try, TryAt, left_by, opening_state, pool_step}
+use Rattle.bb_memory_pool_machine.specs.PoolMachine.{Attach, AttachFrom, Attaches, Detach, DetachedBy, Detaches, FindToken, Flag, Free, GiveBack, GiveBackDetached, Gives, IsFlag, IsInCall, Loses, Misses, NamesMade, Passed, PoolOutcome, PoolScene, PoolState, PoolStep, RefusedAtLoss, Takes, Try, TryAt, left_by, opening_state, pool_step}
 use Rattle.bb_memory_traits.specs.Chunk.{Chunk}
 use Rattle.bb_memory_traits.specs.Object.{Allocates, IsRun, Releases}
 use Rattle.bb_memory_traits.specs.PoolObject.{IsAt, IsHeld, IsWithin, PoolGeometry, bucket_place, chunk_in, pool_object}
@@ -45,6 +45,7 @@ party_of (TryAt party bucket) = party
 party_of (Detach party bucket) = party
 party_of (Attach party bucket) = party
 party_of (AttachFrom party bucket from) = party
+party_of (FindToken party bucket from) = party
 party_of (GiveBackDetached party bucket) = party
 
 -- the step is one of this party's
@@ -231,6 +232,16 @@ pub record FoundHeld (scene : PoolScene) (steps : List PoolStep) (party last buc
 abbrev pub AttachesFromAt : PoolLog → ℕ → ℕ → ℕ → ℕ → Type 0
 AttachesFromAt history party bucket from k = slice_get history k ≡ Some (entry_of (AttachFrom party bucket from) (Attaches bucket))
 
+-- in entry k of the history the party misses the bucket that it tries to attach from the party
+-- `from`
+abbrev pub MissesFromAt : PoolLog → ℕ → ℕ → ℕ → ℕ → Type 0
+MissesFromAt history party bucket from k = slice_get history k ≡ Some (entry_of (AttachFrom party bucket from) (Misses bucket))
+
+-- in entry k of the history the party finds a token of the bucket that the party `from` has
+-- detached
+abbrev pub FindsTokenAt : PoolLog → ℕ → ℕ → ℕ → ℕ → Type 0
+FindsTokenAt history party bucket from k = slice_get history k ≡ Some (entry_of (FindToken party bucket from) (Misses bucket))
+
 -- a party with this log has attached the bucket from the party `from` at some time
 abbrev pub WasAttachedFrom : PoolLog → ℕ → ℕ → Type 0
 WasAttachedFrom log bucket from = (party : ℕ) × Contains log (entry_of (AttachFrom party bucket from) (Attaches bucket))
@@ -238,3 +249,12 @@ WasAttachedFrom log bucket from = (party : ℕ) × Contains log (entry_of (Attac
 -- entry k of the history is a miss of this bucket by the party
 abbrev pub MissesAt : PoolLog → ℕ → ℕ → ℕ → Type 0
 MissesAt history party bucket k = slice_get history k ≡ Some (entry_of (TryAt party bucket) (Misses bucket))
+
+-- The entry is a lost attach: a miss of a bucket that the party tried to attach from a sender. Even
+-- the first step of all may be one.
+abbrev pub IsLostAttach : PoolEntry → Type 0
+IsLostAttach entry = (party : ℕ) × (bucket : ℕ) × (from : ℕ) × (entry ≡ entry_of (AttachFrom party bucket from) (Misses bucket))
+
+-- a party with this log has made a step that isn't a lost attach
+abbrev pub HasStepped : PoolLog → Type 0
+HasStepped log = Any (λ entry. ¬ IsLostAttach entry) log

@@ -5,7 +5,7 @@ pub use Rattle.bb_memory_pool_machine.specs.declared.steps.pool.Flag.TheVariants
 pub use Rattle.bb_memory_pool_machine.specs.declared.steps.pool.PoolOutcome.{PoolOutcome}
 pub use Rattle.bb_memory_pool_machine.specs.declared.steps.pool.PoolOutcome.TheVariants.{Attaches, Detaches, Gives, Loses, Misses, Passed, RefusedAtLoss, Takes}
 pub use Rattle.bb_memory_pool_machine.specs.declared.steps.pool.PoolStep.{PoolStep}
-pub use Rattle.bb_memory_pool_machine.specs.declared.steps.pool.PoolStep.TheVariants.{Attach, AttachFrom, Detach, GiveBack, GiveBackDetached, Try, TryAt}
+pub use Rattle.bb_memory_pool_machine.specs.declared.steps.pool.PoolStep.TheVariants.{Attach, AttachFrom, Detach, FindToken, GiveBack, GiveBackDetached, Try, TryAt}
 use Rattle.bb_memory_traits.specs.PoolObject.{PoolGeometry}
 use Rattle.std.specs.Prelude.{List, None, Option, Some, [], if◌then◌else◌, length, nat_lt, replicate, slice_get, slice_set, unwrap_or, ℕ, ◌+◌, ◌<◌, ◌==◌, ◌∷◌, ◌≡◌, ◌⊎◌}
 
@@ -160,17 +160,30 @@ abbrev pub attach : PoolState → ℕ → ℕ → Option (Option ℕ) → PoolMo
 attach state party bucket (Some None) = attach_flag state party bucket (slice_get state.flags bucket)
 attach state party bucket _ = passed state
 
--- a party attaches a bucket whose flag is `found`, which it may if the party `from` has detached
--- the bucket
+-- a party tries to attach a bucket whose flag is `found`: if the party `from` hasn't detached the
+-- bucket, the party misses the bucket, and nothing changes
 abbrev pub attach_from_flag : PoolState → ℕ → ℕ → ℕ → Option Flag → PoolMove
 attach_from_flag state party bucket from (Some (DetachedBy sender)) =
-    if sender == from then attaching state party bucket else passed state
-attach_from_flag state party bucket from _ = passed state
+    if sender == from then attaching state party bucket else move_of (Misses bucket) state
+attach_from_flag state party bucket from (Some _) = move_of (Misses bucket) state
+attach_from_flag state party bucket from None = passed state
 
--- a party attaches a bucket from the party `from`, which it may if it is idle
+-- a party tries to attach a bucket from the party `from`, which it may if it is idle
 abbrev pub attach_from : PoolState → ℕ → ℕ → ℕ → Option (Option ℕ) → PoolMove
 attach_from state party bucket from (Some None) = attach_from_flag state party bucket from (slice_get state.flags bucket)
 attach_from state party bucket from _ = passed state
+
+-- a party finds a token of a bucket whose flag is `found`, which it may if the party `from` has
+-- detached the bucket: the party misses the bucket, and nothing changes
+abbrev pub find_token_flag : PoolState → ℕ → ℕ → Option Flag → PoolMove
+find_token_flag state bucket from (Some (DetachedBy sender)) =
+    if sender == from then move_of (Misses bucket) state else passed state
+find_token_flag state bucket from _ = passed state
+
+-- a party finds a token of a bucket that the party `from` has detached, which it may if it is idle
+abbrev pub find_token : PoolState → ℕ → ℕ → Option (Option ℕ) → PoolMove
+find_token state bucket from (Some None) = find_token_flag state bucket from (slice_get state.flags bucket)
+find_token state bucket from _ = passed state
 
 -- a party gives back a bucket whose flag is `found`, which it may if the bucket is detached
 abbrev pub give_detached_flag : PoolState → ℕ → Option Flag → PoolMove
@@ -190,6 +203,7 @@ pool_step state (TryAt party bucket) = try_at state party bucket (slice_get stat
 pool_step state (Detach party bucket) = detach_flag state party bucket (slice_get state.flags bucket)
 pool_step state (Attach party bucket) = attach state party bucket (slice_get state.calls party)
 pool_step state (AttachFrom party bucket from) = attach_from state party bucket from (slice_get state.calls party)
+pool_step state (FindToken party bucket from) = find_token state bucket from (slice_get state.calls party)
 pool_step state (GiveBackDetached party bucket) = give_detached state bucket (slice_get state.calls party)
 
 -- the state after these steps

@@ -1,25 +1,25 @@
 -- Detaching a bucket without a token, and attaching it by its number, keep words and logs in agreement.
 use Rattle.atomic_table.specs.Table.{Allows, Me, keeps, step}
-use Rattle.bb_memory_pool_machine.proofs.PoolLogFacts.{detached_not_held, interleaved_log}
-use Rattle.bb_memory_pool_machine.proofs.PoolLogSteps.{attach_from_agrees, detach_agrees}
-use Rattle.bb_memory_pool_machine.specs.PoolLogs.{IsHeldAfter, PoolEntry, PoolLog, entry_of, pass_in, with_entry}
+use Rattle.bb_memory_pool_machine.proofs.PoolLogFacts.{detached_not_held}
+use Rattle.bb_memory_pool_machine.proofs.PoolLogSteps.{attach_from_agrees, detach_agrees, find_token_agrees, miss_from_agrees}
+use Rattle.bb_memory_pool_machine.specs.PoolLogs.{HasLog, IsHeldAfter, LogsAgree, PoolEntry, PoolLog, entry_of, pass_after, pass_in, with_entry}
 use Rattle.bb_memory_pool_machine.specs.PoolMachine.{PoolScene}
 use Rattle.bb_memory_pool_machine.specs.declared.steps.pool.Flag.{Flag}
-use Rattle.bb_memory_pool_machine.specs.declared.steps.pool.Flag.TheVariants.{DetachedBy, HeldBy}
-use Rattle.bb_memory_pool_machine.specs.declared.steps.pool.PoolOutcome.TheVariants.{Attaches, Detaches}
-use Rattle.bb_memory_pool_machine.specs.declared.steps.pool.PoolStep.TheVariants.{AttachFrom, Detach}
+use Rattle.bb_memory_pool_machine.specs.declared.steps.pool.Flag.TheVariants.{DetachedBy, Free, HeldBy}
+use Rattle.bb_memory_pool_machine.specs.declared.steps.pool.PoolOutcome.TheVariants.{Attaches, Detaches, Misses}
+use Rattle.bb_memory_pool_machine.specs.declared.steps.pool.PoolStep.TheVariants.{AttachFrom, Detach, FindToken}
 use Rattle.bb_memory_seats.specs.Seats.{alone, number_of, view_log}
-use Rattle.bb_memory_shared_pools.proofs.FlagWords.{changed, flag_named, flag_there, found_in, marked, no_token, same_word}
+use Rattle.bb_memory_shared_pools.proofs.FlagWords.{changed, flag_named, flag_there, made_again, marked, no_token, same_word}
 use Rattle.bb_memory_shared_pools.proofs.SharedPoolDetached.{still_detached}
 use Rattle.bb_memory_shared_pools.proofs.SharedPoolDetaching.{held_no_token, stores_as}
 use Rattle.bb_memory_shared_pools.proofs.SharedPoolFlagSteps.{AllowedAt, entered, steps_as, told}
-use Rattle.bb_memory_shared_pools.proofs.SharedPoolMeetings.{unchanged}
 use Rattle.bb_memory_shared_pools.proofs.SharedPoolTries.{idle_after_one}
-use Rattle.bb_memory_shared_pools.specs.FlagWords.{as_word, bucket_of, flags_in, sender_in, word_of}
+use Rattle.bb_memory_shared_pools.specs.FlagWords.{as_word, bucket_of, flag_in, flags_in, sender_in, word_of}
+use Rattle.bb_memory_shared_pools.specs.SharedPool.{IsMissFrom}
 use Rattle.bb_memory_shared_pools.specs.SharedPoolRule.{AfterDetachSplit, AfterNumber, SeatView, WordsAndLogsAgree, attaches_number, detaches_number, effect_of}
 use Rattle.std.proofs.Common.{List, None, Some, [], ap, arith, eq-eqb, eqb, inl, inr, ne_eqb, refl, set, subst, sym, ℕ, ◌++◌, ◌<◌, ◌∙◌, ◌∷◌, ◌≡◌, ◌≢◌}
 use Rattle.std.proofs.lemmas.Bool.{cases_eq}
-use Rattle.std.specs.Prelude.{slice_get, slice_set}
+use Rattle.std.specs.Prelude.{slice_get, slice_set, ◌⊎◌}
 use mathlib.Core.Option.{none}
 use prog.Atomic.{either}
 
@@ -104,31 +104,60 @@ module _ (scene : PoolScene) (slots seat word party bucket from : ℕ) (log : Po
           ),
         )
 
-    loses : (mark : Flag) → as_word mark ≢ sent → AllowedAt (AfterNumber from) scene seat party bucket log (swapped sent own) mark
-    loses mark apart state rule at named =
-        let view : SeatView = alone scene party log in
-        let mine = rule.seated.known seat view at in
-        let found = found_in state.words rule.marks bucket mark rule.words named in
+    -- a miss, with the step that the machine allows at this mark
+    misses_with : (mark : Flag) (entry : PoolEntry) → as_word mark ≢ sent → pass_after None entry.outcome ≡ None →
+        IsMissFrom party bucket from (entry ∷ []) →
+        ((flags : List Flag) (logs : List PoolLog) → LogsAgree scene flags logs → party < scene.parties → HasLog logs party log →
+        slice_get flags bucket ≡ Some (flag_in mark) → LogsAgree scene flags (with_entry logs party log entry)) →
+        AllowedAt (AfterNumber from) scene seat party bucket log (swapped sent own) mark
+    misses_with mark entry apart still miss agrees state rule at named =
+        let mine = rule.seated.known seat (alone scene party log) at in
+        let flags : List Flag = flags_in rule.marks in
+        let agree = agrees flags rule.logs rule.agree mine.0 mine.1 (flag_there rule.marks bucket mark named) in
         let lost = ap (λ b. either b own (as_word mark)) (ne_eqb (as_word mark) sent apart) in (
-          view,
+          alone scene party (log ++ entry ∷ []),
           keeps,
           tt,
-          subst (λ (n : ℕ). WordsAndLogsAgree scene record {
-            words = set state.words (word_of bucket) n;
-            homes = state.homes;
-            views = set state.views seat view;
-          }) (found ∙ sym lost) (unchanged scene state seat (word_of bucket) view at rule),
+          entered scene state rule seat party log entry (set state.words (word_of bucket) (swapped sent own (as_word mark)))
+              rule.marks at agree
+              (ap (λ (w : ℕ). set state.words (word_of bucket) w) lost
+              ∙ made_again state.words rule.marks bucket mark rule.words named)
+              (λ b token. token),
           (
             λ same. absurd (apart same),
             λ _. record {
-              seat = record {
-                is = refl;
-                interleaved = interleaved_log scene (flags_in rule.marks) rule.logs party log rule.agree mine.1;
+              step = entry ∷ [];
+              miss = miss;
+              ended = record {
+                seat = told scene flags rule.logs party log entry mine.1 agree;
+                idle = idle_after_one log entry idle still;
               };
-              idle = idle;
             },
           ),
         )
+
+    -- the flag may be that of a bucket that `from` has detached: then the mark has a token
+    loses_at : (mark flag : Flag) → flag_in mark ≡ flag → as_word mark ≢ sent → (flag ≡ DetachedBy from) ⊎ (flag ≢ DetachedBy from) →
+        AllowedAt (AfterNumber from) scene seat party bucket log (swapped sent own) mark
+    loses_at mark flag is apart (inl same) =
+        misses_with mark (entry_of (FindToken party bucket from) (Misses bucket)) apart refl (inr refl)
+        (λ flags logs agree made at there.
+        find_token_agrees scene flags logs party log bucket agree made at from idle (there ∙ ap Some (is ∙ same)))
+    loses_at mark flag is apart (inr another) =
+        misses_with mark (entry_of (AttachFrom party bucket from) (Misses bucket)) apart refl (inl refl)
+        (λ flags logs agree made at there.
+        miss_from_agrees scene flags logs party log bucket agree made at from idle flag another (there ∙ ap Some is))
+
+    sent_or_not : (flag : Flag) → (flag ≡ DetachedBy from) ⊎ (flag ≢ DetachedBy from)
+    sent_or_not Free = inr (λ same. absurd (cc))
+    sent_or_not (HeldBy holder) = inr (λ same. absurd (cc))
+    sent_or_not (DetachedBy sender) = elim (cases_eq sender from) [
+      | inl same ↦ inl (ap DetachedBy same)
+      | inr apart ↦ inr (λ same. let is : sender ≡ from = cc in apart is)
+    ]
+
+    loses : (mark : Flag) → as_word mark ≢ sent → AllowedAt (AfterNumber from) scene seat party bucket log (swapped sent own) mark
+    loses mark apart = loses_at mark (flag_in mark) refl apart (sent_or_not (flag_in mark))
 
     either_mark : (mark : Flag) → AllowedAt (AfterNumber from) scene seat party bucket log (swapped sent own) mark
     either_mark mark = elim (cases_eq (as_word mark) sent) [

@@ -1,16 +1,16 @@
 -- All parties of a pool, when they have met.
 use Rattle.bb_memory_lists.proofs.ListEntries.{any_contained, contains-first, contains_at, stands_in_log}
-use Rattle.bb_memory_pool_machine.proofs.PoolDetached.{sender_detached, was_detached_before}
+use Rattle.bb_memory_pool_machine.proofs.PoolDetached.{in_history, sender_detached, was_detached_before}
 use Rattle.bb_memory_pool_machine.proofs.PoolFlags.{flag_from_taken, taken_from_flag}
 use Rattle.bb_memory_pool_machine.proofs.PoolHolders.{detached_unheld}
-use Rattle.bb_memory_pool_machine.proofs.PoolLogFacts.{first_takes, logs_apart, nobody_else}
+use Rattle.bb_memory_pool_machine.proofs.PoolLogFacts.{logs_apart, nobody_else, some_step_takes}
 use Rattle.bb_memory_pool_machine.proofs.PoolRuns.{taken_is_held}
 use Rattle.bb_memory_pool_machine.proofs.PoolSteps.{test_same}
-use Rattle.bb_memory_pool_machine.specs.PoolLogs.{AllAllowed, HasLog, IsHeldAfter, IsPoolRun, PoolEntry, PoolLog, WasAttachedFrom, WasDetached, entry_of, history_of, is_by, is_taken, log_of, loss_at, party_of, pool_history}
-use Rattle.bb_memory_pool_machine.specs.PoolMachine.{IsDetached, PoolScene, left_by, opening_state, pool_step}
+use Rattle.bb_memory_pool_machine.specs.PoolLogs.{HasLog, HasStepped, IsHeldAfter, IsPoolRun, PoolEntry, PoolLog, WasAttachedFrom, WasDetached, entry_of, history_of, is_by, is_taken, log_of, loss_at, party_of}
+use Rattle.bb_memory_pool_machine.specs.PoolMachine.{IsDetached, PoolScene, left_by}
 use Rattle.bb_memory_pool_machine.specs.declared.steps.pool.Flag.{Flag}
 use Rattle.bb_memory_pool_machine.specs.declared.steps.pool.PoolOutcome.{PoolOutcome}
-use Rattle.bb_memory_pool_machine.specs.declared.steps.pool.PoolOutcome.TheVariants.{Detaches, Loses, RefusedAtLoss}
+use Rattle.bb_memory_pool_machine.specs.declared.steps.pool.PoolOutcome.TheVariants.{Detaches, Loses, RefusedAtLoss, Takes}
 use Rattle.bb_memory_pool_machine.specs.declared.steps.pool.PoolStep.{PoolStep}
 use Rattle.bb_memory_pool_machine.specs.declared.steps.pool.PoolStep.TheVariants.{Try}
 use Rattle.bb_memory_shared_pools.specs.SharedPool.{IsSharedScene, PoolParty, losses, refused_pass}
@@ -134,50 +134,28 @@ took_by_entry scene parties met entry takes one =
       took = any_contained (λ (other : PoolEntry). IsTaking other.outcome) one.1.log entry one.4 takes;
     }
 
--- a log in an empty list of steps is empty
-no_steps : (scene : PoolScene) (parties : List PoolParty) (met : HaveMet scene parties) (one : PoolParty) →
-    met.1.agree.steps ≡ [] → Contains parties one → one.log ≡ []
-no_steps scene parties met one is there =
-    let logged = All-contains (λ (party : PoolParty). log_of scene met.1.agree.steps party.number ≡ party.log) parties one
-    (met_logged scene parties met) there in
-    sym logged ∙ ap (λ (s : List PoolStep). log_of scene s one.number) is
-
--- the first of the steps took a bucket
-first_took : (scene : PoolScene) (parties : List PoolParty) (met : HaveMet scene parties) (step : PoolStep)
-    (steps : List PoolStep) → met.1.agree.steps ≡ step ∷ steps → length parties ≡ scene.parties →
-    HasTaker scene parties
-first_took scene parties met step steps is all =
-    let history_is = ap (history_of scene) is in
-    let allowed = subst AllAllowed history_is met.1.agree.allowed in
-    let first = first_takes scene step steps allowed in
-    let outcome = (pool_step (opening_state scene) step).outcome in
-    let entry = entry_of step outcome in
-    let rest = pool_history (pool_step (opening_state scene) step).state steps in
-    let there = subst (λ (l : PoolLog). Contains l entry) (sym history_is) (contains-first entry entry rest refl) in
-    took_by_entry scene parties met entry (subst IsTaking (sym first.3) tt) (owned scene parties met step outcome all there)
-
-took_by_steps : (scene : PoolScene) (parties : List PoolParty) (met : HaveMet scene parties) (one : PoolParty)
-    (steps : List PoolStep) → met.1.agree.steps ≡ steps → length parties ≡ scene.parties → Contains parties one →
-    one.log ≢ [] → HasTaker scene parties
-took_by_steps scene parties met one [] is all there made = absurd (made (no_steps scene parties met one is there))
-took_by_steps scene parties met one (step ∷ steps) is all there made = first_took scene parties met step steps is all
-
--- if one has made a step, one has taken a bucket
+-- if one has made a step that isn't a lost attach, one has taken a bucket
 pub one_took : (scene : PoolScene) (parties : List PoolParty) (one : PoolParty) → HaveMet scene parties →
-    length parties ≡ scene.parties → Contains parties one → one.log ≢ [] → HasTaker scene parties
-one_took scene parties one met all there made = took_by_steps scene parties met one met.1.agree.steps refl all there made
+    length parties ≡ scene.parties → Contains parties one → HasStepped one.log → HasTaker scene parties
+one_took scene parties one met all there (place, entry, within, same, stepped) =
+    let steps = met.1.agree.steps in
+    let logged = subst (λ (l : PoolLog). Contains l entry) (sym (log_there scene parties met one there)) (place, within, same) in
+    let takes = some_step_takes scene steps entry met.1.agree.allowed
+    (in_history one.number (history_of scene steps) entry logged) stepped in
+    took_by_entry scene parties met (entry_of takes.step (Takes takes.bucket)) tt
+    (owned scene parties met takes.step (Takes takes.bucket) all takes.there)
 
 some_party : (parties : List PoolParty) → 1 ≤ length parties → (party : PoolParty) × Contains parties party
 some_party [] some = absurd (omega arith)
 some_party (party ∷ parties) some = (party, contains-first party party parties refl)
 
 pub one_served : (scene : PoolScene) (parties : List PoolParty) → IsSharedScene scene → HaveMet scene parties →
-    length parties ≡ scene.parties → All (λ party. party.log ≢ []) parties → HasTaker scene parties
+    length parties ≡ scene.parties → All (λ party. HasStepped party.log) parties → HasTaker scene parties
 one_served scene parties shared met all made =
     let some = shared.parties in
     let one = some_party parties (omega (arith, some, all)) in
     one_took scene parties one.0 met all one.1
-    (All-contains (λ (party : PoolParty). party.log ≢ []) parties one.0 made one.1)
+    (All-contains (λ (party : PoolParty). HasStepped party.log) parties one.0 made one.1)
 
 -- REFUSED PASSES
 

@@ -3,14 +3,14 @@
 use Rattle.atomic_table.specs.Seated.{TableId}
 use Rattle.bb_memory_pool_machine.specs.PoolLogs.{FoundHeld, Interleaving, IsHeldAfter, IsPoolRun, IsRefusedAt, PoolLog, entries_by, entry_of, history_of, loss_at, pass_in}
 use Rattle.bb_memory_pool_machine.specs.PoolMachine.{PoolScene}
-use Rattle.bb_memory_pool_machine.specs.declared.steps.pool.PoolOutcome.TheVariants.{Attaches, Detaches, Gives, Takes}
-use Rattle.bb_memory_pool_machine.specs.declared.steps.pool.PoolStep.TheVariants.{Attach, AttachFrom, Detach, GiveBack, GiveBackDetached, Try}
+use Rattle.bb_memory_pool_machine.specs.declared.steps.pool.PoolOutcome.TheVariants.{Attaches, Detaches, Gives, Misses, Takes}
+use Rattle.bb_memory_pool_machine.specs.declared.steps.pool.PoolStep.TheVariants.{Attach, AttachFrom, Detach, FindToken, GiveBack, GiveBackDetached, Try}
 use Rattle.bb_memory_traits.specs.Chunk.{Chunk, IsInside}
 use Rattle.bb_memory_traits.specs.PoolObject.{IsPoolGeometry, IsWithin, PoolGeometry, bucket_place}
 use Rattle.bb_memory_traits.specs.declared.allocator.AllocationError.{AllocationError}
 use Rattle.bb_memory_traits.specs.declared.allocator.AllocationError.TheVariants.{AlignmentFailure, OutOfMemory, SizeIsZero, SizeTooLarge}
 use Rattle.bb_memory_traits.specs.declared.layout.Layout.{Layout}
-use Rattle.std.specs.Prelude.{All, Err, IfOk, IsErr, List, None, Ok, OnErr, Result, Some, [], length, slice_get, suc, take, zero, ℕ, ◌%◌, ◌++◌, ◌+◌, ◌<◌, ◌↔◌, ◌∷◌, ◌≡◌, ◌≢◌, ◌≤◌}
+use Rattle.std.specs.Prelude.{All, Err, IfOk, IsErr, List, None, Ok, OnErr, Result, Some, [], length, slice_get, suc, take, zero, ℕ, ◌%◌, ◌++◌, ◌+◌, ◌<◌, ◌↔◌, ◌∷◌, ◌≡◌, ◌≢◌, ◌≤◌, ◌⊎◌}
 
 -- A shared pool: its table of words, which differs from that of any other pool, and its scene,
 -- which is its buckets and the number of its parties.
@@ -103,6 +103,14 @@ attach_entry party bucket = entry_of (Attach party bucket) (Attaches bucket) ∷
 -- a step that attaches a bucket from the party `from`, which has detached it
 abbrev pub attach_from_entry : ℕ → ℕ → ℕ → PoolLog
 attach_from_entry party bucket from = entry_of (AttachFrom party bucket from) (Attaches bucket) ∷ []
+
+-- a step that misses a bucket: the party tried to attach it from the party `from`, which hasn't detached it
+abbrev pub miss_from_entry : ℕ → ℕ → ℕ → PoolLog
+miss_from_entry party bucket from = entry_of (AttachFrom party bucket from) (Misses bucket) ∷ []
+
+-- a step that misses a bucket: the party `from` has detached it into a token
+abbrev pub token_entry : ℕ → ℕ → ℕ → PoolLog
+token_entry party bucket from = entry_of (FindToken party bucket from) (Misses bucket) ∷ []
 
 -- a step that gives back a detached bucket
 abbrev pub return_detached_entry : ℕ → ℕ → PoolLog
@@ -249,6 +257,21 @@ HasAttached pool old detached new = HasGained pool old detached.number (attach_e
 -- the bucket is detached by `from`.
 abbrev pub HasAttachedFrom : SharedPool → PoolParty → ℕ → ℕ → PoolParty → Type 0
 HasAttachedFrom pool old number from new = HasGained pool old number (attach_from_entry old.number number from) new
+
+-- the step of an exchange that doesn't attach the bucket from the party `from`: this party hasn't detached the bucket, or has
+-- detached it into a token
+abbrev pub IsMissFrom : ℕ → ℕ → ℕ → PoolLog → Type 0
+IsMissFrom party bucket from step = (step ≡ miss_from_entry party bucket from) ⊎ (step ≡ token_entry party bucket from)
+
+-- The party has missed the bucket of this number, which it tried to attach from the party `from`: its log has the step, and it
+-- holds what it held before.
+pub record HasMissedFrom (pool : SharedPool) (old : PoolParty) (number from : ℕ) (new : PoolParty) : Type 0 where
+  pub step : PoolLog
+  pub miss : IsMissFrom old.number number from step
+  pub logged : new ≡ with_entries old step
+  pub party : new.allocator ≡ pool
+  pub is_party : IsSameParty old new
+  pub unchanged : (bucket : ℕ) → IsHeldAfter old.log bucket ↔ IsHeldAfter new.log bucket
 
 -- the party, which didn't hold the detached bucket, has given it back: its log has the step, and it holds what it held before
 pub record HasReturned (pool : SharedPool) (old : PoolParty) (detached : TakenBucket) (new : PoolParty) : Type 0 where

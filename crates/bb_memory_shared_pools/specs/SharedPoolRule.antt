@@ -10,7 +10,7 @@ use Rattle.bb_memory_pool_machine.specs.declared.steps.pool.PoolOutcome.TheVaria
 use Rattle.bb_memory_pool_machine.specs.declared.steps.pool.PoolStep.TheVariants.{Try}
 use Rattle.bb_memory_seats.specs.Seats.{AreSeated, HaveLogs, IsAt, Numbered, View, alone, alone_with, carrying, fresh_from, number_of, numbered, standing_for, times_detached, times_in, view_log}
 use Rattle.bb_memory_shared_pools.specs.FlagWords.{HasToken, as_word, bucket_of, flag_in, flags_in, sender_in, words_for, words_of}
-use Rattle.bb_memory_shared_pools.specs.SharedPool.{AreAllHeldAfter, IsSharedScene, PoolParty, SharedPool, attach_entry, attach_from_entry, detach_entry, return_detached_entry, return_entry, scene_at, taking_pass}
+use Rattle.bb_memory_shared_pools.specs.SharedPool.{AreAllHeldAfter, IsMissFrom, IsSharedScene, PoolParty, SharedPool, attach_entry, attach_from_entry, detach_entry, return_detached_entry, return_entry, scene_at, taking_pass}
 use Rattle.bb_memory_shared_pools.specs.SharedPoolNextFit.{hint_in, miss_at, misses, probed, taking_at, taking_search}
 use Rattle.bb_memory_shared_pools.specs.declared.shared_pool.party.Hint.{Hint}
 use Rattle.bb_memory_traits.specs.Chunk.{IsRegion, region_at}
@@ -248,12 +248,18 @@ pub record AfterMeeting (scene : PoolScene) (number : ℕ) (log : PoolLog) (othe
   pub apart : (bucket : ℕ) → IsHeldAfter log bucket → ¬ IsHeldAfter other_log bucket
   pub interleaved : CommonInterleaving scene number log other other_log
 
+-- an idle party missed the bucket that it tried to attach from the party `from`
+pub record AfterMissFrom (scene : PoolScene) (number : ℕ) (log : PoolLog) (bucket from : ℕ) (new : Me ℕ SeatView) : Type 0 where
+  pub step : PoolLog
+  pub miss : IsMissFrom number bucket from step
+  pub ended : AfterCall scene number log step new
+
 -- An idle party's exchange from the word "detached by `from`" to its own, which found this word. If it found that word, the party
--- attached the bucket from `from`. Otherwise it lost, which is in no log, and the party is unchanged.
+-- attached the bucket from `from`. Otherwise it missed the bucket.
 abbrev pub AfterNumber : ℕ → PoolScene → ℕ → PoolLog → ℕ → ℕ → Me ℕ SeatView → Type 0
 AfterNumber from scene number log bucket found new =
     (found ≡ as_word (DetachedBy from) → AfterGain scene number log (attach_from_entry number bucket from) bucket new)
-    × (found ≢ as_word (DetachedBy from) → IsSeatOfIdle scene number log new)
+    × (found ≢ as_word (DetachedBy from) → AfterMissFrom scene number log bucket from new)
 
 -- The effect of a step at a flag, by scene, party, log, bucket, the word that was found, and the seat afterwards.
 abbrev pub StepEffect : Type 1

@@ -1,5 +1,5 @@
 //! The pool machine's steps, and the theorem about every list of them.
-ghost use Rattle.bb_memory_pool_machine.specs.PoolLogs.{AreAsked, AttachesFromAt, FoundHeld, IsCallRun, IsHeldAfter, IsHeldInRun, IsPoolRun, IsRefusedAt, Layout, LosesAt, MissesAt, WasDetached, history_of, log_of};
+ghost use Rattle.bb_memory_pool_machine.specs.PoolLogs.{AreAsked, AttachesFromAt, FindsTokenAt, FoundHeld, IsCallRun, IsHeldAfter, IsHeldInRun, IsPoolRun, IsRefusedAt, Layout, LosesAt, MissesAt, MissesFromAt, WasDetached, history_of, log_of};
 ghost use Rattle.bb_memory_pool_machine.specs.PoolMachine.{Attach, Attaches, Detach, DetachedBy, Detaches, GiveBack, Gives, IsDetached, IsFlag, IsHolder, IsTaken, Misses, PoolScene, PoolStep, Takes, Try, TryAt, left_by};
 ghost use Rattle.bb_memory_traits.specs.Chunk.{Chunk, IsSound, Region};
 ghost use Rattle.bb_memory_traits.specs.PoolObject.{FillsRegion, IsHeld, IsPoolGeometry, PoolGeometry, at_most, pool_geometry};
@@ -32,9 +32,12 @@ pub enum PoolStep {
     Detach { party: u32, bucket: u32 },
     /// The party, which is in no pass, attaches a detached bucket, and holds it then.
     Attach { party: u32, bucket: u32 },
-    /// The party, which is in no pass, attaches a bucket that the party `from` has detached, and
-    /// holds it then.
+    /// The party, which is in no pass, tries to attach a bucket from the party `from`. If that party
+    /// has detached the bucket, this one holds it then. Otherwise the step is a miss.
     AttachFrom { party: u32, bucket: u32, from: u32 },
+    /// The party, which is in no pass, finds that the party `from` has detached a bucket into a
+    /// token, and misses the bucket. The machine doesn't know which detached buckets have a token.
+    FindToken { party: u32, bucket: u32, from: u32 },
     /// The party, which is in no pass, gives back a detached bucket.
     GiveBackDetached { party: u32, bucket: u32 },
 }
@@ -54,7 +57,8 @@ pub enum PoolOutcome {
     /// The step isn't allowed, or names a party or a bucket that the machine doesn't have. Nothing
     /// changed.
     Passed,
-    /// The bucket's flag was taken. The party, which is in no pass, is still in none. Nothing
+    /// The party, which is in no pass, tried to take a bucket whose flag was taken, or to attach a
+    /// bucket from a party that hadn't detached it, or had detached it into a token. Nothing
     /// changed.
     Misses(u32),
     /// The bucket's holder detached it. Its flag stays taken.
@@ -151,6 +155,20 @@ pub fn pool_theorem()
     // the step that detached it.
     ensures attached_from { (scene : PoolScene) (steps : List PoolStep) (party bucket from k : ℕ)
         → AttachesFromAt (history_of scene steps) party bucket from k
+        → IsFlag (left_by scene (take k steps)) bucket (DetachedBy from)
+        × WasDetached (log_of scene (take k steps) from) bucket }
+
+    // A party that tries to attach a bucket from a sender misses it only while the bucket isn't
+    // detached by that sender.
+    ensures missed_from { (scene : PoolScene) (steps : List PoolStep) (party bucket from k : ℕ)
+        → MissesFromAt (history_of scene steps) party bucket from k
+        → (bucket < scene.geometry.buckets)
+        × (¬ IsFlag (left_by scene (take k steps)) bucket (DetachedBy from)) }
+
+    // A party finds a token of a bucket only while the bucket is detached by the sender that the
+    // party named, whose log has the step that detached it.
+    ensures found_token { (scene : PoolScene) (steps : List PoolStep) (party bucket from k : ℕ)
+        → FindsTokenAt (history_of scene steps) party bucket from k
         → IsFlag (left_by scene (take k steps)) bucket (DetachedBy from)
         × WasDetached (log_of scene (take k steps) from) bucket }
 {}

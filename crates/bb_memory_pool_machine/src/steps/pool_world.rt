@@ -1,6 +1,6 @@
 //! A pool machine that can be run: for each bucket its flag, and for each party the bucket that its
 //! pass tries next.
-ghost use Rattle.bb_memory_pool_machine.specs.PoolMachine.{Attach, AttachFrom, Detach, GiveBack, GiveBackDetached, Try, TryAt, all_free, holder_of};
+ghost use Rattle.bb_memory_pool_machine.specs.PoolMachine.{Attach, AttachFrom, Detach, FindToken, GiveBack, GiveBackDetached, Try, TryAt, all_free, holder_of};
 ghost use Rattle.bb_memory_pool_machine.specs.PoolWorld.{IsPoolWorld, PoolWorld, Replays, Steps, world_of};
 ghost use Rattle.std.specs.Prelude.{IfOk, IsSome, length, slice_get, ◌<◌, ◌≡◌};
 
@@ -56,6 +56,11 @@ impl PoolWorld {
                 bucket,
                 from,
             } => self.attach_from(party, bucket, from),
+            PoolStep::FindToken {
+                party,
+                bucket,
+                from,
+            } => self.find_token(party, bucket, from),
             PoolStep::GiveBackDetached { party, bucket } => self.give_detached(party, bucket),
         }
     }
@@ -179,8 +184,8 @@ impl PoolWorld {
         }
     }
 
-    /// Makes a party attach a bucket that the party `from` has detached, which it may if it is in
-    /// no pass.
+    /// Makes a party try to attach a bucket from the party `from`, which it may if it is in no
+    /// pass.
     fn attach_from(&mut self, party: u32, bucket: u32, from: u32) -> PoolOutcome
         ensures { Steps self.old (AttachFrom party bucket from) result self.new }
     {
@@ -192,6 +197,21 @@ impl PoolWorld {
                 self.flags[bucket as usize] = Flag::HeldBy(party);
                 PoolOutcome::Attaches(bucket)
             }
+            Some(_) => PoolOutcome::Misses(bucket),
+            None => PoolOutcome::Passed,
+        }
+    }
+
+    /// Makes a party find a token of a bucket that the party `from` has detached, which it may if it
+    /// is in no pass.
+    fn find_token(&mut self, party: u32, bucket: u32, from: u32) -> PoolOutcome
+        ensures { Steps self.old (FindToken party bucket from) result self.new }
+    {
+        let Some(None) = found_at(&self.calls, party as usize) else {
+            return PoolOutcome::Passed;
+        };
+        match found_at(&self.flags, bucket as usize) {
+            Some(Flag::DetachedBy(sender)) if sender == from => PoolOutcome::Misses(bucket),
             _ => PoolOutcome::Passed,
         }
     }

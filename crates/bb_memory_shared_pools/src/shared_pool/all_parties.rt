@@ -1,5 +1,5 @@
 //! The law of parties of a shared pool that met.
-ghost use Rattle.bb_memory_pool_machine.specs.PoolLogs.{AreAsked, IsPoolRun, WasAttachedFrom, WasDetached, history_of, log_of};
+ghost use Rattle.bb_memory_pool_machine.specs.PoolLogs.{AreAsked, HasStepped, IsPoolRun, WasAttachedFrom, WasDetached, history_of, log_of};
 ghost use Rattle.bb_memory_pool_machine.specs.PoolMachine.{IsDetached, PoolScene, left_by};
 ghost use Rattle.bb_memory_shared_pools.specs.SharedPool.{IsSharedScene, PoolParty, refused_pass};
 ghost use Rattle.bb_memory_shared_pools.specs.SharedPoolMeetings.{HasTaker, HaveMet, HoldApart, IsHeldByOne, IsHeldOrDetached, TookOne, WasDetachedByOne};
@@ -70,10 +70,10 @@ pub fn shared_pool_meeting_law()
         → All (λ entry. Any (λ party. Contains party.log entry) parties)
         (history_of scene met.1.agree.steps) }
 
-    // If one of these parties has made a step, one of them has taken a bucket.
+    // If one of these parties has made a step that isn't a lost attach by number, one of them has taken a bucket.
     ensures one_took { (scene : PoolScene) (parties : List PoolParty) (one : PoolParty)
         → HaveMet scene parties → length parties ≡ scene.parties → Contains parties one
-        → one.log ≢ [] → HasTaker scene parties }
+        → HasStepped one.log → HasTaker scene parties }
 
     // A pass that is refused takes no bucket.
     ensures refused_took_none { (buckets number : ℕ) → ¬ TookOne (refused_pass buckets number) }

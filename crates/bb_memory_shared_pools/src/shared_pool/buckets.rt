@@ -1,5 +1,5 @@
 //! Shared pools: buckets with one flag each, on which any number of threads make atomic steps.
-ghost use Rattle.bb_memory_pool_machine.specs.PoolLogs.{IsHeldAfter};
+ghost use Rattle.bb_memory_pool_machine.specs.PoolLogs.{HasStepped, IsHeldAfter};
 ghost use Rattle.bb_memory_seats.specs.Seats.{HasNow, HasRoomFor, Stays, number_of, view_log};
 ghost use Rattle.bb_memory_shared_pools.specs.SharedPool.{AreFresh, IsAlignedTo, IsResizedTo, IsSameParty, IsSharedScene, MayTake, ServesAlone, chunk_of, refused_pass, return_entry, with_entries};
 ghost use Rattle.bb_memory_shared_pools.specs.SharedPoolMeetings.{AreBothOf, AreInterleaved, HasTaker, HaveMet, HoldApart, MetDetached, MetUndetached};
@@ -191,9 +191,10 @@ impl<const CAPPED: usize, const MOST: usize> SharedBucketPool<CAPPED, MOST> {
     /// Makes all these parties meet: no bucket is held by two of them, and one interleaving has all
     /// their logs. If these are all parties of the pool, the interleaving has no other steps, and a
     /// flag is taken exactly if one of them holds the bucket or the bucket is detached. If each of
-    /// them has also made a step, one of them has taken a bucket: they can't all have been refused
-    /// because of somebody else, since there is nobody else. A meeting only loads words: it adds to
-    /// no log, and changes nothing. The parties have to be this pool's.
+    /// them has also made a step that isn't a lost attach by number, one of them has taken a bucket:
+    /// they can't all have been refused because of somebody else, since there is nobody else. A
+    /// meeting only loads words: it adds to no log, and changes nothing. The parties have to be this
+    /// pool's.
     pub fn meet_all(&self, parties: &mut Vec<PoolParty>)
         requires parties { All (λ party. party.allocator ≡ self.now) parties.old.items }
         ensures kept { parties.new.items ≡ parties.old.items }
@@ -201,7 +202,7 @@ impl<const CAPPED: usize, const MOST: usize> SharedBucketPool<CAPPED, MOST> {
         ensures met { HaveMet self.now.scene parties.old.items }
         ensures apart { HoldApart parties.old.items }
         ensures one_took { length parties.old.items ≡ self.now.scene.parties
-            → All (λ party. party.log ≢ []) parties.old.items
+            → All (λ party. HasStepped party.log) parties.old.items
             → HasTaker self.now.scene parties.old.items }
     {
         let flags = &self.flags;

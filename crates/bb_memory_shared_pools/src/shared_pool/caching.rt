@@ -1,7 +1,7 @@
 //! Parties that cache the buckets that they gave back last: a layer over the shared pools.
 ghost use Rattle.bb_memory_pool_machine.specs.PoolLogs.{IsHeldAfter};
 ghost use Rattle.bb_memory_shared_pools.specs.SharedPool.{HasAttached, HasDetached, HasReturned, IsSameParty, attach_entry, detach_entry, return_detached_entry, with_entries};
-ghost use Rattle.bb_memory_shared_pools.specs.SharedPoolCaching.{AreCached, AttachesCaching, IsOut, ReturnsCaching, ServesCaching, returns_of};
+ghost use Rattle.bb_memory_shared_pools.specs.SharedPoolCaching.{AreCached, AttachesCaching, IsOut, MissesCaching, ReturnsCaching, ServesCaching, returns_of};
 ghost use Rattle.bb_memory_shared_pools.specs.SharedPoolLeaving.{GivesAllBack};
 ghost use Rattle.bb_memory_shared_pools.specs.SharedPoolMeetings.{AreBothOf, AreInterleaved};
 ghost use Rattle.std.specs.Prelude.{Contains, IfErr, IfOk, IsFalse, IsTrue, Ok, [], length, true, vec_capacity, ℕ, ◌<◌, ◌↔◌, ◌≡◌, ◌≢◌, ◌≤◌};
@@ -285,7 +285,7 @@ impl CachingParty {
 
     /// Attaches the bucket of this number if the party of number `from` has detached it by `detach_number`, and returns whether
     /// that succeeded, as [`SharedPoolAllocator::attach_number`](super::SharedPoolAllocator::attach_number) does. Afterwards
-    /// the bucket is in use. A loss changes nothing. The party has to be this pool's.
+    /// the bucket is in use. A loss changes only the log, which has the step. The party has to be this pool's.
     #[tactic(auto, unfolding(crate::specs::SharedPoolCaching::IsOut))]
     pub fn attach_number<const CAPPED: usize, const MOST: usize>(
         &mut self,
@@ -296,7 +296,7 @@ impl CachingParty {
         requires party { self.old.party.allocator ≡ pool.now }
         requires below { number < pool.now.scene.geometry.buckets }
         ensures won { IsTrue result → AttachesCaching self.old number from self.new }
-        ensures lost { IsFalse result → self.new ≡ self.old }
+        ensures lost { IsFalse result → MissesCaching self.old number from self.new }
     {
         pool.attach_number(&mut self.party, number, from)
     }

@@ -1,5 +1,5 @@
 //! Buckets in transit from one party of a shared pool to another.
-ghost use Rattle.bb_memory_shared_pools.specs.SharedPool.{AreOf, HasAttached, HasAttachedFrom, HasDetached, HasReturned, MayDetach};
+ghost use Rattle.bb_memory_shared_pools.specs.SharedPool.{AreOf, HasAttached, HasAttachedFrom, HasDetached, HasMissedFrom, HasReturned, MayDetach};
 ghost use Rattle.std.specs.Prelude.{IsFalse, IsTrue, ◌<◌, ◌≡◌, ◌≤◌};
 
 use super::bucket::Bucket;
@@ -125,8 +125,9 @@ impl<const CAPPED: usize, const MOST: usize> SharedBucketPool<CAPPED, MOST> {
 
     /// Attaches the bucket of this number if the party of number `from` has detached it by `detach_number`, by one exchange of
     /// its flag. Returns whether that succeeded: only if the flag says at the exchange that exactly this party has detached the
-    /// bucket, without a token. So of any number of callers at most one succeeds. A loss changes nothing, and is not a step of
-    /// the log.
+    /// bucket, without a token. So of any number of callers at most one succeeds. The exchange is a step of the party's log. If
+    /// it loses, it changes nothing else, and the log says what it found: `from` hadn't detached the bucket, or had detached it
+    /// into a token.
     ///
     /// [`by_number::bucket`](super::by_number::bucket) makes the token of a bucket that was attached. The party has to be this
     /// pool's. `from` may be any number.
@@ -134,7 +135,7 @@ impl<const CAPPED: usize, const MOST: usize> SharedBucketPool<CAPPED, MOST> {
         requires party { party.old.allocator ≡ self.now }
         requires below { number < self.now.scene.geometry.buckets }
         ensures won { IsTrue result → HasAttachedFrom self.now party.old number from party.new }
-        ensures lost { IsFalse result → party.new ≡ party.old }
+        ensures lost { IsFalse result → HasMissedFrom self.now party.old number from party.new }
     {
         self.flags
             .attach_number(party.number, &mut party.seat, number, from)

@@ -1,9 +1,9 @@
 //! The flags that threads share, one for each bucket: their words, and the only calls that touch them.
 //!
-//! - `try_flag`, `try_at`, `probe`, `give_back` and `detach_number` make one logged step each, by the seat of the party whose
-//!   step it is. That party's log then ends with the step and what it found.
-//! - So does `attach_number` if it succeeds, and so do `detach`, `attach` and `return_detached`. Each of these three also loads
-//!   one more word, for the seat of the detached bucket.
+//! - `try_flag`, `try_at`, `probe`, `give_back`, `detach_number` and `attach_number` make one logged step each, by the seat of
+//!   the party whose step it is. That party's log then ends with the step and what it found.
+//! - So do `detach`, `attach` and `return_detached`. Each of these three also loads one more word, for the seat of the detached
+//!   bucket.
 //! - `split_first`, `merge`, `load_for_meeting`, `meet`, `is_held`, `is_detached_when_met` and `found` only load words, and are
 //!   in no log. Nor is the load with which `probe` begins, if it finds the flag free.
 //! - `open` runs before anything is shared, and `geometry` touches no word.
@@ -14,7 +14,7 @@ ghost use Rattle.bb_memory_pool_machine.specs.declared.steps.pool.Flag.TheVarian
 ghost use Rattle.bb_memory_seats.specs.Seats.{IsSplit, MayMerge, Stays, alone_with, both_of, number_of, view_log};
 ghost use Rattle.bb_memory_shared_pools.specs.FlagWords.{as_word, flag_in, with_token, word_of};
 ghost use Rattle.bb_memory_shared_pools.specs.SharedPool.{attach_entry, attach_from_entry, return_detached_entry};
-ghost use Rattle.bb_memory_shared_pools.specs.SharedPoolRule.{AfterDetachSplit, AfterGain, AfterMeeting, AfterMeetingLoad, AfterProbe, AfterReturn, AfterTryLoss, AfterTryWin, FoundDetached, FoundOther, IsDetachedAt, IsHeldAt, IsIdleAt, IsSeatAt, IsSeatOfIdle, StandsAt, all_parties};
+ghost use Rattle.bb_memory_shared_pools.specs.SharedPoolRule.{AfterDetachSplit, AfterGain, AfterMeeting, AfterMeetingLoad, AfterMissFrom, AfterProbe, AfterReturn, AfterTryLoss, AfterTryWin, FoundDetached, FoundOther, IsDetachedAt, IsHeldAt, IsIdleAt, IsSeatAt, StandsAt, all_parties};
 ghost use Rattle.bb_memory_traits.specs.Chunk.{IsRegion};
 ghost use Rattle.bb_memory_traits.specs.PoolObject.{IsPoolGeometry};
 ghost use Rattle.std.specs.Prelude.{IfOk, IsFalse, IsTrue, MatchBool, [], true, ◌<◌, ◌^◌, ◌↔◌, ◌≡◌, ◌≤◌};
@@ -470,7 +470,7 @@ impl Flags {
     }
 
     /// Exchanges the flag of `bucket` from detached by `from`, without a token, to held, by an idle party. Returns whether that
-    /// attached the bucket. A loss is in no log.
+    /// attached the bucket.
     pub(super) fn attach_number(
         &self,
         party: u32,
@@ -484,8 +484,8 @@ impl Flags {
         ensures { Stays seat.old.table_id seat.new.table_id (MatchBool result
             (AfterGain self.now.scene (number_of seat.old.me.0) (view_log seat.old.me.0)
             (attach_from_entry (number_of seat.old.me.0) bucket from) bucket seat.new.me)
-            (IsSeatOfIdle self.now.scene (number_of seat.old.me.0) (view_log seat.old.me.0)
-            seat.new.me)) }
+            (AfterMissFrom self.now.scene (number_of seat.old.me.0) (view_log seat.old.me.0)
+            bucket from seat.new.me)) }
     {
         let shared = &self.table.shared;
         let sent = detached_by(from);

@@ -3,7 +3,9 @@
 use super::worlds::made;
 use crate::tests::checks::{chunk, layout, none_requested, same};
 use bb_memory_base::steps::PoolOutcome::{Attaches, Detaches, Gives, Misses, Passed, Takes};
-use bb_memory_base::steps::PoolStep::{Attach, AttachFrom, Detach, GiveBack, Try, TryAt};
+use bb_memory_base::steps::PoolStep::{
+    Attach, AttachFrom, Detach, FindToken, GiveBack, Try, TryAt,
+};
 use bb_memory_base::steps::{
     BumpOutcome, BumpStep, BumpWorld, PoolWorld, bump_theorem, pool_theorem,
 };
@@ -52,7 +54,8 @@ fn a_bucket_is_detached_and_attached(rt: HostRuntime) {
     none_requested(&rt);
 }
 
-/// A bucket is attached only from the party that has detached it.
+/// A bucket is attached only from the party that has detached it, and otherwise missed. A token of it
+/// is found only while that party has detached it.
 #[test]
 fn a_bucket_is_attached_from_its_sender(rt: HostRuntime) {
     let Some(mut world) = made(&rt, PoolWorld::new(rt.alloc(), 2, 3)) else {
@@ -65,12 +68,19 @@ fn a_bucket_is_attached_from_its_sender(rt: HostRuntime) {
         bucket,
         from: sender,
     };
+    let finds_token = FindToken {
+        party,
+        bucket,
+        from: sender,
+    };
+    same(&rt, world.step(from_sender), Misses(1));
     let taken = world.step(TryAt {
         party: sender,
         bucket,
     });
     same(&rt, taken, Takes(1));
-    same(&rt, world.step(from_sender), Passed);
+    same(&rt, world.step(from_sender), Misses(1));
+    same(&rt, world.step(finds_token), Passed);
     let detached = world.step(Detach {
         party: sender,
         bucket,
@@ -81,11 +91,25 @@ fn a_bucket_is_attached_from_its_sender(rt: HostRuntime) {
         bucket,
         from: 1,
     });
-    same(&rt, from_another, Passed);
+    same(&rt, from_another, Misses(1));
+    let token_of_another = world.step(FindToken {
+        party,
+        bucket,
+        from: 1,
+    });
+    same(&rt, token_of_another, Passed);
+    same(&rt, world.step(finds_token), Misses(1));
     same(&rt, world.holder(1), None);
     same(&rt, world.step(from_sender), Attaches(1));
     same(&rt, world.holder(1), Some(0));
-    same(&rt, world.step(from_sender), Passed);
+    same(&rt, world.step(from_sender), Misses(1));
+    same(&rt, world.step(finds_token), Passed);
+    let of_no_bucket = world.step(AttachFrom {
+        party,
+        bucket: 2,
+        from: sender,
+    });
+    same(&rt, of_no_bucket, Passed);
     none_requested(&rt);
 }
 

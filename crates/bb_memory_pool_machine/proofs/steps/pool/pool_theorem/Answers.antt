@@ -1,4 +1,4 @@
-use Rattle.bb_memory_pool_machine.proofs.PoolDetached.{attached_from_sender, none_detached_alone, was_detached_before}
+use Rattle.bb_memory_pool_machine.proofs.PoolDetached.{attached_from_sender, missed_from_sender, none_detached_alone, token_from_sender, was_detached_before}
 use Rattle.bb_memory_pool_machine.proofs.PoolHolders.{detached_unheld, holder_in_log, one_holder}
 use Rattle.bb_memory_pool_machine.proofs.PoolPasses.{missed_is_held, refused_found_held}
 use Rattle.bb_memory_pool_machine.proofs.PoolRuns.{pool_run, run_at_step, run_is_sound, taken_is_held}
@@ -24,4 +24,6 @@ returns c = record {
   none_detached_alone = none_detached_alone;
   was_detached = was_detached_before;
   attached_from = attached_from_sender;
+  missed_from = missed_from_sender;
+  found_token = token_from_sender;
 }
