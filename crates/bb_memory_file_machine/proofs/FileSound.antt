@@ -58,7 +58,7 @@ sound_flag words bucket old flag outside sound is same says others known = recor
 }
 
 -- a bucket's number has a place in what channels outside know
-outside_there : (words : FileWords) (bucket : ℕ) (flag : Flag) (known : Bool) → Sound words → IsFlag words bucket flag →
+pub outside_there : (words : FileWords) (bucket : ℕ) (flag : Flag) (known : Bool) → Sound words → IsFlag words bucket flag →
     slice_get (slice_set words.outside bucket known) bucket ≡ Some known
 outside_there words bucket flag known sound is =
     let below = below_end words.flags bucket flag is in

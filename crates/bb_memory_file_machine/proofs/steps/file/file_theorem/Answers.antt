@@ -3,7 +3,7 @@ use Rattle.bb_memory_file_machine.proofs.FilePools.{pool_always, taken_always}
 use Rattle.bb_memory_file_machine.proofs.FileSettles.{can_settle}
 use Rattle.bb_memory_file_machine.proofs.FileSteps.{holds_always}
 use Rattle.bb_memory_file_machine.proofs.FileTakers.{taker_attached}
-use Rattle.bb_memory_file_machine.proofs.FileTheorem.{addressed_always, effect_always, kept_always, locked_always, never_free_always, nothing_lost, one_process, received_always, settled_always, stays_always}
+use Rattle.bb_memory_file_machine.proofs.FileTheorem.{addressed_always, effect_always, forgotten_always, kept_always, locked_always, never_free_always, nothing_lost, one_process, received_always, settled_always, stays_always}
 use Rattle.bb_memory_file_machine.proofs.steps.file.file_theorem.Goals as goal
 use Rattle.bb_memory_file_machine.specs.FileMachine.{left_by}
 use Rattle.bb_memory_file_machine.specs.FilePool.{flag_steps, pool_of}
@@ -20,6 +20,7 @@ returns c = record {
   one_slot = λ scene steps. (holds_always scene steps).sound.one_slot;
   never_free = never_free_always;
   known = λ scene steps. (holds_always scene steps).sound.known;
+  forgotten = forgotten_always;
   settled = settled_always;
   addressed = addressed_always;
   settles = can_settle;
