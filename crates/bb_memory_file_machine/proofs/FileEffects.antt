@@ -33,6 +33,11 @@ pub apart_by_value : {X : Type 0} (xs : List X) (i j : ℕ) (x y : X) → slice_
     ¬ (x ≡ y) → i ≢ j
 apart_by_value xs i j x y is there apart same = apart (one_value xs i x y is (ap (slice_get xs) same ∙ there))
 
+-- after a write over another value, a value is where it was
+pub stays_apart : {X : Type 0} (xs : List X) (i j : ℕ) (v old x : X) → slice_get xs i ≡ Some old → slice_get xs j ≡ Some x →
+    ¬ (old ≡ x) → slice_get (slice_set xs i v) j ≡ Some x
+stays_apart xs i j v old x is there apart = slice_get-set_apart xs i j v (apart_by_value xs i j old x is there apart) ∙ there
+
 pub same_process : (words : FileWords) (party process other : ℕ) → IsLock words party process → IsLock words party other →
     process ≡ other
 same_process words party process other one two =
@@ -133,8 +138,7 @@ rests_slot words slot party process old word lock is apart not_own = record {
   held = λ bucket held. held;
   detached = λ bucket is. is;
   stays = λ bucket other named has.
-      let place = apart_by_value words.slots slot other old (Message bucket has.0) is has.1 (apart bucket has.0 named) in
-      (has.0, slice_get-set_apart words.slots slot other word place ∙ has.1);
+      (has.0, stays_apart words.slots slot other word old (Message bucket has.0) is has.1 (apart bucket has.0 named));
   filled = λ bucket other has. elim (set_cases words.slots slot other word old (Message bucket has.0) is has.1) [
     | inl before ↦ inl (has.0, before.1)
     | inr this ↦ inr (not_own bucket has.0 this.1)

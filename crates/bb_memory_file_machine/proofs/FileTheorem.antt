@@ -1,15 +1,14 @@
 -- Consequences of the invariant that holds for every state.
-use Rattle.bb_memory_file_machine.proofs.FileEffects.{apart_by_value, one_value, rests, same_process}
-use Rattle.bb_memory_file_machine.proofs.FileInvariant.{Holds, PlaceHas, Sound}
-use Rattle.bb_memory_file_machine.proofs.FileKinds.{Kind, attaches, empties, kind_of, posts, receives, recovers, refuses}
-use Rattle.bb_memory_file_machine.proofs.FileSound.{outside_there}
+use Rattle.bb_memory_file_machine.proofs.FileEffects.{one_value, rests, same_process, stays_apart}
+use Rattle.bb_memory_file_machine.proofs.FileInvariant.{Holds, PlaceHas}
+use Rattle.bb_memory_file_machine.proofs.FileKinds.{Kind, empties, kind_of, posts, receives}
 use Rattle.bb_memory_file_machine.proofs.FileSteps.{effect_of, holds_always, holds_at_opening, holds_step}
-use Rattle.bb_memory_file_machine.specs.FileLaws.{AreSettled, Effect, HasReceived, IsAccountedFor, IsFlag, IsHolder, IsIn, IsInCallBy, IsInSome, IsKnown, IsLock, IsOutside, IsPlace, IsSlot, SaysDone, UsesNumber, number_of}
+use Rattle.bb_memory_file_machine.specs.FileLaws.{AreSettled, Effect, HasReceived, IsAccountedFor, IsFlag, IsHolder, IsIn, IsInCallBy, IsInSome, IsKnown, IsLock, IsPlace, IsSlot, SaysDone, number_of}
 use Rattle.bb_memory_file_machine.specs.FileLaws as laws
 use Rattle.bb_memory_file_machine.specs.FileMachine.{Addressing, Attached, Checking, DetachedBy, Empty, Ending, FileChange, FileMove, FileOutcome, FileScene, FileState, FileStep, FileWords, Finding, Flag, Flags, Free, HeldBy, Keeping, Late, Message, Place, Posting, Receives, Refused, Seen, Sent, Settled, Slot, Slots, change_at, file_after, file_step, left_by, move_at, nobody, opening_state, process_of}
 use Rattle.bb_memory_file_machine.specs.FilePool.{IsTaken}
 use Rattle.bb_memory_lists.proofs.SliceGets.{length-set_at, slice_get-set_apart}
-use Rattle.std.proofs.Common.{List, None, Option, Some, [], ap, arith, false, inl, inr, length, refl, suc, sym, true, zero, ℕ, ◌<◌, ◌∙◌, ◌∷◌, ◌≡◌, ◌≢◌}
+use Rattle.std.proofs.Common.{List, None, Option, Some, [], ap, arith, inl, inr, length, refl, suc, sym, zero, ℕ, ◌<◌, ◌∙◌, ◌∷◌, ◌≡◌, ◌≢◌}
 use Rattle.std.proofs.lemmas.Bool.{cases_eq}
 use Rattle.std.proofs.lemmas.List.{length-replicate}
 use Rattle.std.proofs.lemmas.Option.{same_Some}
@@ -74,12 +73,6 @@ received_always scene steps step slot said =
 
 -- STAYS
 
--- after another slot was written, the message is there
-stays_apart : (slots : List Slot) (at slot : ℕ) (word old message : Slot) → slice_get slots at ≡ Some old →
-    slice_get slots slot ≡ Some message → ¬ (old ≡ message) → slice_get (slice_set slots at word) slot ≡ Some message
-stays_apart slots at slot word old message is there apart =
-    slice_get-set_apart slots at slot word (apart_by_value slots at slot old message is there apart) ∙ there
-
 stays_by : (state : FileState) (place : Place) (step : FileStep) (move : FileMove) (slot bucket size : ℕ) →
     Kind state.words place step move → PlaceHas state.words (process_of step) place → IsPlace state (process_of step) place →
     IsSlot state.words slot (Message bucket size) →
@@ -142,41 +135,6 @@ pub addressed_always : (scene : FileScene) (steps : List FileStep) (process part
     ¬ IsFlag (left_by scene steps).words bucket (DetachedBy party)
 addressed_always scene steps process party bucket slot there has detached =
     ((holds_always scene steps).each process (Settled party) there).2 slot bucket has (inr detached)
-
--- NUMBERS
-
--- no channel outside knows a number after it was marked as unknown
-unmarked : (words : FileWords) (bucket at : ℕ) (flag : Flag) → Sound words → IsFlag words at flag → at ≡ bucket →
-    ¬ (slice_get (slice_set words.outside at false) bucket ≡ Some true)
-unmarked words bucket at flag sound is same known =
-    let marked = outside_there words at flag false sound is in
-    let marks = one_value (slice_set words.outside at false) bucket false true
-    (ap (slice_get (slice_set words.outside at false)) (sym same) ∙ marked) known in absurd (cc)
-
-forgotten_by : (words : FileWords) (place : Place) (step : FileStep) (move : FileMove) (bucket : ℕ) →
-    Kind words place step move → Sound words → UsesNumber step bucket → move.outcome ≢ Refused →
-    ¬ IsOutside move.words bucket
-forgotten_by words place step move bucket (attaches process party at from own is) sound same allowed known =
-    unmarked words bucket at (DetachedBy from) sound is same known
-forgotten_by words place step move bucket (recovers process party before at is) sound same allowed known =
-    unmarked words bucket at (DetachedBy party) sound is same known
-forgotten_by words place step move bucket (refuses at taken) sound by_number allowed known = allowed refl
-forgotten_by words place step move bucket _ sound by_number allowed known = by_number
-
-forgotten_at : (state : FileState) (step : FileStep) (bucket : ℕ) (found : Option Place) →
-    slice_get state.places (process_of step) ≡ found → Holds state → UsesNumber step bucket →
-    (change_at state step found).outcome ≢ Refused → ¬ IsOutside (change_at state step found).state.words bucket
-forgotten_at state step bucket None there holds by_number allowed known = allowed refl
-forgotten_at state step bucket (Some place) there holds by_number allowed known =
-    forgotten_by state.words place step (move_at state.words place step) bucket (kind_of state.words place step) holds.sound
-    by_number allowed known
-
-pub forgotten_always : (scene : FileScene) (steps : List FileStep) (step : FileStep) (bucket : ℕ) → UsesNumber step bucket →
-    (file_step (left_by scene steps) step).outcome ≢ Refused →
-    ¬ IsOutside (file_step (left_by scene steps) step).state.words bucket
-forgotten_always scene steps step bucket =
-    let state : FileState = left_by scene steps in
-    forgotten_at state step bucket (slice_get state.places (process_of step)) refl (holds_always scene steps)
 
 -- NOTHING IS LOST
 
