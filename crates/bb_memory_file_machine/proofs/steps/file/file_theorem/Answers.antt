@@ -54,7 +54,8 @@ move_forgets words place step bucket by_number = absurd by_number
 forgotten : (state : FileState) (step : FileStep) (bucket : ℕ) (found : Option Place) → UsesNumber step bucket →
     (change_at state step found).outcome ≢ Refused → ¬ IsOutside (change_at state step found).state.words bucket
 forgotten state step bucket None by_number allowed known = allowed refl
-forgotten state step bucket (Some place) by_number = move_forgets state.words place step bucket by_number
+forgotten state step bucket (Some place) by_number allowed known =
+    move_forgets state.words place step bucket by_number allowed known
 
 pub returns : goal.returns
 returns c = record {
