@@ -8,6 +8,7 @@ use Rattle.bb_memory_file_machine.proofs.steps.file.file_theorem.Goals as goal
 use Rattle.bb_memory_file_machine.specs.FileLaws.{IsOutside, UsesNumber}
 use Rattle.bb_memory_file_machine.specs.FileMachine.{AttachNumber, DetachedBy, FileMove, FileState, FileStep, FileWords, Flags, Outside, Place, Recover, Refused, attach_number, change_at, is_flag, is_own, left_by, move_at, process_of, recover, refused}
 use Rattle.bb_memory_file_machine.specs.FilePool.{flag_steps, pool_of}
+use Rattle.bb_memory_lists.proofs.SliceGets.{slice_get-replicated}
 use Rattle.bb_memory_pool_machine.proofs.PoolRuns.{pool_run, run_is_sound}
 use Rattle.std.proofs.Common.{Bool, List, None, Option, Some, [], arith, false, refl, suc, true, zero, ℕ, ◌∷◌, ◌≡◌, ◌≢◌}
 use Rattle.std.proofs.lemmas.Bool.{cond_both}
@@ -68,6 +69,8 @@ returns c = record {
   one_slot = λ scene steps. (holds_always scene steps).sound.one_slot;
   never_free = never_free_always;
   known = λ scene steps. (holds_always scene steps).sound.known;
+  unknown = λ scene bucket known.
+      let same = slice_get-replicated scene.buckets bucket false true known in absurd (cc);
   forgotten = λ scene steps step bucket.
       let state = left_by scene steps in forgotten state step bucket (slice_get state.places (process_of step));
   settled = settled_always;
