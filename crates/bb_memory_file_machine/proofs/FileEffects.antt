@@ -38,6 +38,12 @@ pub stays_apart : {X : Type 0} (xs : List X) (i j : ℕ) (v old x : X) → slice
     ¬ (old ≡ x) → slice_get (slice_set xs i v) j ≡ Some x
 stays_apart xs i j v old x is there apart = slice_get-set_apart xs i j v (apart_by_value xs i j old x is there apart) ∙ there
 
+-- a bucket that isn't in the slot that is written stays in its slot
+pub stays_in : (words : FileWords) (slot : ℕ) (word old : Slot) (bucket other : ℕ) → IsSlot words slot old →
+    ((size : ℕ) → ¬ (old ≡ Message bucket size)) → IsIn words bucket other → IsIn (with_slot words slot word) bucket other
+stays_in words slot word old bucket other is not (size, has) =
+    (size, stays_apart words.slots slot other word old (Message bucket size) is has (not size))
+
 pub same_process : (words : FileWords) (party process other : ℕ) → IsLock words party process → IsLock words party other →
     process ≡ other
 same_process words party process other one two =
@@ -137,8 +143,7 @@ rests_slot words slot party process old word lock is apart not_own = record {
   kept = λ bucket held. held;
   held = λ bucket held. held;
   detached = λ bucket is. is;
-  stays = λ bucket other named has.
-      (has.0, stays_apart words.slots slot other word old (Message bucket has.0) is has.1 (apart bucket has.0 named));
+  stays = λ bucket other named. stays_in words slot word old bucket other is (λ size. apart bucket size named);
   filled = λ bucket other has. elim (set_cases words.slots slot other word old (Message bucket has.0) is has.1) [
     | inl before ↦ inl (has.0, before.1)
     | inr this ↦ inr (not_own bucket has.0 this.1)

@@ -1,5 +1,5 @@
 -- Each effect keeps the words sound.
-use Rattle.bb_memory_file_machine.proofs.FileEffects.{below_end, one_value, set_cases, stays_apart}
+use Rattle.bb_memory_file_machine.proofs.FileEffects.{below_end, one_value, set_cases, stays_in}
 use Rattle.bb_memory_file_machine.proofs.FileInvariant.{Sound}
 use Rattle.bb_memory_file_machine.specs.FileLaws.{Effect, IsFlag, IsHolder, IsIn, IsInSome, IsOutside, IsSlot, addresses, attaches, attaches_number, detaches, detaches_number, empties, fills, frees_lock, gives_back, none, takes, takes_lock}
 use Rattle.bb_memory_file_machine.specs.FileMachine.{DetachedBy, Empty, FileOutcome, FileWords, Flag, Free, HeldBy, Message, nobody, with_slot}
@@ -104,8 +104,7 @@ sound_fill words party slot bucket size sound held not_in empty =
         | inr before ↦ sound.taken at one before
       ];
       known = λ at from is. elim (sound.known at from is) [
-        | inl has ↦ inl (has.0, (has.1.0, stays_apart words.slots slot has.0 (Message bucket size) Empty
-            (Message at has.1.0) empty has.1.1 (λ same. absurd (cc))))
+        | inl has ↦ inl (has.0, stays_in words slot (Message bucket size) Empty at has.0 empty (λ length same. absurd (cc)) has.1)
         | inr told ↦ inr told
       ];
     }
@@ -123,11 +122,13 @@ sound_empty words party slot bucket size sound held is =
       one_slot = λ at one two has too. sound.one_slot at one two (was at one has) (was at two too);
       taken = λ at one has. sound.taken at one (was at one has);
       known = λ at other there. elim (sound.known at other there) [
-        | inl has ↦ inl (has.0, (has.1.0, stays_apart words.slots slot has.0 Empty (Message bucket size)
-            (Message at has.1.0) is has.1.1 (λ same.
-            let held_there : bucket ≡ at = cc in
-            let flags = one_value words.flags at (HeldBy party) (DetachedBy other)
-            (ap (slice_get words.flags) (sym held_there) ∙ held) there in absurd (cc))))
+        | inl has ↦ inl (
+          has.0,
+          stays_in words slot Empty (Message bucket size) at has.0 is (λ length same.
+              let held_there : bucket ≡ at = cc in
+              let flags = one_value words.flags at (HeldBy party) (DetachedBy other)
+              (ap (slice_get words.flags) (sym held_there) ∙ held) there in absurd (cc)) has.1,
+        )
         | inr told ↦ inr told
       ];
     }

@@ -4,11 +4,12 @@ ghost use Rattle.bb_memory_file_machine.specs.FileMachine.{Addresses, Addressing
 ghost use Rattle.bb_memory_file_machine.specs.FileMoves.{IsUnlocked, Makes, MayBegin};
 ghost use Rattle.std.specs.Prelude.{None, Some, false, length, true, ℕ, ◌+◌, ◌<◌, ◌≡◌, ◌≤◌};
 
-/// States that each kind of step is possible: if what its clause asks of the places, locks, flags
-/// and slots holds, the step makes the clause's change, and no other. The function does nothing:
-/// its contract is the law.
+/// States that each kind of step is possible: if the places, locks, flags and slots are as its clause
+/// requires, the step makes the change of its clause, and no other. The function does nothing: its
+/// contract is the law.
 ///
-/// `file_theorem` says what steps never do. This law says what they do.
+/// `file_theorem` states what holds for every list of steps, so it would also hold for a machine that
+/// allows none. This law says what each step does.
 pub fn file_steps_law()
     // LOCKS
 
@@ -83,7 +84,7 @@ pub fn file_steps_law()
 
     // TAKES
 
-    // A party looks at a slot that has a message.
+    // A party begins a take at a slot that has a message.
     ensures takes { (state : FileState) (process party slot bucket size : ℕ) → MayBegin state process party
         → IsSlot state.words slot (Message bucket size)
         → Makes state (Take process party slot) Moves state.words (Seen party slot bucket size) }
@@ -114,7 +115,7 @@ pub fn file_steps_law()
         → Makes state (Next process)
         (OnFlag (Detach party bucket)) (with_flag state.words bucket (DetachedBy party)) Outside }
 
-    // A party that begins a `done` looks at a slot that has a message.
+    // A party begins a `done` at a slot that has a message.
     ensures says_done { (state : FileState) (process party slot bucket size : ℕ) → MayBegin state process party
         → IsSlot state.words slot (Message bucket size)
         → Makes state (Done process party slot) Moves state.words (Finding party slot bucket) }

@@ -65,8 +65,12 @@ returns c = record {
   settler_keeps = λ state process party slot bucket there held. simp (there, held, itself);
   settler_finds_sent = λ state process party slot bucket there is. simp (there, is, itself);
   settler_passes_others = λ state process party slot bucket there unheld undetached below.
-      simp (there, not_flag state.words bucket (HeldBy party) unheld,
-      not_flag state.words bucket (DetachedBy party) undetached, lt-ltb slot (length state.words.slots) below);
+      simp (
+        there,
+        not_flag state.words bucket (HeldBy party) unheld,
+        not_flag state.words bucket (DetachedBy party) undetached,
+        lt-ltb slot (length state.words.slots) below,
+      );
   settler_detaches = λ state process party slot bucket there. simp (there);
   settler_addresses = λ state process party slot bucket there is below.
       simp (there, is, lt-ltb slot (length state.words.slots) below, itself);
