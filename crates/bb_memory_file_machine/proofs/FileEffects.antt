@@ -1,5 +1,5 @@
 -- Each effect keeps the words sound, and keeps what another process relies on.
-use Rattle.bb_memory_file_machine.proofs.FileInvariant.{HoldsNoMessage, IsCleared, IsOnly, Names, PlaceHas}
+use Rattle.bb_memory_file_machine.proofs.FileInvariant.{HasFound, HoldsNoMessage, IsCleared, Names, PlaceHas}
 use Rattle.bb_memory_file_machine.specs.FileLaws.{Effect, IsFlag, IsHolder, IsIn, IsKnown, IsLock, IsOutside, IsSlot, addresses, attaches, attaches_number, detaches, detaches_number, empties, fills, frees_lock, gives_back, none, takes, takes_lock}
 use Rattle.bb_memory_file_machine.specs.FileMachine.{Addressing, Attached, Checking, DetachedBy, Empty, Ending, FileOutcome, FileWords, Finding, Flag, Flags, Free, HeldBy, Keeping, Late, Message, Place, Posting, Seen, Sent, Settled, Slot, Slots, nobody, with_lock, with_slot}
 use Rattle.bb_memory_lists.proofs.SliceGets.{slice_get-set_apart, slice_get-set_at}
@@ -252,12 +252,17 @@ module _ (words later : FileWords) (party process : ℕ) where
     | inr unnamed ↦ unnamed (named_rests bucket r now)
   ]
 
-  only_rests : (slot bucket : ℕ) → Rests words later party process → IsOnly words party slot bucket →
-      IsOnly later party slot bucket
-  only_rests slot bucket r one other has now = elim (r.filled other slot has) [
-    | inl had ↦ one other had (named_rests other r now)
-    | inr unnamed ↦ absurd (unnamed (named_rests other r now))
-  ]
+  found_rests : (slot bucket : ℕ) → Rests words later party process → HasFound words process party slot bucket →
+      HasFound later process party slot bucket
+  found_rests slot bucket r has = record {
+    own = r.lock;
+    cleared = cleared_rests slot r has.cleared;
+    found = λ now. let named = named_rests bucket r now in r.stays bucket slot named (has.found named);
+    one = λ other here now. elim (r.filled other slot here) [
+      | inl there ↦ has.one other there (named_rests other r now)
+      | inr unnamed ↦ absurd (unnamed (named_rests other r now))
+    ];
+  }
 
 -- the invariant of a process at this place still holds after steps of others
 pub place_rests : (words later : FileWords) (process : ℕ) (place : Place) → PlaceHas words process place →
@@ -284,24 +289,13 @@ place_rests words later process (Ending party slot bucket) (lock, held, has) oth
     let r = others party lock in (r.lock, r.kept bucket held, r.stays bucket slot (inl held) has)
 place_rests words later process (Slots party slot) (lock, cleared) others =
     let r = others party lock in (r.lock, cleared_rests words later party process slot r cleared)
-place_rests words later process (Checking party slot bucket) (lock, cleared, found, one) others =
-    let r = others party lock in (
-      r.lock,
-      cleared_rests words later party process slot r cleared,
-      (λ now. let named = named_rests words later party process bucket r now in r.stays bucket slot named (found named)),
-      only_rests words later party process slot bucket r one,
-    )
-place_rests words later process (Keeping party slot bucket) (lock, cleared, held, has) others =
-    let r = others party lock in
-    (r.lock, cleared_rests words later party process slot r cleared, r.kept bucket held, r.stays bucket slot (inl held) has)
-place_rests words later process (Addressing party slot bucket) (lock, cleared, unheld, found, one) others =
-    let r = others party lock in (
-      r.lock,
-      cleared_rests words later party process slot r cleared,
-      (λ now. unheld (r.held bucket now)),
-      (λ now. let is = r.detached bucket now in r.stays bucket slot (inr is) (found is)),
-      only_rests words later party process slot bucket r one,
-    )
+place_rests words later process (Checking party slot bucket) has others =
+    found_rests words later party process slot bucket (others party has.own) has
+place_rests words later process (Keeping party slot bucket) (has, held) others =
+    let r = others party has.own in (found_rests words later party process slot bucket r has, r.kept bucket held)
+place_rests words later process (Addressing party slot bucket) (has, unheld) others =
+    let r = others party has.own in
+    (found_rests words later party process slot bucket r has, (λ now. unheld (r.held bucket now)))
 place_rests words later process (Flags party bucket) (lock, no_message, given) others =
     let r = others party lock in
     (r.lock, no_message_rests words later party process r no_message, (λ before less now. given before less (r.held before now)))

@@ -2,7 +2,7 @@
 ghost use Rattle.bb_memory_file_machine.specs.FileLaws.{IsFlag, IsHolder, IsInSome, IsLock, IsPlace, IsSlot};
 ghost use Rattle.bb_memory_file_machine.specs.FileMachine.{Addresses, Addressing, Allocate, AttachFrom, AttachNumber, Attached, Checking, Dead, Deallocate, Detach, DetachNumber, DetachedBy, Dies, Done, Empty, Ending, Exchange, FileState, Finding, Flags, Free, GiveBack, HeldBy, Keeping, Kill, Late, Leave, Lock, Message, Moves, Next, OnFlag, OnLock, OnSlot, Outside, Place, Post, Posting, Receives, Recover, Release, Seen, Sent, Settled, Slots, Take, TryAt, Unlock, nobody, with_flag, with_lock, with_outside, with_slot};
 ghost use Rattle.bb_memory_file_machine.specs.FileMoves.{IsUnlocked, Makes, MayBegin};
-ghost use Rattle.std.specs.Prelude.{None, Some, false, length, true, ℕ, ◌+◌, ◌<◌, ◌≡◌, ◌≤◌};
+ghost use Rattle.std.specs.Prelude.{None, Some, false, length, true, ℕ, ◌+◌, ◌<◌, ◌≤◌};
 
 /// States that each kind of step is possible: if the places, locks, flags and slots are as its clause
 /// requires, the step makes the change of its clause, and no other. The function does nothing: its
