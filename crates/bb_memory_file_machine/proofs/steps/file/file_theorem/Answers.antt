@@ -6,13 +6,16 @@ use Rattle.bb_memory_file_machine.proofs.FileTakers.{taker_attached}
 use Rattle.bb_memory_file_machine.proofs.FileTheorem.{addressed_always, effect_always, kept_always, locked_always, never_free_always, nothing_lost, one_process, received_always, settled_always, stays_always}
 use Rattle.bb_memory_file_machine.proofs.steps.file.file_theorem.Goals as goal
 use Rattle.bb_memory_file_machine.specs.FileLaws.{IsOutside, UsesNumber}
-use Rattle.bb_memory_file_machine.specs.FileMachine.{AttachNumber, DetachedBy, FileMove, FileState, FileStep, FileWords, Flags, Outside, Place, Recover, Refused, attach_number, change_at, is_flag, is_own, left_by, move_at, process_of, recover, refused}
+use Rattle.bb_memory_file_machine.specs.FileMachine.{AttachNumber, DetachedBy, FileMove, FileScene, FileState, FileStep, FileWords, Flags, Outside, Place, Recover, Refused, attach_number, change_at, is_flag, is_own, left_by, move_at, opening_state, process_of, recover, refused}
 use Rattle.bb_memory_file_machine.specs.FilePool.{flag_steps, pool_of}
 use Rattle.bb_memory_lists.proofs.SliceGets.{slice_get-replicated}
 use Rattle.bb_memory_pool_machine.proofs.PoolRuns.{pool_run, run_is_sound}
 use Rattle.std.proofs.Common.{Bool, List, None, Option, Some, [], arith, false, refl, suc, true, zero, ℕ, ◌∷◌, ◌≡◌, ◌≢◌}
 use Rattle.std.proofs.lemmas.Bool.{cond_both}
 use Rattle.std.specs.Prelude.{slice_get, slice_set}
+
+unknown : (scene : FileScene) (bucket : ℕ) → ¬ IsOutside (opening_state scene).words bucket
+unknown scene bucket known = let same = slice_get-replicated scene.buckets bucket false true known in absurd (cc)
 
 unmarked : (outside : List Bool) (at bucket : ℕ) → at ≡ bucket → ¬ (slice_get (slice_set outside at false) bucket ≡ Some true)
 unmarked [] at bucket same known = absurd (cc)
@@ -69,8 +72,7 @@ returns c = record {
   one_slot = λ scene steps. (holds_always scene steps).sound.one_slot;
   never_free = never_free_always;
   known = λ scene steps. (holds_always scene steps).sound.known;
-  unknown = λ scene bucket known.
-      let same = slice_get-replicated scene.buckets bucket false true known in absurd (cc);
+  unknown = unknown;
   forgotten = λ scene steps step bucket.
       let state = left_by scene steps in forgotten state step bucket (slice_get state.places (process_of step));
   settled = settled_always;
