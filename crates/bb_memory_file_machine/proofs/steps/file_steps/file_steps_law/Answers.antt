@@ -30,62 +30,62 @@ past_end (x ∷ xs) (suc i) end = past_end xs i (omega (arith, end))
 
 pub returns : goal.returns
 returns c = record {
-  locks = λ state process party there free. simp (there, free);
-  leaves = λ state process party may. simp (may.place, may.lock, itself);
-  allocates = λ state process party bucket may free. simp (may.place, may.lock, free, itself);
+  locks = λ state process party there free. simp (there, free) refl;
+  leaves = λ state process party may. simp (may.place, may.lock, itself) refl;
+  allocates = λ state process party bucket may free. simp (may.place, may.lock, free, itself) refl;
   deallocates = λ state process party bucket may held not_in.
-      simp (may.place, may.lock, held, none_has state.words bucket not_in, itself);
+      simp (may.place, may.lock, held, none_has state.words bucket not_in, itself) refl;
   detaches = λ state process party bucket may held not_in.
-      simp (may.place, may.lock, held, none_has state.words bucket not_in, itself);
+      simp (may.place, may.lock, held, none_has state.words bucket not_in, itself) refl;
   puts_back = λ state process party bucket may held has.
-      simp (may.place, may.lock, held, one_has state.words bucket has, itself);
-  attaches = λ state process party bucket from may is. simp (may.place, may.lock, is, itself);
+      simp (may.place, may.lock, held, one_has state.words bucket has, itself) refl;
+  attaches = λ state process party bucket from may is. simp (may.place, may.lock, is, itself) refl;
   posts = λ state process party slot bucket size may held not_in empty.
-      simp (may.place, may.lock, held, none_has state.words bucket not_in, empty, itself);
-  post_detaches = λ state process party bucket there. simp (there);
-  post_addresses = λ state process party bucket there is. simp (there, is, itself);
+      simp (may.place, may.lock, held, none_has state.words bucket not_in, empty, itself) refl;
+  post_detaches = λ state process party bucket there. simp there refl;
+  post_addresses = λ state process party bucket there is. simp (there, is, itself) refl;
   post_is_taken = λ state process party bucket there not.
-      simp (there, not_flag state.words bucket (DetachedBy party) not);
-  takes = λ state process party slot bucket size may is. simp (may.place, may.lock, is, itself);
-  take_attaches = λ state process party slot bucket size from there is. simp (there, is, itself);
-  take_ends = λ state process party slot bucket size there. simp (there);
-  take_receives = λ state process party slot bucket size there is. simp (there, is, itself);
+      simp (there, not_flag state.words bucket (DetachedBy party) not) refl;
+  takes = λ state process party slot bucket size may is. simp (may.place, may.lock, is, itself) refl;
+  take_attaches = λ state process party slot bucket size from there is. simp (there, is, itself) refl;
+  take_ends = λ state process party slot bucket size there. simp there refl;
+  take_receives = λ state process party slot bucket size there is. simp (there, is, itself) refl;
   take_is_late = λ state process party slot bucket size there not.
-      simp (there, not_slot state.words slot (Message bucket size) not);
-  take_detaches = λ state process party bucket there. simp (there);
-  says_done = λ state process party slot bucket size may is. simp (may.place, may.lock, is, itself);
-  done_finds_own = λ state process party slot bucket there held. simp (there, held, itself);
+      simp (there, not_slot state.words slot (Message bucket size) not) refl;
+  take_detaches = λ state process party bucket there. simp there refl;
+  says_done = λ state process party slot bucket size may is. simp (may.place, may.lock, is, itself) refl;
+  done_finds_own = λ state process party slot bucket there held. simp (there, held, itself) refl;
   done_ends = λ state process party slot bucket there not.
-      simp (there, not_flag state.words bucket (HeldBy party) not);
-  done_empties = λ state process party slot bucket there. simp (there);
+      simp (there, not_flag state.words bucket (HeldBy party) not) refl;
+  done_empties = λ state process party slot bucket there. simp there refl;
   settler_passes_empty = λ state process party slot there empty.
-      simp (there, empty, lt-ltb slot (length state.words.slots) (below_end state.words.slots slot Empty empty));
-  settler_finds = λ state process party slot bucket size there is. simp (there, is);
-  settler_ends_slots = λ state process party slot there end. simp (there, past_end state.words.slots slot end);
-  settler_keeps = λ state process party slot bucket there held. simp (there, held, itself);
-  settler_finds_sent = λ state process party slot bucket there is. simp (there, is, itself);
+      simp (there, empty, lt-ltb slot (length state.words.slots) (below_end state.words.slots slot Empty empty)) refl;
+  settler_finds = λ state process party slot bucket size there is. simp (there, is) refl;
+  settler_ends_slots = λ state process party slot there end. simp (there, past_end state.words.slots slot end) refl;
+  settler_keeps = λ state process party slot bucket there held. simp (there, held, itself) refl;
+  settler_finds_sent = λ state process party slot bucket there is. simp (there, is, itself) refl;
   settler_passes_others = λ state process party slot bucket there unheld undetached below.
       simp (
         there,
         not_flag state.words bucket (HeldBy party) unheld,
         not_flag state.words bucket (DetachedBy party) undetached,
         lt-ltb slot (length state.words.slots) below,
-      );
-  settler_detaches = λ state process party slot bucket there. simp (there);
+      ) refl;
+  settler_detaches = λ state process party slot bucket there. simp there refl;
   settler_addresses = λ state process party slot bucket there is below.
-      simp (there, is, lt-ltb slot (length state.words.slots) below, itself);
+      simp (there, is, lt-ltb slot (length state.words.slots) below, itself) refl;
   settler_passes_taken = λ state process party slot bucket there not below.
-      simp (there, not_flag state.words bucket (DetachedBy party) not, lt-ltb slot (length state.words.slots) below);
+      simp (there, not_flag state.words bucket (DetachedBy party) not, lt-ltb slot (length state.words.slots) below) refl;
   settler_gives_back = λ state process party bucket there held.
-      simp (there, held, lt-ltb bucket (length state.words.flags) (below_end state.words.flags bucket (HeldBy party) held), itself);
+      simp (there, held, lt-ltb bucket (length state.words.flags) (below_end state.words.flags bucket (HeldBy party) held), itself) refl;
   settler_passes_unheld = λ state process party bucket there not below.
-      simp (there, not_flag state.words bucket (HeldBy party) not, lt-ltb bucket (length state.words.flags) below);
+      simp (there, not_flag state.words bucket (HeldBy party) not, lt-ltb bucket (length state.words.flags) below) refl;
   settler_ends_flags = λ state process party bucket there end.
-      simp (there, le-ltb bucket (length state.words.flags) end);
-  settler_recovers = λ state process party at bucket there is. simp (there, is, itself);
-  settler_joins = λ state process party there. simp (there);
-  settler_unlocks = λ state process party there. simp (there);
-  settler_gives_up = λ state process party there. simp (there);
-  dies = λ state process place there. simp (there);
-  releases = λ state process party there lock. simp (there, lock, itself);
+      simp (there, le-ltb bucket (length state.words.flags) end) refl;
+  settler_recovers = λ state process party at bucket there is. simp (there, is, itself) refl;
+  settler_joins = λ state process party there. simp there refl;
+  settler_unlocks = λ state process party there. simp there refl;
+  settler_gives_up = λ state process party there. simp there refl;
+  dies = λ state process place there. simp there refl;
+  releases = λ state process party there lock. simp (there, lock, itself) refl;
 }
