@@ -1,5 +1,5 @@
 -- Each effect keeps the words sound, and keeps what another process relies on.
-use Rattle.bb_memory_file_machine.proofs.FileInvariant.{HoldsNoMessage, IsCleared, IsOnly, Names, PlaceHas}
+use Rattle.bb_memory_file_machine.proofs.FileInvariant.{HasFound, HoldsNoMessage, IsCleared, Names, PlaceHas}
 use Rattle.bb_memory_file_machine.specs.FileLaws.{Effect, IsFlag, IsHolder, IsIn, IsKnown, IsLock, IsOutside, IsSlot, addresses, attaches, attaches_number, detaches, detaches_number, empties, fills, frees_lock, gives_back, none, takes, takes_lock}
 use Rattle.bb_memory_file_machine.specs.FileMachine.{Addressing, Attached, Checking, DetachedBy, Empty, Ending, FileOutcome, FileWords, Finding, Flag, Flags, Free, HeldBy, Keeping, Late, Message, Place, Posting, Seen, Sent, Settled, Slot, Slots, nobody, with_lock, with_slot}
 use Rattle.bb_memory_lists.proofs.SliceGets.{slice_get-set_apart, slice_get-set_at}
@@ -32,6 +32,17 @@ one_value xs i x y is too = same_Some x y (sym is ∙ too)
 pub apart_by_value : {X : Type 0} (xs : List X) (i j : ℕ) (x y : X) → slice_get xs i ≡ Some x → slice_get xs j ≡ Some y →
     ¬ (x ≡ y) → i ≢ j
 apart_by_value xs i j x y is there apart same = apart (one_value xs i x y is (ap (slice_get xs) same ∙ there))
+
+-- after a write over another value, a value is where it was
+pub stays_apart : {X : Type 0} (xs : List X) (i j : ℕ) (v old x : X) → slice_get xs i ≡ Some old → slice_get xs j ≡ Some x →
+    ¬ (old ≡ x) → slice_get (slice_set xs i v) j ≡ Some x
+stays_apart xs i j v old x is there apart = slice_get-set_apart xs i j v (apart_by_value xs i j old x is there apart) ∙ there
+
+-- a bucket that isn't in the slot that is written stays in its slot
+pub stays_in : (words : FileWords) (slot : ℕ) (word old : Slot) (bucket other : ℕ) → IsSlot words slot old →
+    ((size : ℕ) → ¬ (old ≡ Message bucket size)) → IsIn words bucket other → IsIn (with_slot words slot word) bucket other
+stays_in words slot word old bucket other is not (size, has) =
+    (size, stays_apart words.slots slot other word old (Message bucket size) is has (not size))
 
 pub same_process : (words : FileWords) (party process other : ℕ) → IsLock words party process → IsLock words party other →
     process ≡ other
@@ -132,9 +143,7 @@ rests_slot words slot party process old word lock is apart not_own = record {
   kept = λ bucket held. held;
   held = λ bucket held. held;
   detached = λ bucket is. is;
-  stays = λ bucket other named has.
-      let place = apart_by_value words.slots slot other old (Message bucket has.0) is has.1 (apart bucket has.0 named) in
-      (has.0, slice_get-set_apart words.slots slot other word place ∙ has.1);
+  stays = λ bucket other named. stays_in words slot word old bucket other is (λ size. apart bucket size named);
   filled = λ bucket other has. elim (set_cases words.slots slot other word old (Message bucket has.0) is has.1) [
     | inl before ↦ inl (has.0, before.1)
     | inr this ↦ inr (not_own bucket has.0 this.1)
@@ -243,12 +252,17 @@ module _ (words later : FileWords) (party process : ℕ) where
     | inr unnamed ↦ unnamed (named_rests bucket r now)
   ]
 
-  only_rests : (slot bucket : ℕ) → Rests words later party process → IsOnly words party slot bucket →
-      IsOnly later party slot bucket
-  only_rests slot bucket r one other has now = elim (r.filled other slot has) [
-    | inl had ↦ one other had (named_rests other r now)
-    | inr unnamed ↦ absurd (unnamed (named_rests other r now))
-  ]
+  found_rests : (slot bucket : ℕ) → Rests words later party process → HasFound words process party slot bucket →
+      HasFound later process party slot bucket
+  found_rests slot bucket r has = record {
+    own = r.lock;
+    cleared = cleared_rests slot r has.cleared;
+    found = λ now. let named = named_rests bucket r now in r.stays bucket slot named (has.found named);
+    one = λ other here now. elim (r.filled other slot here) [
+      | inl there ↦ has.one other there (named_rests other r now)
+      | inr unnamed ↦ absurd (unnamed (named_rests other r now))
+    ];
+  }
 
 -- the invariant of a process at this place still holds after steps of others
 pub place_rests : (words later : FileWords) (process : ℕ) (place : Place) → PlaceHas words process place →
@@ -275,24 +289,13 @@ place_rests words later process (Ending party slot bucket) (lock, held, has) oth
     let r = others party lock in (r.lock, r.kept bucket held, r.stays bucket slot (inl held) has)
 place_rests words later process (Slots party slot) (lock, cleared) others =
     let r = others party lock in (r.lock, cleared_rests words later party process slot r cleared)
-place_rests words later process (Checking party slot bucket) (lock, cleared, found, one) others =
-    let r = others party lock in (
-      r.lock,
-      cleared_rests words later party process slot r cleared,
-      (λ now. let named = named_rests words later party process bucket r now in r.stays bucket slot named (found named)),
-      only_rests words later party process slot bucket r one,
-    )
-place_rests words later process (Keeping party slot bucket) (lock, cleared, held, has) others =
-    let r = others party lock in
-    (r.lock, cleared_rests words later party process slot r cleared, r.kept bucket held, r.stays bucket slot (inl held) has)
-place_rests words later process (Addressing party slot bucket) (lock, cleared, unheld, found, one) others =
-    let r = others party lock in (
-      r.lock,
-      cleared_rests words later party process slot r cleared,
-      (λ now. unheld (r.held bucket now)),
-      (λ now. let is = r.detached bucket now in r.stays bucket slot (inr is) (found is)),
-      only_rests words later party process slot bucket r one,
-    )
+place_rests words later process (Checking party slot bucket) has others =
+    found_rests words later party process slot bucket (others party has.own) has
+place_rests words later process (Keeping party slot bucket) (has, held) others =
+    let r = others party has.own in (found_rests words later party process slot bucket r has, r.kept bucket held)
+place_rests words later process (Addressing party slot bucket) (has, unheld) others =
+    let r = others party has.own in
+    (found_rests words later party process slot bucket r has, (λ now. unheld (r.held bucket now)))
 place_rests words later process (Flags party bucket) (lock, no_message, given) others =
     let r = others party lock in
     (r.lock, no_message_rests words later party process r no_message, (λ before less now. given before less (r.held before now)))

@@ -28,6 +28,15 @@ HoldsNoMessage words party = (slot bucket : ℕ) → IsIn words bucket slot → 
 abbrev pub IsOnly : FileWords → ℕ → ℕ → ℕ → Type 0
 IsOnly words party slot bucket = (other : ℕ) → IsIn words other slot → Names words other party → other ≡ bucket
 
+-- A settler has found this bucket in this slot. No slot before has a bucket whose flag names the
+-- settled number. While the flag of this bucket names the number, the bucket stays in the slot, and
+-- the slot gets no other such bucket.
+pub record HasFound (words : FileWords) (process party slot bucket : ℕ) : Type 0 where
+  pub own : IsLock words party process
+  pub cleared : IsCleared words party slot
+  pub found : Names words bucket party → IsIn words bucket slot
+  pub one : IsOnly words party slot bucket
+
 -- the party holds no bucket before this one
 abbrev pub IsGiven : FileWords → ℕ → ℕ → Type 0
 IsGiven words party bucket = (before : ℕ) → before < bucket → ¬ IsHolder words before party
@@ -48,14 +57,9 @@ PlaceHas words process (Finding party slot bucket) =
 PlaceHas words process (Ending party slot bucket) =
     IsLock words party process × IsHolder words bucket party × IsIn words bucket slot
 PlaceHas words process (Slots party slot) = IsLock words party process × IsCleared words party slot
-PlaceHas words process (Checking party slot bucket) =
-    IsLock words party process × IsCleared words party slot × (Names words bucket party → IsIn words bucket slot)
-    × IsOnly words party slot bucket
-PlaceHas words process (Keeping party slot bucket) =
-    IsLock words party process × IsCleared words party slot × IsHolder words bucket party × IsIn words bucket slot
-PlaceHas words process (Addressing party slot bucket) =
-    IsLock words party process × IsCleared words party slot × (¬ IsHolder words bucket party)
-    × (IsFlag words bucket (DetachedBy party) → IsIn words bucket slot) × IsOnly words party slot bucket
+PlaceHas words process (Checking party slot bucket) = HasFound words process party slot bucket
+PlaceHas words process (Keeping party slot bucket) = HasFound words process party slot bucket × IsHolder words bucket party
+PlaceHas words process (Addressing party slot bucket) = HasFound words process party slot bucket × (¬ IsHolder words bucket party)
 PlaceHas words process (Flags party bucket) =
     IsLock words party process × HoldsNoMessage words party × IsGiven words party bucket
 PlaceHas words process (Settled party) =

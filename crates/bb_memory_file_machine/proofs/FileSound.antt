@@ -1,8 +1,8 @@
 -- Each effect keeps the words sound.
-use Rattle.bb_memory_file_machine.proofs.FileEffects.{below_end, one_value, same_message, set_cases}
+use Rattle.bb_memory_file_machine.proofs.FileEffects.{below_end, one_value, set_cases, stays_in}
 use Rattle.bb_memory_file_machine.proofs.FileInvariant.{Sound}
-use Rattle.bb_memory_file_machine.specs.FileLaws.{Effect, IsFlag, IsHolder, IsInSome, IsOutside, IsSlot, addresses, attaches, attaches_number, detaches, detaches_number, empties, fills, frees_lock, gives_back, none, takes, takes_lock}
-use Rattle.bb_memory_file_machine.specs.FileMachine.{DetachedBy, Empty, FileOutcome, FileWords, Flag, Free, HeldBy, Message, Slot, nobody, with_slot}
+use Rattle.bb_memory_file_machine.specs.FileLaws.{Effect, IsFlag, IsHolder, IsIn, IsInSome, IsOutside, IsSlot, addresses, attaches, attaches_number, detaches, detaches_number, empties, fills, frees_lock, gives_back, none, takes, takes_lock}
+use Rattle.bb_memory_file_machine.specs.FileMachine.{DetachedBy, Empty, FileOutcome, FileWords, Flag, Free, HeldBy, Message, nobody, with_slot}
 use Rattle.bb_memory_file_machine.specs.FilePool.{IsTaken}
 use Rattle.bb_memory_lists.proofs.SliceGets.{length-set_at, slice_get-set_apart, slice_get-set_at, slice_get-set_same}
 use Rattle.std.proofs.Common.{Bool, List, Some, ap, arith, false, get_or, inl, inr, length, refl, sym, true, ℕ, ◌∙◌, ◌≡◌, ◌≢◌}
@@ -70,43 +70,41 @@ told_others : (words : FileWords) (bucket : ℕ) (known : Bool) (other : ℕ) �
     slice_get (slice_set words.outside bucket known) other ≡ Some true
 told_others words bucket known other apart is = slice_get-set_apart words.outside bucket other known apart ∙ is
 
+-- a message that is in a slot after one was filled is the one that was written, or was there before
+filled : (words : FileWords) (slot bucket size : ℕ) (at one : ℕ) → IsSlot words slot Empty →
+    IsIn (with_slot words slot (Message bucket size)) at one → ((slot ≡ one) × (bucket ≡ at)) ⊎ IsIn words at one
+filled words slot bucket size at one empty (length, now) =
+    elim (set_cases words.slots slot one (Message bucket size) Empty (Message at length) empty now) [
+      | inl before ↦ inr (length, before.1)
+      | inr here ↦ inl (here.0, let e = here.1 in cc)
+    ]
+
 sound_fill : (words : FileWords) (party slot bucket size : ℕ) → Sound words → IsHolder words bucket party →
     ¬ IsInSome words bucket → IsSlot words slot Empty → Sound (with_slot words slot (Message bucket size))
 sound_fill words party slot bucket size sound held not_in empty =
-    let word : Slot = Message bucket size in
+    let later : FileWords = with_slot words slot (Message bucket size) in
+    let was : (at one : ℕ) → IsIn later at one → ((slot ≡ one) × (bucket ≡ at)) ⊎ IsIn words at one =
+    λ at one. filled words slot bucket size at one empty in
+    let other : (at one : ℕ) → IsIn words at one → bucket ≢ at =
+    λ at one has same. not_in (one, (has.0, has.1 ∙ ap (λ (b : ℕ). Some (Message b has.0)) (sym same))) in
     record {
       same_length = sound.same_length;
-      one_slot = λ at one two has too.
-          elim (set_cases words.slots slot one word Empty (Message at has.0) empty has.1) [
-            | inl first ↦ elim (set_cases words.slots slot two word Empty (Message at too.0) empty too.1) [
-              | inl second ↦ sound.one_slot at one two (has.0, first.1) (too.0, second.1)
-              | inr here ↦
-                  let same : bucket ≡ at = let e = here.1 in cc in
-                  absurd (not_in (one, (has.0, first.1 ∙ ap (λ (b : ℕ). Some (Message b has.0)) (sym same))))
-            ]
-            | inr here ↦ elim (set_cases words.slots slot two word Empty (Message at too.0) empty too.1) [
-              | inl second ↦
-                  let same : bucket ≡ at = let e = here.1 in cc in
-                  absurd (not_in (two, (too.0, second.1 ∙ ap (λ (b : ℕ). Some (Message b too.0)) (sym same))))
-              | inr there ↦ sym here.0 ∙ there.0
-            ]
-          ];
-      taken = λ at one has. elim (set_cases words.slots slot one word Empty (Message at has.0) empty has.1) [
-        | inl before ↦ sound.taken at one (has.0, before.1)
-        | inr here ↦
-            let same : bucket ≡ at = let e = here.1 in cc in
-            inl (party, ap (slice_get words.flags) (sym same) ∙ held)
+      one_slot = λ at one two has too. elim (was at one has) [
+        | inl here ↦ elim (was at two too) [
+          | inl there ↦ sym here.0 ∙ there.0
+          | inr before ↦ absurd (other at two before here.1)
+        ]
+        | inr before ↦ elim (was at two too) [
+          | inl there ↦ absurd (other at one before there.1)
+          | inr second ↦ sound.one_slot at one two before second
+        ]
       ];
-      known = λ at other is. elim (sound.known at other is) [
-        | inl has ↦ inl (
-          has.0,
-          (
-            has.1.0,
-            slice_get-set_apart words.slots slot has.0 word (λ same.
-                let both = one_value words.slots has.0 Empty (Message at has.1.0)
-                (ap (slice_get words.slots) (sym same) ∙ empty) has.1.1 in absurd (cc)) ∙ has.1.1,
-          ),
-        )
+      taken = λ at one has. elim (was at one has) [
+        | inl here ↦ inl (party, ap (slice_get words.flags) (sym here.1) ∙ held)
+        | inr before ↦ sound.taken at one before
+      ];
+      known = λ at from is. elim (sound.known at from is) [
+        | inl has ↦ inl (has.0, stays_in words slot (Message bucket size) Empty at has.0 empty (λ length same. absurd (cc)) has.1)
         | inr told ↦ inr told
       ];
     }
@@ -114,28 +112,22 @@ sound_fill words party slot bucket size sound held not_in empty =
 sound_empty : (words : FileWords) (party slot bucket size : ℕ) → Sound words → IsHolder words bucket party →
     IsSlot words slot (Message bucket size) → Sound (with_slot words slot Empty)
 sound_empty words party slot bucket size sound held is =
-    let was : (at one length : ℕ) → slice_get (slice_set words.slots slot Empty) one ≡ Some (Message at length) →
-    IsSlot words one (Message at length) = λ at one length now.
-    elim (set_cases words.slots slot one Empty (Message bucket size) (Message at length) is now) [
-      | inl before ↦ before.1
+    let was : (at one : ℕ) → IsIn (with_slot words slot Empty) at one → IsIn words at one = λ at one has.
+    elim (set_cases words.slots slot one Empty (Message bucket size) (Message at has.0) is has.1) [
+      | inl before ↦ (has.0, before.1)
       | inr here ↦ let e = here.1 in absurd (cc)
     ] in
     record {
       same_length = sound.same_length;
-      one_slot = λ at one two has too.
-          sound.one_slot at one two (has.0, was at one has.0 has.1) (too.0, was at two too.0 too.1);
-      taken = λ at one has. sound.taken at one (has.0, was at one has.0 has.1);
+      one_slot = λ at one two has too. sound.one_slot at one two (was at one has) (was at two too);
+      taken = λ at one has. sound.taken at one (was at one has);
       known = λ at other there. elim (sound.known at other there) [
         | inl has ↦ inl (
           has.0,
-          (
-            has.1.0,
-            slice_get-set_apart words.slots slot has.0 Empty (λ same.
-                let both = same_message words has.0 bucket at
-                (size, ap (slice_get words.slots) (sym same) ∙ is) has.1 in
-                let flags = one_value words.flags at (HeldBy party) (DetachedBy other)
-                (ap (slice_get words.flags) (sym both) ∙ held) there in absurd (cc)) ∙ has.1.1,
-          ),
+          stays_in words slot Empty (Message bucket size) at has.0 is (λ length same.
+              let held_there : bucket ≡ at = cc in
+              let flags = one_value words.flags at (HeldBy party) (DetachedBy other)
+              (ap (slice_get words.flags) (sym held_there) ∙ held) there in absurd (cc)) has.1,
         )
         | inr told ↦ inr told
       ];

@@ -33,10 +33,10 @@ effect_of words place step move (sends process party bucket is) (own, known) = l
 effect_of words place step move (puts_late process party bucket) (own, held, known) = laws.detaches party bucket own held known
 effect_of words place step move (empties process party slot bucket) (own, held, (size, is)) =
     laws.empties party slot bucket size own held is
-effect_of words place step move (is_kept process party slot bucket) (own, cleared, held, in_slot) =
-    laws.detaches party bucket own held (inl (slot, in_slot))
-effect_of words place step move (addresses process party slot bucket is) (own, cleared, unheld, found, one) =
-    laws.addresses party bucket own is (slot, found is)
+effect_of words place step move (is_kept process party slot bucket) (has, held) =
+    laws.detaches party bucket has.own held (inl (slot, has.found (inl held)))
+effect_of words place step move (addresses process party slot bucket is) (has, unheld) =
+    laws.addresses party bucket has.own is (slot, has.found (inr is))
 effect_of words place step move (settles process party bucket held) (own, no_message, given) =
     laws.gives_back party bucket own held (λ known. no_message known.0 bucket known.1 (inl held))
 effect_of words place step move (recovers process party at bucket is) (own, no_message, given) =
@@ -155,44 +155,48 @@ place_after words place step move (empty_slot process party slot is) sound (own,
   cleared_next words words party slot cleared
       (λ bucket has. let same = one_value words.slots slot Empty (Message bucket has.0) is has.1 in absurd (cc)),
 )
-place_after words place step move (full_slot process party slot bucket size is) sound (own, cleared) =
-    (own, cleared, (λ named. (size, is)), (λ other has named. same_message words slot other bucket has (size, is)))
-place_after words place step move (keeps process party slot bucket held) sound (own, cleared, found, one) =
-    (own, cleared, held, found (inl held))
-place_after words place step move (has_sent process party slot bucket unheld is) sound (own, cleared, found, one) =
-    (own, cleared, unheld, (λ now. found (inr now)), one)
-place_after words place step move (anothers process party slot bucket unheld undetached) sound (own, cleared, found, one) = (
-  own,
-  cleared_next words words party slot cleared (λ other has named. unnamed_there words other bucket party
-      unheld undetached (one other has named) named),
+place_after words place step move (full_slot process party slot bucket size is) sound (own, cleared) = record {
+  own = own;
+  cleared = cleared;
+  found = λ named. (size, is);
+  one = λ other here named. same_message words slot other bucket here (size, is);
+}
+place_after words place step move (keeps process party slot bucket held) sound has = (has, held)
+place_after words place step move (has_sent process party slot bucket unheld is) sound has = (has, unheld)
+place_after words place step move (anothers process party slot bucket unheld undetached) sound has = (
+  has.own,
+  cleared_next words words party slot has.cleared (λ other here named. unnamed_there words other bucket party
+      unheld undetached (has.one other here named) named),
 )
-place_after words place step move (is_kept process party slot bucket) sound (own, cleared, held, here) =
+place_after words place step move (is_kept process party slot bucket) sound (has, held) =
     let later : FileWords = with_flag words bucket (DetachedBy party) in
     let was : (other : ℕ) → Names later other party → Names words other party =
     λ other now. named_still words bucket party other (HeldBy party) (DetachedBy party) held (inl held) now in (
-      own,
-      (λ before other less has now. cleared before other less has (was other now)),
+      record {
+        own = has.own;
+        cleared = λ before other less here now. has.cleared before other less here (was other now);
+        found = λ now. has.found (inl held);
+        one = λ other here now. has.one other here (was other now);
+      },
       (λ now.
           let flag = one_value later.flags bucket (HeldBy party) (DetachedBy party) now
           (slice_get-set_same words.flags bucket (DetachedBy party) (HeldBy party) held) in absurd (cc)),
-      (λ now. here),
-      (λ other has now. same_message words slot other bucket has here),
     )
-place_after words place step move (addresses process party slot bucket is) sound (own, cleared, unheld, found, one) =
+place_after words place step move (addresses process party slot bucket is) sound (has, unheld) =
     let later : FileWords = with_flag words bucket (DetachedBy (nobody words)) in
-    let apart = nobody_apart words party process own in
+    let apart = nobody_apart words party process has.own in
     let was : (other : ℕ) → Names later other party → (bucket ≢ other) × Names words other party =
     λ other now. still_named words bucket party other (DetachedBy party) (DetachedBy (nobody words)) is
     (λ same. absurd (cc)) (detached_apart (nobody words) party apart) now in (
-      own,
+      has.own,
       cleared_next words later party slot
-          (λ before other less has now. cleared before other less has (was other now).1)
-          (λ other has now. (was other now).0 (sym (one other has (was other now).1))),
+          (λ before other less here now. has.cleared before other less here (was other now).1)
+          (λ other here now. (was other now).0 (sym (has.one other here (was other now).1))),
     )
-place_after words place step move (is_gone process party slot bucket undetached) sound (own, cleared, unheld, found, one) = (
-  own,
-  cleared_next words words party slot cleared (λ other has named. unnamed_there words other bucket party
-      unheld undetached (one other has named) named),
+place_after words place step move (is_gone process party slot bucket undetached) sound (has, unheld) = (
+  has.own,
+  cleared_next words words party slot has.cleared (λ other here named. unnamed_there words other bucket party
+      unheld undetached (has.one other here named) named),
 )
 place_after words place step move (settles process party bucket held) sound (own, no_message, given) =
     let later : FileWords = with_flag words bucket Free in

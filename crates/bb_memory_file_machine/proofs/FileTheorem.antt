@@ -1,18 +1,18 @@
 -- Consequences of the invariant that holds for every state.
-use Rattle.bb_memory_file_machine.proofs.FileEffects.{apart_by_value, one_value, rests, same_process}
+use Rattle.bb_memory_file_machine.proofs.FileEffects.{one_value, rests, same_process, stays_apart}
 use Rattle.bb_memory_file_machine.proofs.FileInvariant.{Holds, PlaceHas}
 use Rattle.bb_memory_file_machine.proofs.FileKinds.{Kind, empties, kind_of, posts, receives}
 use Rattle.bb_memory_file_machine.proofs.FileSteps.{effect_of, holds_always, holds_at_opening, holds_step}
 use Rattle.bb_memory_file_machine.specs.FileLaws.{AreSettled, Effect, HasReceived, IsAccountedFor, IsFlag, IsHolder, IsIn, IsInCallBy, IsInSome, IsKnown, IsLock, IsPlace, IsSlot, SaysDone, number_of}
 use Rattle.bb_memory_file_machine.specs.FileLaws as laws
-use Rattle.bb_memory_file_machine.specs.FileMachine.{Addressing, Attached, Checking, DetachedBy, Empty, Ending, FileChange, FileMove, FileOutcome, FileScene, FileState, FileStep, FileWords, Finding, Flag, Flags, Free, HeldBy, Keeping, Late, Message, Place, Posting, Receives, Refused, Seen, Sent, Settled, Slot, Slots, change_at, file_after, file_step, left_by, move_at, nobody, opening_state, process_of}
+use Rattle.bb_memory_file_machine.specs.FileMachine.{Addressing, Attached, Checking, DetachedBy, Empty, Ending, FileChange, FileMove, FileOutcome, FileScene, FileState, FileStep, FileWords, Finding, Flag, Flags, Free, HeldBy, Keeping, Late, Message, Place, Posting, Receives, Refused, Seen, Sent, Settled, Slots, change_at, file_after, file_step, left_by, move_at, nobody, opening_state, process_of}
 use Rattle.bb_memory_file_machine.specs.FilePool.{IsTaken}
 use Rattle.bb_memory_lists.proofs.SliceGets.{length-set_at, slice_get-set_apart}
 use Rattle.std.proofs.Common.{List, None, Option, Some, [], ap, arith, inl, inr, length, refl, suc, sym, zero, ℕ, ◌<◌, ◌∙◌, ◌∷◌, ◌≡◌, ◌≢◌}
 use Rattle.std.proofs.lemmas.Bool.{cases_eq}
 use Rattle.std.proofs.lemmas.List.{length-replicate}
 use Rattle.std.proofs.lemmas.Option.{same_Some}
-use Rattle.std.specs.Prelude.{slice_get, slice_set, ◌⊎◌}
+use Rattle.std.specs.Prelude.{slice_get, ◌⊎◌}
 
 -- the effect of a step, in a state in which the invariant holds
 effect_at : (state : FileState) (step : FileStep) (found : Option Place) → slice_get state.places (process_of step) ≡ found →
@@ -72,12 +72,6 @@ received_always scene steps step slot said =
     received_at state step slot (slice_get state.places (process_of step)) refl (holds_always scene steps) said
 
 -- STAYS
-
--- after another slot was written, the message is there
-stays_apart : (slots : List Slot) (at slot : ℕ) (word old message : Slot) → slice_get slots at ≡ Some old →
-    slice_get slots slot ≡ Some message → ¬ (old ≡ message) → slice_get (slice_set slots at word) slot ≡ Some message
-stays_apart slots at slot word old message is there apart =
-    slice_get-set_apart slots at slot word (apart_by_value slots at slot old message is there apart) ∙ there
 
 stays_by : (state : FileState) (place : Place) (step : FileStep) (move : FileMove) (slot bucket size : ℕ) →
     Kind state.words place step move → PlaceHas state.words (process_of step) place → IsPlace state (process_of step) place →
@@ -209,9 +203,9 @@ lock_of_place words process party (Late number bucket) has is = own_number words
 lock_of_place words process party (Finding number slot bucket) has is = own_number words process number party has.0 is
 lock_of_place words process party (Ending number slot bucket) has is = own_number words process number party has.0 is
 lock_of_place words process party (Slots number slot) has is = own_number words process number party has.0 is
-lock_of_place words process party (Checking number slot bucket) has is = own_number words process number party has.0 is
-lock_of_place words process party (Keeping number slot bucket) has is = own_number words process number party has.0 is
-lock_of_place words process party (Addressing number slot bucket) has is = own_number words process number party has.0 is
+lock_of_place words process party (Checking number slot bucket) has is = own_number words process number party has.own is
+lock_of_place words process party (Keeping number slot bucket) has is = own_number words process number party has.0.own is
+lock_of_place words process party (Addressing number slot bucket) has is = own_number words process number party has.0.own is
 lock_of_place words process party (Flags number bucket) has is = own_number words process number party has.0 is
 lock_of_place words process party (Settled number) has is = own_number words process number party has.0 is
 lock_of_place words process party place has is = absurd (cc)

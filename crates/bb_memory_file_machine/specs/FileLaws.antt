@@ -1,5 +1,5 @@
 -- The terms of the theorem about the words of a pool in a file, and about its processes.
-use Rattle.bb_memory_file_machine.specs.FileMachine.{Addresses, Addressing, AttachFrom, Attached, Checking, Dead, Detach, DetachedBy, Empty, Ending, FileOutcome, FileScene, FileState, FileStep, FileWords, Finding, Flag, Flags, Free, GiveBack, HeldBy, Keeping, Late, Message, Next, OnFlag, OnLock, OnSlot, Place, Posting, Seen, Sent, Settled, Slot, Slots, TryAt, file_after, file_step, left_by, nobody, process_of, with_flag, with_lock, with_outside, with_slot}
+use Rattle.bb_memory_file_machine.specs.FileMachine.{Addresses, Addressing, AttachFrom, AttachNumber, Attached, Checking, Dead, Detach, DetachedBy, Empty, Ending, FileOutcome, FileScene, FileState, FileStep, FileWords, Finding, Flag, Flags, Free, GiveBack, HeldBy, Keeping, Late, Message, Next, OnFlag, OnLock, OnSlot, Place, Posting, Recover, Seen, Sent, Settled, Slot, Slots, TryAt, file_after, file_step, left_by, nobody, process_of, with_flag, with_lock, with_outside, with_slot}
 use Rattle.std.specs.Prelude.{Contains, List, None, Option, Some, [], false, replicate, slice_get, true, ℕ, ◌∷◌, ◌≡◌, ◌⊎◌}
 
 -- there is such a bucket, and its flag is this one
@@ -173,6 +173,14 @@ IsSettling state process party = (place : Place) × IsPlace state process place 
 abbrev pub CanSettle : FileState → ℕ → ℕ → Type 0
 CanSettle state process party =
     (steps : ℕ) × IsPlace (file_after state (replicate steps (Next process))) process (Settled party)
+
+-- NUMBERS
+
+-- by this step a party attaches the bucket by its number, or a settler takes the bucket back
+abbrev pub UsesNumber : FileStep → ℕ → Type 0
+UsesNumber (AttachNumber process party at from) bucket = at ≡ bucket
+UsesNumber (Recover process at) bucket = at ≡ bucket
+UsesNumber step bucket = ⊥
 
 -- TAKERS
 

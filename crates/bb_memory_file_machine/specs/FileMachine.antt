@@ -171,35 +171,37 @@ attaching words party bucket from next =
 abbrev pub giving_back : FileWords → ℕ → ℕ → Place → FileMove
 giving_back words party bucket next = move_of (OnFlag (GiveBack party bucket)) (with_flag words bucket Free) next
 
--- a process takes the lock of a number, and begins to settle the number
+-- a process takes the lock of a number, and begins to settle the number: `bb_pool_file_join` and
+-- `bb_pool_file_reap`
 abbrev pub lock : FileWords → ℕ → Place → ℕ → FileMove
 lock words process Outside party =
     if finds_free (slice_get words.locks party) then move_of (OnLock party) (with_lock words party (Some process)) (Slots party 0)
     else refused words Outside
 lock words process place party = refused words place
 
--- a process begins to settle a number whose lock it has
+-- a process begins to settle a number whose lock it has: `bb_pool_file_leave`
 abbrev pub leave : FileWords → ℕ → Place → ℕ → FileMove
 leave words process place party =
     if may_call words process place party then move_of Moves words (Slots party 0) else refused words place
 
--- a party takes a free bucket
+-- a party takes a free bucket: `bb_pool_party_allocate`, and each other call that allocates
 abbrev pub allocate : FileWords → ℕ → Place → ℕ → ℕ → FileMove
 allocate words process place party bucket =
     if may_call words process place party then (if is_flag words bucket Free
     then move_of (OnFlag (TryAt party bucket)) (with_flag words bucket (HeldBy party)) Outside
     else refused words place) else refused words place
 
--- A party gives back a bucket that it holds, and that is in no slot. The look at all slots is part
--- of this one step, since it models a duty of the host.
+-- A party gives back a bucket that it holds, and that is in no slot: `bb_pool_file_deallocate`, and
+-- each other call that frees. The look at all slots is part of this one step, since it models a
+-- duty of the host.
 abbrev pub deallocate : FileWords → ℕ → Place → ℕ → ℕ → FileMove
 deallocate words process place party bucket =
     if may_call words process place party then (if is_flag words bucket (HeldBy party)
     then (if some_has bucket words.slots then refused words place else giving_back words party bucket Outside)
     else refused words place) else refused words place
 
--- A party detaches a bucket that it holds. If no slot has the bucket, a channel outside knows its
--- number from now on.
+-- A party detaches a bucket that it holds: `bb_pool_file_detach`. If no slot has the bucket, a
+-- channel outside knows its number from now on.
 abbrev pub detach_number : FileWords → ℕ → Place → ℕ → ℕ → FileMove
 detach_number words process place party bucket =
     if may_call words process place party then (if is_flag words bucket (HeldBy party)
@@ -207,15 +209,17 @@ detach_number words process place party bucket =
     else detaching (with_outside words bucket true) party bucket Outside)
     else refused words place) else refused words place
 
--- a party attaches, by its number, a bucket that the party `from` has detached
+-- a party attaches, by its number, a bucket that the party `from` has detached:
+-- `bb_pool_file_attach`
 abbrev pub attach_number : FileWords → ℕ → Place → ℕ → ℕ → ℕ → FileMove
 attach_number words process place party bucket from =
     if may_call words process place party then (if is_flag words bucket (DetachedBy from)
     then attaching (with_outside words bucket false) party bucket from Outside
     else refused words place) else refused words place
 
--- A party fills an empty slot with a bucket that it holds, and that is in no slot. The look at all
--- slots is part of this one step, since it models a duty of the host.
+-- A party fills an empty slot with a bucket that it holds, and that is in no slot:
+-- `bb_pool_file_post`. The look at all slots is part of this one step, since it models a duty of the
+-- host.
 abbrev pub post : FileWords → ℕ → Place → ℕ → ℕ → ℕ → ℕ → FileMove
 post words process place party slot bucket length =
     if may_call words process place party then (if is_flag words bucket (HeldBy party)
@@ -230,7 +234,7 @@ abbrev pub take_found : FileWords → ℕ → ℕ → Option Slot → FileMove
 take_found words party slot (Some (Message bucket length)) = move_of Moves words (Seen party slot bucket length)
 take_found words party slot _ = refused words Outside
 
--- a party begins a take: it looks at the slot
+-- a party begins a take, `bb_pool_file_take`: it looks at the slot
 abbrev pub begin_take : FileWords → ℕ → Place → ℕ → ℕ → FileMove
 begin_take words process place party slot =
     if may_call words process place party then take_found words party slot (slice_get words.slots slot) else refused words place
@@ -247,13 +251,13 @@ abbrev pub done_found : FileWords → ℕ → ℕ → Option Slot → FileMove
 done_found words party slot (Some (Message bucket length)) = move_of Moves words (Finding party slot bucket)
 done_found words party slot _ = refused words Outside
 
--- a party begins a `done`: it looks at the slot
+-- a party begins a `done`, `bb_pool_file_done`: it looks at the slot
 abbrev pub begin_done : FileWords → ℕ → Place → ℕ → ℕ → FileMove
 begin_done words process place party slot =
     if may_call words process place party then done_found words party slot (slice_get words.slots slot) else refused words place
 
 -- A settler that has been over all slots attaches a bucket that the settled number had detached,
--- and goes over the flags again.
+-- and goes over the flags again: `bb_pool_file_reap`, if it is to free such buckets.
 abbrev pub recover : FileWords → Place → ℕ → FileMove
 recover words (Flags party next) bucket =
     if is_flag words bucket (DetachedBy party)
@@ -284,7 +288,9 @@ settle_message words party slot bucket =
     else (if is_flag words bucket (DetachedBy party) then move_of Moves words (Addressing party slot bucket)
     else move_of Moves words (Slots party (after_slot words slot)))
 
--- the next step of the call that the process is in
+-- The next step of the call that the process is in. `Posting` and `Sent` are places in
+-- `bb_pool_file_post`; `Seen`, `Attached` and `Late` in `bb_pool_file_take`; `Finding` and `Ending` in
+-- `bb_pool_file_done`. The others are places of a settler, in `settle` of `bb_pool_file.c`.
 abbrev pub next : FileWords → Place → FileMove
 next words Outside = refused words Outside
 next words Dead = refused words Dead
@@ -306,9 +312,10 @@ next words (Flags party bucket) =
     if nat_lt bucket (length words.flags) then settle_flag words party bucket else move_of Moves words (Settled party)
 next words (Settled party) = move_of Moves words Outside
 
--- A settler that is done, or that has not looked at a slot yet, frees the lock of the settled
--- number. A process that leaves may do so, too: then its number isn't settled until another process
--- takes the lock.
+-- A settler that is done frees the lock of the settled number: `bb_pool_file_leave` and
+-- `bb_pool_file_reap`. So does one that has not looked at a slot yet, if `bb_pool_file_join` or
+-- `bb_pool_file_reap` fails before that. A process that leaves may do so, too: then its number isn't
+-- settled until another process takes the lock.
 abbrev pub unlock : FileWords → Place → FileMove
 unlock words (Slots party zero) = move_of (OnLock party) (with_lock words party None) Outside
 unlock words (Settled party) = move_of (OnLock party) (with_lock words party None) Outside

@@ -1,6 +1,6 @@
 //! The steps of the machine of a pool in a file, and the theorem about every list of them.
-ghost use Rattle.bb_memory_file_machine.specs.FileLaws.{AreSettled, CanSettle, Effect, HasAttached, HasReceived, IsAccountedFor, IsFlag, IsHolder, IsIn, IsInCallBy, IsInSome, IsKnown, IsLock, IsPlace, IsSettling, IsSlot, SaysDone, StaysIn, after_post};
-ghost use Rattle.bb_memory_file_machine.specs.FileMachine.{DetachedBy, Ending, FileScene, FileStep, Free, Message, OnSlot, Place, Post, Receives, Settled, file_after, file_step, left_by, outcomes_of, process_of};
+ghost use Rattle.bb_memory_file_machine.specs.FileLaws.{AreSettled, CanSettle, Effect, HasAttached, HasReceived, IsAccountedFor, IsFlag, IsHolder, IsIn, IsInCallBy, IsInSome, IsKnown, IsLock, IsOutside, IsPlace, IsSettling, IsSlot, SaysDone, StaysIn, UsesNumber, after_post};
+ghost use Rattle.bb_memory_file_machine.specs.FileMachine.{DetachedBy, Ending, FileScene, FileStep, Free, Message, OnSlot, Place, Post, Receives, Refused, Settled, file_after, file_step, left_by, opening_state, outcomes_of, process_of};
 ghost use Rattle.bb_memory_file_machine.specs.FilePool.{IsPool, IsTaken, flag_steps, pool_of};
 ghost use Rattle.bb_memory_file_machine.specs.FileVariants.{FreesMessage, LosesBucket, ReceivesNothing, SharesNumber, TakesAway, attach_from_any, detach_then_post, no_second_look, reaps_the_living, settle_addresses_not, settle_forgets_slots, unlock_before};
 ghost use Rattle.bb_memory_pool_machine.specs.PoolLogs.{AreAsked, IsPoolRun, Layout};
@@ -287,6 +287,15 @@ pub fn file_theorem()
     ensures known { (scene : FileScene) (steps : List FileStep) (bucket party : ℕ)
         → IsFlag (left_by scene steps).words bucket (DetachedBy party)
         → IsKnown (left_by scene steps).words bucket }
+
+    // At the opening, no channel outside knows a number.
+    ensures unknown { (scene : FileScene) (bucket : ℕ) → ¬ IsOutside (opening_state scene).words bucket }
+
+    // After a party has attached a bucket by its number, or a settler has taken the bucket back, no
+    // channel outside knows the number.
+    ensures forgotten { (scene : FileScene) (steps : List FileStep) (step : FileStep) (bucket : ℕ)
+        → UsesNumber step bucket → (file_step (left_by scene steps) step).outcome ≢ Refused
+        → ¬ IsOutside (file_step (left_by scene steps) step).state.words bucket }
 
     // When a settler is done, the settled number holds no bucket.
     ensures settled { (scene : FileScene) (steps : List FileStep) (process party bucket : ℕ)

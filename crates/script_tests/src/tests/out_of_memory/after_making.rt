@@ -9,7 +9,7 @@ use bb_memory_base::steps::PoolStep::{
 use bb_memory_base::steps::{
     BumpOutcome, BumpStep, BumpWorld, PoolWorld, bump_theorem, pool_theorem,
 };
-use bb_memory_file_machine::steps::{file_theorem, file_variants_theorem};
+use bb_memory_file_machine::steps::{file_steps_law, file_theorem, file_variants_theorem};
 use test_marks::refuse_memory;
 
 /// The last of 1,000 parties takes a chunk.
@@ -120,6 +120,7 @@ fn the_theorems_do_nothing(rt: HostRuntime) {
     bump_theorem();
     pool_theorem();
     file_theorem();
+    file_steps_law();
     file_variants_theorem();
     none_requested(&rt);
 }
