@@ -21,6 +21,8 @@ from gate.files import MADE
 from gate.process import Failed, has, must_run, must_show, say
 from gate.temporary import temporary_folder
 
+# The program that replays traces of pools in files, once it is built.
+REPLAY = "crates/file_replay/out/file_replay"
 # The program that replaces `rt` once the release is made.
 NO_RT = '#!/bin/sh\necho "rt was called: $*" >&2\nexit 1\n'
 
@@ -94,7 +96,8 @@ class Hosts:
 
     def check_pool_file(self, environment: Mapping[str, str]) -> None:
         """Tests pools in files."""
-        pool_file.check(self.top, self.prefix, self.work / "pool_file", environment)
+        replay = self.top / REPLAY
+        pool_file.check(self.top, self.prefix, replay, self.work / "pool_file", environment)
 
     def check_rust(self, environment: Mapping[str, str]) -> None:
         """Tests the Rust crate."""

@@ -1,13 +1,18 @@
 """Runs the commands of the gate."""
 
 import os
+import select
 import shutil
+import signal
 import subprocess
 import sys
+import tempfile
+import time
 from collections.abc import Callable, Mapping, Sequence
+from contextlib import ExitStack, suppress
 from dataclasses import dataclass
 from pathlib import Path
-from typing import Any
+from typing import IO, Any
 
 # Arguments for a command whose two streams are read as one text.
 ONE_TEXT: dict[str, Any] = {
@@ -24,7 +29,10 @@ class Failed(Exception):
 
 @dataclass(frozen=True)
 class Finished:
-    """A command that has ended: its status, and the text of both streams as it was written."""
+    """A command that has ended: its status, and the text of both streams as it was written.
+
+    The status of a command that a signal ended is the number of the signal, negated.
+    """
 
     status: int
     text: str
@@ -54,6 +62,69 @@ def run(
         **ONE_TEXT,
     )
     return Finished(ran.returncode, ran.stdout)
+
+
+@dataclass(frozen=True)
+class Timed:
+    """A command that ended in the time that it had: its status, its streams, and how long it took."""
+
+    status: int
+    output: str
+    errors: str
+    seconds: float
+
+
+def run_within(
+    most: float, words: Sequence[str | Path], folder: Path, given: str = ""
+) -> Timed | None:
+    """Runs a command in a folder, for at most some seconds. Returns None if it hasn't ended then.
+
+    `given` is its standard input. The command leads a process group of its own, of which nothing is
+    left afterwards. Its streams are files, since a process that is left could keep a pipe open.
+    """
+    began = time.monotonic()
+    with ExitStack() as files:
+        given_file, output, errors = (
+            files.enter_context(tempfile.TemporaryFile()) for _ in range(3)
+        )
+        given_file.write(given.encode())
+        given_file.seek(0)
+        ran = subprocess.Popen(
+            [str(word) for word in words],
+            cwd=folder,
+            stdin=given_file,
+            stdout=output,
+            stderr=errors,
+            start_new_session=True,
+        )
+        has_ended = wait_and_end_group(ran, most)
+        seconds = time.monotonic() - began
+        timed = Timed(ran.returncode, contents(output), contents(errors), seconds)
+    return timed if has_ended else None
+
+
+def wait_and_end_group(leader: subprocess.Popen[bytes], most: float) -> bool:
+    """Waits for a command for at most some seconds, and ends all that is left of its group.
+
+    Returns whether the command has ended by itself.
+    """
+    has_ended = False
+    ended = os.pidfd_open(leader.pid)
+    try:
+        has_ended = bool(select.select([ended], [], [], most)[0])
+    finally:
+        os.close(ended)
+        # Until the leader is waited for, no other group can get its number.
+        with suppress(ProcessLookupError):
+            os.killpg(leader.pid, signal.SIGKILL)
+        leader.wait()
+    return has_ended
+
+
+def contents(file: IO[bytes]) -> str:
+    """Returns all that a file has."""
+    file.seek(0)
+    return file.read().decode(errors="replace")
 
 
 def must_run(
