@@ -1,4 +1,4 @@
-"""Runs the commands of the gate."""
+"""Runs the commands of the gate, and measures the processor time that they take."""
 
 import os
 import select
@@ -7,6 +7,7 @@ import signal
 import subprocess
 import sys
 import tempfile
+import threading
 import time
 from collections.abc import Callable, Mapping, Sequence
 from contextlib import ExitStack, suppress
@@ -48,20 +49,44 @@ class Finished:
         return self.text.strip().rpartition("\n")[2]
 
 
+class Used(threading.local):
+    """The processor seconds of the commands that a thread has run."""
+
+    seconds = 0.0
+
+
+# What the commands of each thread have used.
+USED = Used()
+
+
+def wait_for(started: subprocess.Popen[Any]) -> int:
+    """Waits for a command, and adds its processor time to that of this thread's commands.
+
+    Returns its status, or the number of the signal that ended it, negated.
+    """
+    _, status, used = os.wait4(started.pid, 0)
+    started.returncode = os.waitstatus_to_exitcode(status)
+    USED.seconds += used.ru_utime + used.ru_stime
+    return started.returncode
+
+
 def run(
     words: Sequence[str | Path],
     folder: Path,
     environment: Mapping[str, str] | None = None,
 ) -> Finished:
     """Runs a command in a folder to its end. Its standard input is empty."""
-    ran = subprocess.run(
+    ran = subprocess.Popen(
         [str(word) for word in words],
         cwd=folder,
         env=environment,
         stdin=subprocess.DEVNULL,
         **ONE_TEXT,
     )
-    return Finished(ran.returncode, ran.stdout)
+    with ran:
+        assert ran.stdout is not None
+        text = ran.stdout.read()
+        return Finished(wait_for(ran), text)
 
 
 @dataclass(frozen=True)
@@ -117,7 +142,7 @@ def wait_and_end_group(leader: subprocess.Popen[bytes], most: float) -> bool:
         # Until the leader is waited for, no other group can get its number.
         with suppress(ProcessLookupError):
             os.killpg(leader.pid, signal.SIGKILL)
-        leader.wait()
+        wait_for(leader)
     return has_ended
 
 
@@ -148,9 +173,10 @@ def must_show(
     """Runs a command and shows its output as it comes. Raises Failed if its status isn't 0."""
     sys.stdout.flush()
     command = [str(word) for word in words]
-    ran = subprocess.run(command, cwd=folder, env=environment, stdin=subprocess.DEVNULL)
-    if ran.returncode != 0:
-        raise Failed(f"status {ran.returncode}: {' '.join(command)}")
+    with subprocess.Popen(command, cwd=folder, env=environment, stdin=subprocess.DEVNULL) as ran:
+        status = wait_for(ran)
+    if status != 0:
+        raise Failed(f"status {status}: {' '.join(command)}")
 
 
 def say(text: str) -> None:

@@ -8,14 +8,15 @@ from enum import Enum
 # Errors in a proof file that only say that a name is gone, or that another declaration was refused.
 # They show nothing about a contract.
 NAME_IS_GONE = re.compile("has no |is not in scope|not admitted|stands on")
-# What is said of an open goal, or of a refused answer, if the prover has found values at which the
-# goal is false.
-VALUES = re.compile("allow values at which this goal is false|the goal fails at|does not follow")
-# What is said if the prover has stopped at a limit of its own, so that the goal may hold.
+# How the prover says that it stopped at a limit of its own. Then the goal may hold, even if it shows
+# values that break the goal by the facts that it had used.
 LIMIT = re.compile(
-    "at one of its limits|at its own limit|at a limit|so the goal may hold|could not check its values"
-    "|ran out of|(?:stopped|met) (?:at )?(?:a|the) (?:bound|step limit)|bound of its own"
+    "at one of its limits|so the goal may hold|could not check its values|ran out of"
 )
+# How it says that the values which it shows may not break the goal.
+UNSURE = re.compile("so these may not break the goal")
+# How it says that values make the goal false.
+VALUES = re.compile("allow values at which this goal is false|the goal fails at|does not follow")
 
 
 class Evidence(Enum):
@@ -112,9 +113,11 @@ def names_gone(path: str, text: str) -> list[str]:
 
 def evidence_of(said: str) -> Evidence:
     """Returns what is shown by the prover's words on an open goal."""
-    if VALUES.search(said):
+    if LIMIT.search(said):
+        return Evidence.LIMIT
+    if VALUES.search(said) and not UNSURE.search(said):
         return Evidence.VALUES
-    return Evidence.LIMIT if LIMIT.search(said) else Evidence.OPEN
+    return Evidence.OPEN
 
 
 def refused_answers(path: str, text: str) -> Iterator[str]:
