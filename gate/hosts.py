@@ -15,7 +15,7 @@ import subprocess
 from collections.abc import Mapping
 from pathlib import Path
 
-from gate import pool_file
+from gate import pool_file, times
 from gate.crates import TOP
 from gate.files import MADE
 from gate.process import Failed, has, must_run, must_show, say
@@ -150,15 +150,21 @@ def run(library: Path | None) -> None:
     """Tests everything that hosts get from a library. Raises Failed if a test fails."""
     with temporary_folder() as work:
         hosts = Hosts(TOP, work)
-        hosts.make_release(library)
-        hosts.build_replay()
+        with times.part("hosts: the release"):
+            hosts.make_release(library)
+            hosts.build_replay()
         environment = hosts.environment()
-        hosts.check_installation(environment)
-        hosts.run_examples(environment)
-        hosts.check_pool_file(environment)
-        hosts.check_rust(environment)
+        with times.part("hosts: the installation"):
+            hosts.check_installation(environment)
+        with times.part("hosts: examples"):
+            hosts.run_examples(environment)
+        with times.part("hosts: pools in files"):
+            hosts.check_pool_file(environment)
+        with times.part("hosts: the Rust crate"):
+            hosts.check_rust(environment)
         hosts.compare_release()
-        hosts.run_pages(environment)
+        with times.part("hosts: the pages"):
+            hosts.run_pages(environment)
 
 
 def main(words: list[str]) -> None:

@@ -23,7 +23,7 @@ from dataclasses import dataclass, field
 from enum import Enum
 from pathlib import Path
 
-from gate import edits, process, rt_output
+from gate import edits, process, rt_output, times
 from gate.crates import CORES, TOP, Workspace
 from gate.edits import BadEdit, Edit, Function
 from gate.kept import Kept, cache
@@ -234,6 +234,22 @@ def key_of(edit: Edit, crate: str) -> str:
     return found.hexdigest()
 
 
+def store() -> Path:
+    """Returns the folder, outside of all checkouts, that keeps what was refused."""
+    return cache() / "bb_memory/mutants"
+
+
+def crates_left(workspace: Workspace, kept: Kept) -> list[str]:
+    """Returns the crates that have an edit whose judgement isn't kept."""
+    run = Run(workspace, kept)
+    found = []
+    for name in workspace.crates:
+        good = edits_of(workspace, name).good
+        if good and len(run.read_kept(name, good)) < len(good):
+            found.append(name)
+    return found
+
+
 class Run:
     """One run over some crates of a checkout, which keeps what is refused."""
 
@@ -265,7 +281,8 @@ class Run:
 
     def judge_round(self, round_: Round, check: Check) -> list[Judgement]:
         """Judges the edits of a round, and prints and keeps the judgements."""
-        judgements = judge(round_, check)
+        with times.job(f"mutants of {round_.crate}: {len(round_.edits)}"):
+            judgements = judge(round_, check)
         self.keep(round_, judgements)
         report(judgements, self.workspace.top)
         return judgements
@@ -334,7 +351,7 @@ def main(names: list[str]) -> None:
         if name not in workspace.crates:
             raise Failed(f"mutants: crates.txt has no {name}")
     reasons = read_reasons(TOP / AT_A_LIMIT)
-    kept = Kept(cache() / "bb_memory/mutants", anew)
+    kept = Kept(store(), anew)
     with workspace.lock():
         found = Run(workspace, kept).judge_crates(names or list(workspace.crates))
     kept.remove_old()

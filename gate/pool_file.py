@@ -27,7 +27,7 @@ from contextlib import ExitStack
 from functools import partial
 from pathlib import Path
 
-from gate import edits, verdicts
+from gate import edits, times, verdicts
 from gate.pool_messages import Messages, Program
 from gate.pool_traces import MACHINE, Traces
 from gate.process import Failed, has, must_run, run_within, say
@@ -64,6 +64,12 @@ def refused_by(text: str) -> list[str]:
     if match is None:
         raise Failed("a mutant has no line `# refused by:`")
     return match[1].split()
+
+
+def measured(name: str, test: Callable[[], str]) -> str:
+    """Runs a test and measures it."""
+    with times.job(name):
+        return test()
 
 
 class PoolFile:
@@ -274,15 +280,18 @@ class PoolFile:
 
     def check_control(self, program: Path, words: Sequence[str]) -> Control:
         """Returns the control of a command. Raises Failed unless it passes."""
-        ran = run_within(LONGEST, self.words_for(program, words), self.work)
-        return verdicts.control(" ".join([program.name, *words]), ran, LONGEST)
+        command = " ".join([program.name, *words])
+        with times.job(f"control of `{command}`"):
+            ran = run_within(LONGEST, self.words_for(program, words), self.work)
+        return verdicts.control(command, ran, LONGEST)
 
     def check_mutant(self, file: Path, passed: Control) -> None:
         """Raises Failed unless a mutant is refused by the command of this control."""
         program, *words = passed.command.split()
-        mutant = self.build_mutant(file, program)
-        ran = run_within(passed.most, self.words_for(mutant, words), self.work)
-        shutil.rmtree(mutant.parent)
+        with times.job(f"{file.name} by `{passed.command}`"):
+            mutant = self.build_mutant(file, program)
+            ran = run_within(passed.most, self.words_for(mutant, words), self.work)
+            shutil.rmtree(mutant.parent)
         verdicts.must_refuse(file.name, ran, passed)
 
     def mutants(self) -> list[Path]:
@@ -310,21 +319,26 @@ class PoolFile:
         steps = traces.mutants_with_steps(self.mutants())
 
         def check(file: Path) -> None:
-            traces.check_mutant(self.build_mutant(file, "trace"), file.name, controls)
+            with times.job(f"{file.name} by the machine"):
+                traces.check_mutant(self.build_mutant(file, "trace"), file.name, controls)
 
         list(pool.map(check, steps))
         say(f"mutants of bb_pool_file.c: the machine refuses {len(steps)}")
 
-    def jobs(self) -> list[Callable[[], str]]:
-        """Returns the tests, the longest first. Each returns the text to print."""
-        jobs: list[Callable[[], str]] = []
-        if has("c++", self.environment):
-            jobs += [self.run_owners]
+    def jobs(self) -> dict[str, Callable[[], str]]:
+        """Returns the tests by name, the longest first. Each returns the text to print."""
+        jobs: dict[str, Callable[[], str]] = {}
         for form, tests in KILLS.items():
             kills = self.work / f"kills.{form}"
-            jobs += [partial(self.run_kills, kills, words) for words in tests]
-        jobs += [self.run_cases, self.run_mixed, self.compile_shown, self.run_command]
-        jobs += [self.run_examples]
+            for words in tests:
+                jobs[f"kills {' '.join(words)}, {form}"] = partial(self.run_kills, kills, words)
+        jobs["cases"] = self.run_cases
+        if has("c++", self.environment):
+            jobs["owners"] = self.run_owners
+        jobs["mixed"] = self.run_mixed
+        jobs["the program of bb_pool_file.h"] = self.compile_shown
+        jobs["bb-pool"] = self.run_command
+        jobs["producers and consumers"] = self.run_examples
         return jobs
 
     def check(self) -> None:
@@ -332,7 +346,7 @@ class PoolFile:
         self.build()
         with ExitStack() as made, ThreadPoolExecutor(os.cpu_count()) as pool:
             self.make_folders(made)
-            running = [pool.submit(job) for job in self.jobs()]
+            running = [pool.submit(measured, *job) for job in self.jobs().items()]
             for each in running:
                 say(each.result())
             self.check_mutants(pool)

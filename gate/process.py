@@ -49,24 +49,37 @@ class Finished:
         return self.text.strip().rpartition("\n")[2]
 
 
-class Used(threading.local):
-    """The processor seconds of the commands that a thread has run."""
+class Used:
+    """The processor seconds of the commands that have ended, in all threads and in each."""
 
-    seconds = 0.0
+    def __init__(self) -> None:
+        self.lock = threading.Lock()
+        self.total = 0.0
+        self.of_threads: dict[int, float] = {}
+
+    @property
+    def here(self) -> float:
+        """Returns the processor seconds of the commands that this thread has run."""
+        return self.of_threads.get(threading.get_ident(), 0.0)
+
+    def add(self, seconds: float) -> None:
+        """Adds those of a command that this thread has run."""
+        with self.lock:
+            self.total += seconds
+            self.of_threads[threading.get_ident()] = self.here + seconds
 
 
-# What the commands of each thread have used.
 USED = Used()
 
 
 def wait_for(started: subprocess.Popen[Any]) -> int:
-    """Waits for a command, and adds its processor time to that of this thread's commands.
+    """Waits for a command, and adds its processor time to what has been used.
 
     Returns its status, or the number of the signal that ended it, negated.
     """
     _, status, used = os.wait4(started.pid, 0)
     started.returncode = os.waitstatus_to_exitcode(status)
-    USED.seconds += used.ru_utime + used.ru_stime
+    USED.add(used.ru_utime + used.ru_stime)
     return started.returncode
 
 

@@ -7,7 +7,7 @@ names, if it names one. At the end the gate prints all parts, and the jobs that 
 import json
 import os
 import time
-from collections.abc import Iterator, Mapping
+from collections.abc import Iterator
 from contextlib import contextmanager
 from dataclasses import asdict, dataclass
 from pathlib import Path
@@ -42,30 +42,20 @@ class Measured:
 
 @contextmanager
 def part(name: str) -> Iterator[None]:
-    """Measures a part of the gate."""
-    with measured(name, True):
-        yield
+    """Measures a part of the gate that succeeds: the commands that all threads run in a block."""
+    began = time.monotonic()
+    before = USED.total
+    yield
+    Measured(name, True, time.monotonic() - began, USED.total - before).note()
 
 
 @contextmanager
 def job(name: str) -> Iterator[None]:
-    """Measures a job, which is some of the work of a part."""
-    with measured(name, False):
-        yield
-
-
-@contextmanager
-def measured(name: str, is_part: bool) -> Iterator[None]:
-    """Measures the commands that this thread runs in a block."""
+    """Measures a job, which is some of the work of a part: the commands of this thread."""
     began = time.monotonic()
-    before = USED.seconds
+    before = USED.here
     yield
-    Measured(name, is_part, time.monotonic() - began, USED.seconds - before).note()
-
-
-def environment_with(file: Path) -> Mapping[str, str]:
-    """Returns the variable by which the processes of the gate find the file."""
-    return {VARIABLE: str(file)}
+    Measured(name, False, time.monotonic() - began, USED.here - before).note()
 
 
 def read(file: Path) -> list[Measured]:
