@@ -128,7 +128,7 @@ class FunctionsTest(unittest.TestCase):
     def test_changes_in_bodies(self) -> None:
         found = self.changed("self.count() == 0 => self.count() >= 0", "> least => < least")
         self.assertEqual(
-            found, {edits.Function("src/lib.rt", 19), edits.Function("src/lib.rt", 26)}
+            found, {edits.Function("src/lib.rt", 18), edits.Function("src/lib.rt", 25)}
         )
 
     def test_a_change_of_a_type(self) -> None:
