@@ -17,21 +17,26 @@ run reads it, in any checkout of this user. `.ci/mutants --anew [NAME..]` reads 
 
 import hashlib
 import shutil
+import signal
 from collections.abc import Callable, Iterable, Mapping, Sequence
 from concurrent.futures import ThreadPoolExecutor
 from dataclasses import dataclass, field
 from enum import Enum
 from pathlib import Path
 
-from gate import edits, process, rt_output, times
+from gate import edits, rt_output, times
 from gate.crates import CORES, TOP, Workspace
 from gate.edits import BadEdit, Edit, Function
 from gate.kept import Kept, cache
-from gate.process import Failed, Finished, say
+from gate.process import Failed, Finished, run_within, say
 from gate.rt_output import Evidence
 
 # The edits that the prover refuses only at a limit of the search, each with a reason.
 AT_A_LIMIT = "gate/at_a_limit.txt"
+
+
+# The seconds after which a check is taken to hang. The longest takes some minutes.
+LONGEST = 3600
 
 
 class Outcome(Enum):
@@ -202,9 +207,11 @@ def check_in_lane(workspace: Workspace, label: str) -> Check:
         for file, text in round_.texts.items():
             (folder / file).write_text(text, encoding="utf-8")
         only = [f"--only={edit.function}" for edit in round_.edits]
-        said = process.run(["rt", "check", "--jobs", "1", *only], folder)
+        ran = run_within(LONGEST, ["rt", "check", "--jobs", "1", *only], folder)
         shutil.rmtree(lane.top)
-        return said
+        if ran is None:
+            return Finished(-signal.SIGKILL, f"the check hasn't ended after {LONGEST} s")
+        return Finished(ran.status, ran.output + ran.errors)
 
     return check
 

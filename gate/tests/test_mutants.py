@@ -176,6 +176,11 @@ class JudgeTest(CheckoutTest):
         self.assertEqual(self.judge_with_tool(self.refusing()), 2 * [Outcome.REFUSED])
         self.assertEqual(list((self.top / "crates" / CRATE / "out").iterdir()), [])
 
+    def test_a_check_that_hangs_judges_nothing(self) -> None:
+        self.add(round_up=ROUND_UP)
+        with patch("gate.mutants.LONGEST", 0.5):
+            self.assertEqual(self.judge_with_tool("sleep 600"), [Outcome.NOT_JUDGED])
+
     def test_what_is_refused_is_kept_until_something_changes(self) -> None:
         self.add(round_up=ROUND_UP, within=WITHIN)
         self.judge_with_tool(self.refusing())
