@@ -4,7 +4,7 @@ import unittest
 from unittest.mock import patch
 
 from gate import mutants
-from gate.crates import Workspace
+from gate.crates import TOP, Workspace
 from gate.kept import Kept
 from gate.mutants import Judgement, Outcome, Round, Run, judge, rounds_of
 from gate.process import Failed, Finished
@@ -229,6 +229,10 @@ class ReasonsTest(CheckoutTest):
         for text in ("low/must-fail/one.edit\n", "low/must-fail/two.edit: no such edit\n"):
             with self.subTest(text), self.assertRaises(Failed):
                 self.reasons(text)
+
+    def test_the_list_of_this_tree(self) -> None:
+        paths = list(mutants.read_reasons(TOP / mutants.AT_A_LIMIT))
+        self.assertEqual(paths, sorted(paths))
 
     def test_a_limit_needs_a_reason(self) -> None:
         reasons = {"low/must-fail/one.edit": "too large"}
