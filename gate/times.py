@@ -68,16 +68,17 @@ def read(file: Path) -> list[Measured]:
 
 def show(found: list[Measured]) -> None:
     """Prints each part, and the longest jobs."""
+    say("the parts of the gate, in the order in which they ended:")
     for each in found:
         if each.is_part:
-            say(f"{line_of(each)} {each.name}")
+            say(line_of(each))
     jobs = sorted((it for it in found if not it.is_part), key=lambda it: -it.elapsed)
     if jobs:
         say(f"the {min(len(jobs), LONGEST)} longest jobs:")
     for each in jobs[:LONGEST]:
-        say(f"{line_of(each)} {each.name}")
+        say(line_of(each))
 
 
 def line_of(each: Measured) -> str:
-    """Returns the figures of a line."""
-    return f"{each.elapsed:6.0f} s elapsed {each.processor:6.0f} s of processors"
+    """Returns the line that says what a part or a job took."""
+    return f"{each.elapsed:5.0f} s, {each.processor:5.0f} s of processor time: {each.name}"

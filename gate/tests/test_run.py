@@ -82,7 +82,7 @@ class GateTest(CheckoutTest):
     def test_it_prints_what_each_part_took(self) -> None:
         printed = self.run_gate()
         for part in ("texts", "proofs for C and mutants", "mutants", "rt ci", "OOM tests"):
-            self.assertRegex(printed, rf"(?m)^ +\d+ s elapsed +\d+ s of processors {part}$")
+            self.assertRegex(printed, rf"(?m)^ +\d+ s, +\d+ s of processor time: {part}$")
 
     def test_anew_reads_nothing_that_is_kept(self) -> None:
         words = '#!/bin/sh\necho "$*" >words\n'

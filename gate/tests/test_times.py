@@ -63,10 +63,10 @@ class TimesTest(unittest.TestCase):
         with redirect_stdout(printed):
             times.show(found)
         lines = printed.getvalue().splitlines()
-        self.assertEqual(lines[0], "   100 s elapsed    390 s of processors part")
-        self.assertEqual(lines[1], "the 10 longest jobs:")
-        self.assertEqual([line.rpartition(" ")[2] for line in lines[2:4]], ["11", "10"])
-        self.assertEqual(len(lines), 12)
+        self.assertEqual(lines[1], "  100 s,   390 s of processor time: part")
+        self.assertEqual(lines[2], "the 10 longest jobs:")
+        self.assertEqual([line.rpartition(" ")[2] for line in lines[3:5]], ["11", "10"])
+        self.assertEqual(len(lines), 13)
 
 
 if __name__ == "__main__":
