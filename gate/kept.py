@@ -43,11 +43,15 @@ class Kept:
         return reason if isinstance(reason, str) else None
 
     def write(self, key: str, reason: str) -> None:
-        """Keeps a reason under a key. A run beside this one never reads half of it."""
-        self.folder.mkdir(parents=True, exist_ok=True)
+        """Keeps a reason under a key, if the folder can be written.
+
+        A run beside this one never reads half of it.
+        """
         written = self.folder / f"{key}.{os.getpid()}"
-        written.write_text(json.dumps({"key": key, "reason": reason}), encoding="utf-8")
-        written.replace(self.folder / key)
+        with suppress(OSError):
+            self.folder.mkdir(parents=True, exist_ok=True)
+            written.write_text(json.dumps({"key": key, "reason": reason}), encoding="utf-8")
+            written.replace(self.folder / key)
 
     def remove_old(self) -> None:
         """Removes the entries that nothing has read for a month."""

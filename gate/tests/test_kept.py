@@ -38,6 +38,12 @@ class KeptTest(unittest.TestCase):
             (self.folder / "key").write_text(text, encoding="utf-8")
             self.assertIsNone(self.kept.read("key"), text)
 
+    def test_a_folder_that_cannot_be_made_keeps_nothing(self) -> None:
+        self.folder.parent.parent.joinpath("made").write_text("a file", encoding="utf-8")
+        self.kept.write("key", "a goal")
+        self.assertIsNone(self.kept.read("key"))
+        self.kept.remove_old()
+
     def test_entries_that_nothing_reads_are_removed(self) -> None:
         self.kept.remove_old()
         for key in ("old", "read", "new"):
