@@ -83,6 +83,10 @@ class Workspace:
         parts = [self.folder(name) / part for part in PROOF_FOLDERS]
         return sorted(file for part in parts if part.is_dir() for file in files_below(part, ()))
 
+    def reader(self, name: str) -> Callable[[str], str]:
+        """Returns a function that reads a file of a crate, by its path in the crate."""
+        return lambda file: (self.folder(name) / file).read_text(encoding="utf-8")
+
     def is_program(self, name: str) -> bool:
         """Returns whether a crate is a program."""
         return (self.folder(name) / "src/main.rt").exists()

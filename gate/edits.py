@@ -15,7 +15,7 @@ once. Further pairs apply to the result of the earlier ones.
 """
 
 import re
-from collections.abc import Callable
+from collections.abc import Callable, Sequence
 from dataclasses import dataclass
 from pathlib import Path
 
@@ -100,6 +100,65 @@ def parse_promise(value: str, number: int) -> Promise:
     if match is None:
         raise BadEdit(f"line {number}: not of the form `# promise: CALL: LABEL`: {value}")
     return Promise(match[1], match[2])
+
+
+# The first line of a function.
+FUNCTION = re.compile(r" *(?:[\w()\"]+ )*fn \w")
+
+
+def function_around(lines: Sequence[str], at: int) -> int | None:
+    """Returns the index of the line with which the function begins whose body has line `at`.
+
+    Returns None if the line is in no body, as far as the layout of `rt fmt` shows: if it is of a
+    type, an import or a signature, for example.
+    """
+    most = indent_of(lines[at]) - 1
+    is_in_body = False
+    for number in range(at - 1, -1, -1):
+        line = lines[number]
+        if not line.strip() or indent_of(line) > most:
+            continue
+        if FUNCTION.match(line) is not None:
+            return number if is_in_body or line.endswith("{") else None
+        # The brace of a body is below the clauses, or ends a signature of several lines.
+        is_brace = line.endswith("{") and line.lstrip()[0] in "{)"
+        is_in_body = is_in_body or is_brace
+        if not is_in_body:
+            most = indent_of(line) - 1
+        elif is_brace:
+            most = indent_of(line)
+    return None
+
+
+def indent_of(line: str) -> int:
+    """Returns the number of spaces with which a line begins."""
+    return len(line) - len(line.lstrip(" "))
+
+
+@dataclass(frozen=True)
+class Function:
+    """A function of a crate, by the file and the index of its first line. No edit moves a line."""
+
+    file: str
+    line: int
+
+
+def functions_changed(edit: Edit, read: Callable[[str], str]) -> frozenset[Function] | None:
+    """Returns the functions in whose bodies all changes of an edit are.
+
+    Returns None if a change is in no body, so that it may change a type. `read` returns the text of
+    a file. The edit can be applied to it.
+    """
+    found = set()
+    texts: dict[str, str] = {}
+    for change in edit.changes:
+        text = texts.setdefault(change.file, read(change.file))
+        line = function_around(text.split("\n"), text[: text.index(change.old)].count("\n"))
+        if line is None:
+            return None
+        found.add(Function(change.file, line))
+        texts[change.file] = text.replace(change.old, change.new)
+    return frozenset(found)
 
 
 def apply(edit: Edit, read: Callable[[str], str]) -> dict[str, str]:

@@ -15,12 +15,14 @@ import subprocess
 from collections.abc import Mapping
 from pathlib import Path
 
-from gate import pool_file
+from gate import pool_file, times
 from gate.crates import TOP
 from gate.files import MADE
 from gate.process import Failed, has, must_run, must_show, say
 from gate.temporary import temporary_folder
 
+# The program that replays traces of pools in files, once it is built.
+REPLAY = "crates/file_replay/out/file_replay"
 # The program that replaces `rt` once the release is made.
 NO_RT = '#!/bin/sh\necho "rt was called: $*" >&2\nexit 1\n'
 
@@ -94,7 +96,8 @@ class Hosts:
 
     def check_pool_file(self, environment: Mapping[str, str]) -> None:
         """Tests pools in files."""
-        pool_file.check(self.top, self.prefix, self.work / "pool_file", environment)
+        replay = self.top / REPLAY
+        pool_file.check(self.top, self.prefix, replay, self.work / "pool_file", environment)
 
     def check_rust(self, environment: Mapping[str, str]) -> None:
         """Tests the Rust crate."""
@@ -147,15 +150,21 @@ def run(library: Path | None) -> None:
     """Tests everything that hosts get from a library. Raises Failed if a test fails."""
     with temporary_folder() as work:
         hosts = Hosts(TOP, work)
-        hosts.make_release(library)
-        hosts.build_replay()
+        with times.part("hosts: the release"):
+            hosts.make_release(library)
+            hosts.build_replay()
         environment = hosts.environment()
-        hosts.check_installation(environment)
-        hosts.run_examples(environment)
-        hosts.check_pool_file(environment)
-        hosts.check_rust(environment)
+        with times.part("hosts: the installation"):
+            hosts.check_installation(environment)
+        with times.part("hosts: examples"):
+            hosts.run_examples(environment)
+        with times.part("hosts: pools in files"):
+            hosts.check_pool_file(environment)
+        with times.part("hosts: the Rust crate"):
+            hosts.check_rust(environment)
         hosts.compare_release()
-        hosts.run_pages(environment)
+        with times.part("hosts: the pages"):
+            hosts.run_pages(environment)
 
 
 def main(words: list[str]) -> None:

@@ -1,4 +1,4 @@
-"""Judges the mutants of all crates, or of some: `.ci/mutants [NAME..]`.
+"""Judges the mutants of all crates, or of some: `.ci/mutants [--anew] [NAME..]`.
 
 A mutant is a wrong body, made by an edit in crates/NAME/must-fail (gate/edits.py has the form). The
 edits are checked in rounds, the largest round first. Each round has a lane, in which
@@ -6,27 +6,45 @@ edits are checked in rounds, the largest round first. Each round has a lane, in 
 its callees. So an edit counts as refused only if a goal of its own function stays open: a goal of
 another function shows nothing about the contract.
 
-An edit that can't be read or applied, or whose text isn't a program, is a BAD EDIT. It is reported,
-and the other edits of its round are judged.
+Every other outcome fails, under a name of its own. An edit that can't be read or applied, or whose
+text isn't a program, is a BAD EDIT, and the other edits of its round are judged. If the prover only
+gave up, nothing is known of the contract. Such an edit has to become one that is refused sooner, or
+gate/at_a_limit.txt says why it can't.
+
+What is refused is kept, by a checksum of all that the judgement rests on (gate/kept.py). A later
+run reads it, in any checkout of this user. `.ci/mutants --anew [NAME..]` reads nothing.
 """
 
+import hashlib
 import shutil
-from collections.abc import Callable, Iterable, Sequence
+import signal
+from collections.abc import Callable, Iterable, Mapping, Sequence
 from concurrent.futures import ThreadPoolExecutor
 from dataclasses import dataclass, field
 from enum import Enum
 from pathlib import Path
 
-from gate import edits, process, rt_output
+from gate import edits, rt_output, times
 from gate.crates import CORES, TOP, Workspace
-from gate.edits import BadEdit, Edit
-from gate.process import Failed, Finished, say
+from gate.edits import BadEdit, Edit, Function
+from gate.kept import Kept, cache
+from gate.process import Failed, Finished, run_within, say
+from gate.rt_output import Evidence
+
+# The edits that the prover refuses only at a limit of the search, each with a reason.
+AT_A_LIMIT = "gate/at_a_limit.txt"
+
+
+# The seconds after which a check is taken to hang. The longest takes some minutes.
+LONGEST = 3600
 
 
 class Outcome(Enum):
     """The verdict on an edit. Only the first one passes the gate."""
 
     REFUSED = "refused"
+    AT_A_LIMIT = "AT A LIMIT OF THE SEARCH"
+    ONLY_NAMES = "ONLY NAMES ARE GONE"
     NOT_REFUSED = "NOT REFUSED"
     BAD_EDIT = "BAD EDIT"
     NOT_JUDGED = "NOT JUDGED"
@@ -45,13 +63,15 @@ class Judgement:
 class Round:
     """Edits of one crate, each of a different function, that are checked together.
 
-    `texts` has the files of the crate that the edits change, with all changes made.
+    `texts` has the files of the crate that the edits change, with all changes made. No two of the
+    edits change the same function.
     """
 
     crate: str
     read: Callable[[str], str]
     edits: list[Edit] = field(default_factory=list)
     texts: dict[str, str] = field(default_factory=dict)
+    functions: set[Function] = field(default_factory=set)
 
     def add(self, edit: Edit) -> None:
         """Adds an edit. Raises BadEdit if it can't be applied after those before."""
@@ -60,11 +80,14 @@ class Round:
             return self.texts[file] if file in self.texts else self.read(file)
 
         self.texts.update(edits.apply(edit, read))
+        self.functions |= edits.functions_changed(edit, self.read) or set()
         self.edits.append(edit)
 
-    def takes(self, edit: Edit) -> bool:
-        """Returns whether an edit can be added."""
+    def takes(self, edit: Edit, functions: frozenset[Function]) -> bool:
+        """Returns whether an edit that changes these functions can be added."""
         if any(each.function == edit.function for each in self.edits):
+            return False
+        if self.functions & functions:
             return False
         try:
             edits.apply(edit, lambda file: self.texts.get(file) or self.read(file))
@@ -78,68 +101,88 @@ Check = Callable[[Round], Finished]
 
 
 @dataclass
-class Rounds:
-    """The rounds of a crate's edits, and the edits that can't be read or applied."""
+class Edits:
+    """The edits of a crate that can be applied, and judgements of the others."""
 
-    rounds: list[Round]
+    good: list[Edit]
     bad: list[Judgement]
 
 
-def rounds_of(workspace: Workspace, crate: str) -> Rounds:
-    """Reads the edits of a crate and splits them into rounds.
-
-    An edit with several changes may change a type, so it has a round of its own.
-    """
-    folder = workspace.folder(crate)
-
-    def read(file: str) -> str:
-        return (folder / file).read_text(encoding="utf-8")
-
-    shared: list[Round] = []
-    single: list[Round] = []
-    bad = []
-    for path in sorted((folder / "must-fail").glob("*.edit")):
-        own = Round(crate, read)
+def edits_of(workspace: Workspace, crate: str) -> Edits:
+    """Reads the edits of a crate."""
+    found = Edits([], [])
+    for path in sorted((workspace.folder(crate) / "must-fail").glob("*.edit")):
         try:
             edit = edits.read_edit(path)
-            own.add(edit)
+            edits.apply(edit, workspace.reader(crate))
+            found.good.append(edit)
         except BadEdit as error:
-            bad.append(Judgement(path, Outcome.BAD_EDIT, str(error)))
-            continue
-        if len(edit.changes) > 1:
-            single.append(own)
-            continue
-        place = next((each for each in shared if each.takes(edit)), None)
-        if place is None:
-            shared.append(own)
-        else:
-            place.add(edit)
-    return Rounds(shared + single, bad)
+            found.bad.append(Judgement(path, Outcome.BAD_EDIT, str(error)))
+    return found
+
+
+def rounds_of(workspace: Workspace, crate: str, good: Iterable[Edit]) -> list[Round]:
+    """Splits edits of a crate into rounds.
+
+    An edit that changes a line outside of bodies may change a type, so it has a round of its own.
+    """
+    read = workspace.reader(crate)
+    shared: list[Round] = []
+    single: list[Round] = []
+    for edit in good:
+        functions = edits.functions_changed(edit, read)
+        places = [] if functions is None else [it for it in shared if it.takes(edit, functions)]
+        round_ = places[0] if places else Round(crate, read)
+        round_.add(edit)
+        if not places:
+            (single if functions is None else shared).append(round_)
+    return shared + single
+
+
+# The outcomes that an edit has by itself, whatever the other edits of its round are.
+OF_ITS_OWN = (Outcome.REFUSED, Outcome.AT_A_LIMIT, Outcome.NOT_REFUSED)
 
 
 def judge(round_: Round, check: Check) -> list[Judgement]:
     """Judges each edit of a round.
 
-    There is no verdict on some edits if a text of the round isn't a program. Then each edit without
-    an open goal is checked once more by itself.
+    An edit without an open goal, whose function isn't proved, is checked once more by itself. There
+    may be no verdict on it since another text of the round isn't a program, or since a function
+    that it calls isn't proved.
     """
     said = check(round_)
     found = []
     for edit in round_.edits:
-        path = f"{round_.crate}::{edit.function}"
-        goals = rt_output.open_goals(path, said.text)
-        verdict = rt_output.verdict_on(path, said.text)
-        if goals:
-            found.append(judgement(edit, Outcome.REFUSED, goals[0]))
-        elif verdict is not None:
-            found.append(judgement(edit, Outcome.NOT_REFUSED, verdict.text))
-        elif len(round_.edits) == 1:
-            found.append(without_verdict(edit, said))
-        else:
+        judged = judge_edit(f"{round_.crate}::{edit.function}", edit, said)
+        if len(round_.edits) > 1 and judged.outcome not in OF_ITS_OWN:
             by_itself = Round(round_.crate, round_.read)
             by_itself.add(edit)
             found += judge(by_itself, check)
+        else:
+            found.append(judged)
     return found
+
+
+def judge_edit(path: str, edit: Edit, said: Finished) -> Judgement:
+    """Judges an edit by the output of a check of its function, whose path is given."""
+    goals = rt_output.open_goals(path, said.text)
+    for evidence, outcome in (
+        (Evidence.VALUES, Outcome.REFUSED),
+        (Evidence.OPEN, Outcome.REFUSED),
+        (Evidence.LIMIT, Outcome.AT_A_LIMIT),
+    ):
+        goal = next((each for each in goals if each.evidence is evidence), None)
+        if goal is not None:
+            return judgement(edit, outcome, f"{evidence.value}: {goal.text}")
+    verdict = rt_output.verdict_on(path, said.text)
+    if verdict is None:
+        return without_verdict(edit, said)
+    if rt_output.is_proved(verdict):
+        return judgement(edit, Outcome.NOT_REFUSED, verdict.text)
+    if rt_output.is_undecided(verdict):
+        return judgement(edit, Outcome.NOT_JUDGED, verdict.text)
+    gone = rt_output.names_gone(path, said.text)
+    return judgement(edit, Outcome.ONLY_NAMES, gone[0] if gone else verdict.text)
 
 
 def judgement(edit: Edit, outcome: Outcome, reason: str) -> Judgement:
@@ -148,7 +191,7 @@ def judgement(edit: Edit, outcome: Outcome, reason: str) -> Judgement:
 
 
 def without_verdict(edit: Edit, said: Finished) -> Judgement:
-    """Judges an edit that was checked by itself and got no verdict."""
+    """Judges an edit whose function got no verdict."""
     errors = rt_output.compile_errors(said.text)
     if errors:
         return judgement(edit, Outcome.BAD_EDIT, errors[0])
@@ -164,9 +207,11 @@ def check_in_lane(workspace: Workspace, label: str) -> Check:
         for file, text in round_.texts.items():
             (folder / file).write_text(text, encoding="utf-8")
         only = [f"--only={edit.function}" for edit in round_.edits]
-        said = process.run(["rt", "check", "--jobs", "1", *only], folder)
+        ran = run_within(LONGEST, ["rt", "check", "--jobs", "1", *only], folder)
         shutil.rmtree(lane.top)
-        return said
+        if ran is None:
+            return Finished(-signal.SIGKILL, f"the check hasn't ended after {LONGEST} s")
+        return Finished(ran.status, ran.output + ran.errors)
 
     return check
 
@@ -178,37 +223,146 @@ def report(judgements: Iterable[Judgement], top: Path) -> None:
         say(f"{path}: {each.outcome.value}: {each.reason[:200]}")
 
 
-def judge_crates(workspace: Workspace, names: Sequence[str]) -> list[Judgement]:
-    """Judges the edits of some crates, the largest rounds first, and prints the judgements."""
-    found: list[Judgement] = []
-    tasks: list[tuple[Round, Check]] = []
-    for name in names:
-        rounds = rounds_of(workspace, name)
-        report(rounds.bad, workspace.top)
-        found += rounds.bad
-        for number, round_ in enumerate(rounds.rounds):
-            tasks.append((round_, check_in_lane(workspace, f"mutants{number}")))
-    tasks.sort(key=lambda task: -len(task[0].edits))
+# The files that turn the output of a check into a judgement.
+JUDGES = ("edits.py", "mutants.py", "rt_output.py")
 
-    def judge_task(task: tuple[Round, Check]) -> list[Judgement]:
-        judgements = judge(*task)
-        report(judgements, workspace.top)
-        return judgements
 
-    with ThreadPoolExecutor(CORES) as pool:
-        for judgements in pool.map(judge_task, tasks):
-            found += judgements
+def key_of(edit: Edit, crate: str) -> str:
+    """Returns a checksum of everything that the judgement of an edit rests on.
+
+    `crate` is the checksum of all that the proof of its crate reads. The rest is the edit and the
+    code that judges it.
+    """
+    found = hashlib.sha256(crate.encode())
+    for name in JUDGES:
+        found.update((Path(__file__).parent / name).read_bytes())
+    found.update(f"{edit.path.name}\n".encode())
+    found.update(edit.path.read_bytes())
+    return found.hexdigest()
+
+
+def store() -> Path:
+    """Returns the folder, outside of all checkouts, that keeps what was refused."""
+    return cache() / "bb_memory/mutants"
+
+
+def crates_left(workspace: Workspace, kept: Kept) -> list[str]:
+    """Returns the crates that have an edit whose judgement isn't kept."""
+    run = Run(workspace, kept)
+    found = []
+    for name in workspace.crates:
+        good = edits_of(workspace, name).good
+        if good and len(run.read_kept(name, good)) < len(good):
+            found.append(name)
     return found
 
 
+class Run:
+    """One run over some crates of a checkout, which keeps what is refused."""
+
+    def __init__(self, workspace: Workspace, kept: Kept) -> None:
+        self.workspace = workspace
+        self.kept = kept
+        self.keys: dict[Path, str] = {}
+
+    def read_kept(self, crate: str, good: Iterable[Edit]) -> list[Judgement]:
+        """Returns the judgements of those edits of a crate that an earlier run has kept."""
+        found = []
+        sum_of_crate = self.workspace.sum_of(crate)
+        for edit in good:
+            key = key_of(edit, sum_of_crate)
+            self.keys[edit.path] = key
+            reason = self.kept.read(key)
+            if reason is not None:
+                found.append(Judgement(edit.path, Outcome.REFUSED, f"{reason} (kept)"))
+        return found
+
+    def keep(self, round_: Round, judgements: Iterable[Judgement]) -> None:
+        """Keeps the reasons of edits that were refused, unless something that was read changed."""
+        sum_of_crate = self.workspace.sum_of(round_.crate)
+        by_path = {edit.path: edit for edit in round_.edits}
+        for each in judgements:
+            key = key_of(by_path[each.path], sum_of_crate)
+            if each.outcome is Outcome.REFUSED and key == self.keys[each.path]:
+                self.kept.write(key, each.reason)
+
+    def judge_round(self, round_: Round, check: Check) -> list[Judgement]:
+        """Judges the edits of a round, and prints and keeps the judgements."""
+        with times.job(f"mutants of {round_.crate}: {len(round_.edits)}"):
+            judgements = judge(round_, check)
+        self.keep(round_, judgements)
+        report(judgements, self.workspace.top)
+        return judgements
+
+    def judge_crates(self, names: Sequence[str]) -> list[Judgement]:
+        """Judges the edits of some crates that aren't kept, the largest rounds first."""
+        found: list[Judgement] = []
+        tasks: list[tuple[Round, Check]] = []
+        for name in names:
+            read = edits_of(self.workspace, name)
+            kept = self.read_kept(name, read.good)
+            report([*read.bad, *kept], self.workspace.top)
+            found += [*read.bad, *kept]
+            known = {each.path for each in kept}
+            left = [edit for edit in read.good if edit.path not in known]
+            for number, round_ in enumerate(rounds_of(self.workspace, name, left)):
+                tasks.append((round_, check_in_lane(self.workspace, f"mutants{number}")))
+        tasks.sort(key=lambda task: -len(task[0].edits))
+        with ThreadPoolExecutor(CORES) as pool:
+            for judgements in pool.map(lambda task: self.judge_round(*task), tasks):
+                found += judgements
+        return found
+
+
+def read_reasons(file: Path) -> dict[str, str]:
+    """Reads the list of edits that are refused only at a limit: their paths, each with a reason."""
+    reasons = {}
+    for number, line in enumerate(file.read_text(encoding="utf-8").splitlines(), 1):
+        if not line.strip() or line.startswith("#"):
+            continue
+        path, _, reason = line.partition(": ")
+        if not reason.strip():
+            raise Failed(f"{AT_A_LIMIT}:{number}: not of the form `CRATE/must-fail/EDIT: REASON`")
+        if not (file.parent.parent / "crates" / path).is_file():
+            raise Failed(f"{AT_A_LIMIT}:{number}: there is no edit {path}")
+        reasons[path] = reason
+    return reasons
+
+
+def failures(found: Iterable[Judgement], reasons: Mapping[str, str], top: Path) -> list[Judgement]:
+    """Returns the judgements that fail, and prints the reasons for those at a limit that don't.
+
+    An edit at a limit of the search passes only if it has a reason.
+    """
+    failed = []
+    for each in found:
+        path = str(each.path.relative_to(top / "crates"))
+        if each.outcome is Outcome.AT_A_LIMIT and path in reasons:
+            say(f"{path}: only at a limit of the search: {reasons[path]}")
+        elif each.outcome is not Outcome.REFUSED:
+            failed.append(each)
+        elif path in reasons:
+            say(f"{path}: not only at a limit of the search: take it off {AT_A_LIMIT}")
+    return failed
+
+
 def main(names: list[str]) -> None:
-    """Runs `.ci/mutants [NAME..]`. Raises Failed if an edit isn't refused, or if there is none."""
+    """Runs `.ci/mutants [--anew] [NAME..]`.
+
+    Raises Failed if an edit isn't refused, or if there is none.
+    """
+    anew = "--anew" in names
+    names = [name for name in names if name != "--anew"]
     workspace = Workspace(TOP)
     for name in names:
         if name not in workspace.crates:
             raise Failed(f"mutants: crates.txt has no {name}")
+    reasons = read_reasons(TOP / AT_A_LIMIT)
+    kept = Kept(store(), anew)
     with workspace.lock():
-        found = judge_crates(workspace, names or list(workspace.crates))
+        found = Run(workspace, kept).judge_crates(names or list(workspace.crates))
+    kept.remove_old()
+    failed = failures(found, reasons, TOP)
     counts = [f"{len(found)} mutants"]
     for outcome in Outcome:
         count = sum(each.outcome is outcome for each in found)
@@ -217,5 +371,6 @@ def main(names: list[str]) -> None:
     say(", ".join(counts))
     if not found:
         raise Failed("mutants: these crates have no edits")
-    if any(each.outcome is not Outcome.REFUSED for each in found):
-        raise Failed("mutants: not all of them are refused")
+    if failed:
+        lines = [f"{each.path.name}: {each.outcome.value}" for each in failed]
+        raise Failed("\n".join(["mutants: not all of them are refused:", *lines]))

@@ -14,7 +14,7 @@ from collections.abc import Mapping
 from dataclasses import dataclass
 from pathlib import Path
 
-from gate import memrun, process
+from gate import memrun, process, times
 from gate.crates import TOP, Workspace
 from gate.process import Failed, Finished, must_run, say
 from gate.temporary import temporary_folder
@@ -101,9 +101,10 @@ def run_tests(workspace: Workspace, built: Path, library: Path) -> int:
         if not has_oom_tests(workspace, name):
             continue
         for test in tests_of(built / "crates" / name / "out" / f"{name}_tests"):
-            refuse_in_turn(test, library)
-            if test.is_after_making:
-                refuse_after_making(test, library)
+            with times.job(f"OOM test {name}::{test.name}"):
+                refuse_in_turn(test, library)
+                if test.is_after_making:
+                    refuse_after_making(test, library)
             count += 1
     return count
 

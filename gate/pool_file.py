@@ -10,6 +10,8 @@ bb_pool_file.c. Each has to be refused by the program that its file names:
     old: if (load_slot(file, slot) == word)
     new: if (word != 0)
 
+Each such command first runs with the unmodified code, and has to pass (gate/verdicts.py).
+
 Last, gate/pool_traces.py compares the code with the proved machine. A mutant that no program
 refuses is `refused by: machine`.
 """
@@ -25,17 +27,18 @@ from contextlib import ExitStack
 from functools import partial
 from pathlib import Path
 
-from gate import edits
+from gate import edits, times, verdicts
 from gate.pool_messages import Messages, Program
 from gate.pool_traces import MACHINE, Traces
-from gate.process import Failed, has, must_run, say
+from gate.process import Failed, has, must_run, run_within, say
+from gate.verdicts import Control
 
 CRATE = "crates/bb_memory_c"
 FLAGS = ("-O2", "-Wall", "-Wextra", "-Werror", "-pedantic", "-Wshadow", "-Wconversion")
 CHECKERS = ("-fsanitize=address,undefined", "-fno-sanitize-recover=all")
 PROGRAMS = ("cases", "kills", "shown", "trace")
 # The seconds after which a program is killed, since it hangs.
-LONGEST = "600"
+LONGEST = 600
 # The bytes that a folder has to have room for. `cases` has the largest files, of 36 MB.
 ROOM = 48 << 20
 # Runs of `kills` with each form of the library: the arguments, except the second, the folder.
@@ -53,12 +56,6 @@ KILLS = {
         ("step", "499"),
     ),
 }
-# The sizes of the model, and the wrong protocols in which it has to find a violation.
-SIZES = (
-    {"PROCESSES": 3, "BUCKETS": 1, "SLOTS": 2, "MESSAGES": 2, "NUMBERS": 1, "KILLS": 2},
-    {"PROCESSES": 2, "BUCKETS": 2, "SLOTS": 2, "MESSAGES": 2, "NUMBERS": 1, "KILLS": 2},
-)
-WRONG = ("any", "look", "slots", "order", "address")
 
 
 def refused_by(text: str) -> list[str]:
@@ -69,11 +66,22 @@ def refused_by(text: str) -> list[str]:
     return match[1].split()
 
 
-class PoolFile:
-    """The tests over the library that is installed below `prefix`. They make files in `work`."""
+def measured(name: str, test: Callable[[], str]) -> str:
+    """Runs a test and measures it."""
+    with times.job(name):
+        return test()
 
-    def __init__(self, top: Path, prefix: Path, work: Path, environment: Mapping[str, str]) -> None:
-        self.top = top
+
+class PoolFile:
+    """The tests over the library that is installed below `prefix`. They make files in `work`.
+
+    `replay` is the program that replays traces in the machine.
+    """
+
+    def __init__(
+        self, top: Path, prefix: Path, replay: Path, work: Path, environment: Mapping[str, str]
+    ) -> None:
+        self.replay = replay
         self.crate = top / CRATE
         self.sources = self.crate / "tests/pool_file"
         self.prefix = prefix
@@ -106,7 +114,7 @@ class PoolFile:
 
     def run_program(self, program: Path, words: Iterable[str | Path]) -> str:
         """Runs a program to its end, and returns what it prints. Raises Failed if it fails."""
-        command: list[str | Path] = ["timeout", LONGEST, program, *words]
+        command: list[str | Path] = ["timeout", str(LONGEST), program, *words]
         return must_run(command, self.work, self.environment).rstrip()
 
     def run_kills(self, program: Path, words: Sequence[str]) -> str:
@@ -162,7 +170,13 @@ class PoolFile:
         """Runs `bb-pool`, and compares what it prints with shown.txt."""
         path = self.folders[0] / "shown"
         shown = subprocess.run(
-            ["timeout", LONGEST, self.work / "shown.archive", path, self.prefix / "bin/bb-pool"],
+            [
+                "timeout",
+                str(LONGEST),
+                self.work / "shown.archive",
+                path,
+                self.prefix / "bin/bb-pool",
+            ],
             stdin=subprocess.DEVNULL,
             stdout=subprocess.PIPE,
             stderr=subprocess.DEVNULL,
@@ -236,86 +250,95 @@ class PoolFile:
         path.unlink()
         return f"producers and consumers, {len(programs)} programs of each: {came}"
 
-    def run_model(self, size: Mapping[str, int]) -> str:
-        """Explores each state of the model of this size."""
-        numbers = "_".join(str(number) for number in size.values())
-        program = self.work / f"model_{numbers}"
-        defined = [f"-D{name}={number}" for name, number in size.items()]
-        source = self.sources / "model.cpp"
-        self.compile(["-std=c++17", *FLAGS, *defined, "-o", program, source], "c++")
-        return self.run_program(program, [])
+    def build_over(self, text: str, name: str, folder: Path) -> Path:
+        """Builds a program over a text of bb_pool_file.c, in a folder that it makes.
 
-    def run_wrong_model(self) -> str:
-        """Makes the model find a violation in each wrong protocol."""
-        program = self.work / "model_wrong"
-        self.compile(["-std=c++17", *FLAGS, "-o", program, self.sources / "model.cpp"], "c++")
-        for word in WRONG:
-            self.run_program(program, [word])
-        return f"model: finds a violation in each of {len(WRONG)} wrong protocols"
+        Returns the program.
+        """
+        folder.mkdir()
+        source = folder / "bb_pool_file.c"
+        source.write_text(text, encoding="utf-8")
+        program = folder / name
+        objects = [self.work / f"{name}.o", self.work / "bb_memory.o"]
+        self.compile(["-std=c99", "-O2", "-w", "-o", program, source, *objects])
+        return program
 
     def build_mutant(self, file: Path, name: str) -> Path:
         """Builds a program with a mutant, in a folder of its own. Returns the program."""
         edit = edits.parse_edit(file, file.read_text(encoding="utf-8"))
         changed = edits.apply(edit, lambda name: (self.crate / name).read_text(encoding="utf-8"))
-        folder = self.work / f"{file.stem}.{name}"
-        folder.mkdir()
-        source = folder / "bb_pool_file.c"
-        source.write_text(changed["bb_pool_file.c"], encoding="utf-8")
-        mutant = folder / name
-        objects = [self.work / f"{name}.o", self.work / "bb_memory.o"]
-        self.compile(["-std=c99", "-O2", "-w", "-o", mutant, source, *objects])
-        return mutant
+        return self.build_over(changed["bb_pool_file.c"], name, self.work / f"{file.stem}.{name}")
 
-    def check_mutant(self, file: Path) -> None:
-        """Raises Failed unless a mutant is refused by the program that its file names."""
-        program, *words = refused_by(file.read_text(encoding="utf-8"))
-        mutant = self.build_mutant(file, program)
-        place = [words[0], str(self.folders[0]), *words[1:]] if words else [str(self.folders[0])]
-        # A failed test may leave processes that run for a while. They would keep a pipe open.
-        ran = subprocess.run(
-            ["timeout", "60", str(mutant), *place],
-            cwd=self.work,
-            stdin=subprocess.DEVNULL,
-            stdout=subprocess.DEVNULL,
-            stderr=subprocess.DEVNULL,
-            check=False,
-        )
-        shutil.rmtree(mutant.parent)
-        if ran.returncode == 0:
-            raise Failed(f"{file.name}: isn't refused by `{program} {' '.join(words)}`")
+    def build_unmodified(self, name: str) -> Path:
+        """Builds a program with the unmodified code, as one with a mutant. Returns the program."""
+        text = (self.crate / "bb_pool_file.c").read_text(encoding="utf-8")
+        return self.build_over(text, name, self.work / f"unmodified.{name}")
+
+    def words_for(self, program: Path, words: Sequence[str]) -> list[str | Path]:
+        """Returns the words that run a program with its arguments, in the first folder."""
+        return [program, *words[:1], self.folders[0], *words[1:]]
+
+    def check_control(self, program: Path, words: Sequence[str]) -> Control:
+        """Returns the control of a command. Raises Failed unless it passes."""
+        command = " ".join([program.name, *words])
+        with times.job(f"control of `{command}`"):
+            ran = run_within(LONGEST, self.words_for(program, words), self.work)
+        return verdicts.control(command, ran, LONGEST)
+
+    def check_mutant(self, file: Path, passed: Control) -> None:
+        """Raises Failed unless a mutant is refused by the command of this control."""
+        program, *words = passed.command.split()
+        with times.job(f"{file.name} by `{passed.command}`"):
+            mutant = self.build_mutant(file, program)
+            ran = run_within(passed.most, self.words_for(mutant, words), self.work)
+            shutil.rmtree(mutant.parent)
+        verdicts.must_refuse(file.name, ran, passed)
 
     def mutants(self) -> list[Path]:
         """Returns the files of the mutants."""
         return sorted((self.sources / "mutants").glob("*.mutant"))
 
     def check_mutants(self, pool: ThreadPoolExecutor) -> None:
-        """Raises Failed unless each mutant is refused by its program."""
-        files = [
-            file
-            for file in self.mutants()
-            if refused_by(file.read_text(encoding="utf-8")) != [MACHINE]
-        ]
-        for _ in pool.map(self.check_mutant, files):
-            pass
-        say(f"mutants of bb_pool_file.c: programs refuse {len(files)}")
+        """Raises Failed unless each mutant is refused by its command, which the code passes."""
+        by = {file: refused_by(file.read_text(encoding="utf-8")) for file in self.mutants()}
+        by = {file: words for file, words in by.items() if words != [MACHINE]}
+        programs = {name: self.build_unmodified(name) for name in {it[0] for it in by.values()}}
+        commands = {" ".join(words): words for words in by.values()}
+
+        def check_control(words: Sequence[str]) -> Control:
+            return self.check_control(programs[words[0]], words[1:])
+
+        controls = dict(zip(commands, pool.map(check_control, commands.values())))
+        refused = pool.map(lambda file: self.check_mutant(file, controls[" ".join(by[file])]), by)
+        say(f"mutants of bb_pool_file.c: programs refuse {len(list(refused))}")
 
     def check_traces(self, pool: ThreadPoolExecutor) -> None:
         """Compares the code and its mutants with the machine."""
-        traces = Traces(self.top, self.folders[0])
-        traces.check_all(self.work / "trace.archive", pool)
-        traces.check_mutants(self.mutants(), lambda file: self.build_mutant(file, "trace"), pool)
+        traces = Traces(self.replay, self.folders[0])
+        controls = traces.check_all(self.work / "trace.archive", pool)
+        steps = traces.mutants_with_steps(self.mutants())
 
-    def jobs(self) -> list[Callable[[], str]]:
-        """Returns the tests, the longest first. Each returns the text to print."""
-        jobs: list[Callable[[], str]] = []
-        if has("c++", self.environment):
-            jobs += [partial(self.run_model, size) for size in SIZES]
-            jobs += [self.run_wrong_model, self.run_owners]
+        def check(file: Path) -> None:
+            with times.job(f"{file.name} by the machine"):
+                traces.check_mutant(self.build_mutant(file, "trace"), file.name, controls)
+
+        list(pool.map(check, steps))
+        say(f"mutants of bb_pool_file.c: the machine refuses {len(steps)}")
+
+    def jobs(self) -> dict[str, Callable[[], str]]:
+        """Returns the tests by name, the longest first. Each returns the text to print."""
+        jobs: dict[str, Callable[[], str]] = {}
         for form, tests in KILLS.items():
             kills = self.work / f"kills.{form}"
-            jobs += [partial(self.run_kills, kills, words) for words in tests]
-        jobs += [self.run_cases, self.run_mixed, self.compile_shown, self.run_command]
-        jobs += [self.run_examples]
+            for words in tests:
+                jobs[f"kills {' '.join(words)}, {form}"] = partial(self.run_kills, kills, words)
+        jobs["cases"] = self.run_cases
+        if has("c++", self.environment):
+            jobs["owners"] = self.run_owners
+        jobs["mixed"] = self.run_mixed
+        jobs["the program of bb_pool_file.h"] = self.compile_shown
+        jobs["bb-pool"] = self.run_command
+        jobs["producers and consumers"] = self.run_examples
         return jobs
 
     def check(self) -> None:
@@ -323,14 +346,16 @@ class PoolFile:
         self.build()
         with ExitStack() as made, ThreadPoolExecutor(os.cpu_count()) as pool:
             self.make_folders(made)
-            running = [pool.submit(job) for job in self.jobs()]
+            running = [pool.submit(measured, *job) for job in self.jobs().items()]
             for each in running:
                 say(each.result())
             self.check_mutants(pool)
             self.check_traces(pool)
 
 
-def check(top: Path, prefix: Path, work: Path, environment: Mapping[str, str]) -> None:
+def check(
+    top: Path, prefix: Path, replay: Path, work: Path, environment: Mapping[str, str]
+) -> None:
     """Tests pools in files over the library that is installed below `prefix`."""
     work.mkdir()
-    PoolFile(top, prefix, work, environment).check()
+    PoolFile(top, prefix, replay, work, environment).check()

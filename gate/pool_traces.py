@@ -2,42 +2,37 @@
 
 `trace` (crates/bb_memory_c/tests/pool_file/trace.c) steps processes through their calls, and writes
 each change of a flag, a slot or a lock. `file_replay` lets the machine take the same steps, or says
-at which line it can't. The machine has to accept each trace of the code. It has to refuse a trace
+at which line it can't. The machine has to accept each trace of the code. Among these are all traces
+that judge mutants, which are their controls (gate/verdicts.py). The machine has to refuse a trace
 of each mutant, unless the mutant says why it takes no step that the code doesn't take:
 
     # no step: a wake changes only the words of events
 """
 
 import re
-import subprocess
 from collections import Counter
-from collections.abc import Callable, Iterable, Sequence
+from collections.abc import Iterable, Mapping, Sequence
 from concurrent.futures import ThreadPoolExecutor
+from dataclasses import dataclass
 from pathlib import Path
 
-from gate.process import Failed, say
+from gate import verdicts
+from gate.process import Failed, Timed, run_within, say
+from gate.verdicts import Control
 
-REPLAY = "crates/file_replay/out/file_replay"
 # The exit status of `file_replay` at a difference.
 DIFFERENCE = 1
 # The seconds after which a trace is taken to hang.
 LONGEST = 600
-# The traces of the code: the arguments, except the second, the folder.
-CODE = (
-    ("duels", "7"),
-    ("random", "1", "400", "0"),
-    ("random", "2", "400", "8"),
-    ("random", "3", "400", "0"),
-    ("random", "4", "400", "8"),
-    ("random", "5", "400", "0"),
-    ("random", "6", "400", "8"),
-)
-# The traces of a mutant, which end at the first one that the machine refuses.
+# The traces of a mutant, which end at the first one that the machine refuses: the arguments, except
+# the second, the folder.
 OF_MUTANT = (
     ("random", "1", "200", "0"),
     ("duels", "13"),
     *(("random", str(seed), "400", str(seed % 2 * 8)) for seed in range(2, 10)),
 )
+# The traces of the code, the longest first.
+OF_CODE = (("duels", "7"), *reversed(OF_MUTANT))
 # What a mutant names instead of a program if only the machine refuses it.
 MACHINE = "machine"
 # The least number of instructions of each call that have to be stepped and compared.
@@ -64,52 +59,59 @@ def steps_of(text: str) -> Counter[str]:
     return found
 
 
+@dataclass(frozen=True)
+class Stepped:
+    """A trace of the code that the machine accepts: its control, and the instructions of each call."""
+
+    control: Control
+    steps: Counter[str]
+
+
+# The controls of traces, by their arguments.
+Controls = Mapping[tuple[str, ...], Control]
+
+
 class Traces:
     """The traces that programs write. The replay program is the one built below `top`."""
 
-    def __init__(self, top: Path, folder: Path) -> None:
-        self.replay_program = top / REPLAY
+    def __init__(self, replay: Path, folder: Path) -> None:
+        self.replay_program = replay
         # Where the pools' files are.
         self.folder = folder
 
-    def trace(self, program: Path, words: Sequence[str]) -> tuple[str, Counter[str]]:
-        """Returns a trace that a program writes, and the number of instructions for each call."""
-        command: list[str | Path] = [program, words[0], self.folder, *words[1:]]
-        try:
-            ran = subprocess.run(
-                command,
-                stdin=subprocess.DEVNULL,
-                capture_output=True,
-                text=True,
-                timeout=LONGEST,
-                check=False,
-            )
-        except subprocess.TimeoutExpired as error:
-            raise Failed(f"trace {' '.join(words)}: hangs") from error
-        if ran.returncode != 0:
-            raise Failed(f"{ran.stderr}trace {' '.join(words)}: status {ran.returncode}")
-        return ran.stdout, steps_of(ran.stderr)
+    def trace(self, program: Path, words: Sequence[str], most: float) -> Timed | None:
+        """Runs a program that writes a trace, for at most some seconds."""
+        return run_within(most, [program, words[0], self.folder, *words[1:]], self.folder)
 
-    def replay(self, trace: str) -> subprocess.CompletedProcess[str]:
-        """Replays a trace in the machine."""
-        return subprocess.run(
-            [self.replay_program], input=trace, capture_output=True, text=True, check=False
+    def replay(self, trace: str, most: float) -> Timed | None:
+        """Replays a trace in the machine, for at most some seconds."""
+        return run_within(most, [self.replay_program], self.folder, trace)
+
+    def check_code(self, program: Path, words: Sequence[str]) -> Stepped:
+        """Replays a trace of the code. Raises Failed unless the machine accepts it."""
+        command = f"trace {' '.join(words)}"
+        traced = self.trace(program, words, LONGEST)
+        written = verdicts.control(command, traced, LONGEST)
+        assert traced is not None
+        replayed = verdicts.control(
+            f"{command}, replayed", self.replay(traced.output, LONGEST), LONGEST
         )
+        passed = Control(command, written.seconds + replayed.seconds)
+        return Stepped(passed, steps_of(traced.errors))
 
-    def check_code(self, program: Path, words: Sequence[str]) -> Counter[str]:
-        """Replays a trace of the code. Returns how many instructions of each call it has."""
-        trace, steps = self.trace(program, words)
-        replayed = self.replay(trace)
-        if replayed.returncode != 0:
-            raise Failed(f"trace {' '.join(words)}: {replayed.stderr}")
-        return steps
+    def check_all(self, program: Path, pool: ThreadPoolExecutor) -> dict[tuple[str, ...], Control]:
+        """Raises Failed unless the machine accepts all traces of the code.
 
-    def check_all(self, program: Path, pool: ThreadPoolExecutor) -> None:
-        """Raises Failed unless the machine accepts all traces of the code."""
+        Returns the controls of the traces of mutants.
+        """
         steps: Counter[str] = Counter()
-        for each in pool.map(lambda words: self.check_code(program, words), CODE):
+        controls: dict[tuple[str, ...], Control] = {}
+        for words, each in zip(
+            OF_CODE, pool.map(lambda words: self.check_code(program, words), OF_CODE)
+        ):
             # `+` of two counters would drop a call that was never stepped.
-            steps.update(each)
+            steps.update(each.steps)
+            controls[words] = each.control
         few = [call for call, count in steps.items() if count < LEAST]
         if few:
             raise Failed(f"trace: fewer than {LEAST} instructions of: {' '.join(few)}")
@@ -117,27 +119,31 @@ class Traces:
             f"bb_pool_file.c: {steps.total()} instructions of {len(steps)} calls take the steps of "
             "the machine"
         )
+        return controls
 
-    def check_mutant(self, program: Path, name: str) -> None:
-        """Raises Failed unless the machine refuses a trace of a mutant."""
-        for words in OF_MUTANT:
-            trace, _ = self.trace(program, words)
-            status = self.replay(trace).returncode
-            if status == DIFFERENCE:
-                return
-            if status != 0:
-                raise Failed(f"{name}: `file_replay` ended with status {status}")
-        raise Failed(f"{name}: the machine accepts all of its traces")
-
-    def check_mutants(
-        self, files: Iterable[Path], build: Callable[[Path], Path], pool: ThreadPoolExecutor
-    ) -> None:
-        """Raises Failed unless the machine refuses each mutant that takes another step.
-
-        `build` returns the program of a mutant.
-        """
-        steps = [
+    def mutants_with_steps(self, files: Iterable[Path]) -> list[Path]:
+        """Returns the files of the mutants that take a step that the code doesn't take."""
+        return [
             file for file in files if reason_for_no_step(file.read_text(encoding="utf-8")) is None
         ]
-        list(pool.map(lambda file: self.check_mutant(build(file), file.name), steps))
-        say(f"mutants of bb_pool_file.c: the machine refuses {len(steps)}")
+
+    def check_mutant(self, program: Path, name: str, controls: Controls) -> None:
+        """Raises Failed unless the machine refuses a trace of a mutant."""
+        for words in OF_MUTANT:
+            passed = controls[words]
+            traced = self.trace(program, words, passed.most)
+            if traced is None or traced.status != 0:
+                raise Failed(no_verdict(name, traced, passed))
+            replayed = self.replay(traced.output, passed.most)
+            if replayed is not None and replayed.status == DIFFERENCE:
+                return
+            if replayed is None or replayed.status != 0:
+                raise Failed(no_verdict(name, replayed, passed))
+        raise Failed(f"{name}: NOT REFUSED: the machine accepts all of its traces")
+
+
+def no_verdict(name: str, ran: Timed | None, passed: Control) -> str:
+    """Returns the text that says how a trace of a mutant, or its replay, went wrong."""
+    if ran is None:
+        return f"{name}: no verdict: `{passed.command}` hasn't ended after {passed.most:.0f} s"
+    return f"{ran.errors}{name}: no verdict: `{passed.command}` ended with status {ran.status}"

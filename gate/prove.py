@@ -8,7 +8,7 @@ from collections.abc import Callable
 from dataclasses import dataclass
 from pathlib import Path
 
-from gate import process, rt_output
+from gate import process, rt_output, times
 from gate.crates import Workspace
 from gate.process import ONE_TEXT, say
 
@@ -59,9 +59,9 @@ def build(lane: Workspace, name: str, jobs: int, nice: int, report: Callable[[st
             how_far = rt_output.progress(line)
             if how_far is not None:
                 report(how_far)
-        _, status, used = os.wait4(ran.pid, 0)
-        ran.returncode = os.waitstatus_to_exitcode(status)
-    return Built(ran.returncode, "".join(lines), used.ru_utime + used.ru_stime)
+        before = process.USED.here
+        status = process.wait_for(ran)
+    return Built(status, "".join(lines), process.USED.here - before)
 
 
 def bring(made: Path, out: Path) -> None:
@@ -85,7 +85,8 @@ def prove(
     began = time.monotonic()
     lane = workspace.lane(name)
     read = lane.sum_of(name)
-    built = build(lane, name, jobs, nice, report)
+    with times.job(f"proof of {name}"):
+        built = build(lane, name, jobs, nice, report)
     is_proved = built.status == 0
     stamp = workspace.out(name) / "proved"
     stamp.unlink(missing_ok=True)

@@ -3,10 +3,36 @@
 import re
 from collections.abc import Iterator
 from dataclasses import dataclass
+from enum import Enum
 
 # Errors in a proof file that only say that a name is gone, or that another declaration was refused.
 # They show nothing about a contract.
 NAME_IS_GONE = re.compile("has no |is not in scope|not admitted|stands on")
+# How the prover says that it stopped at a limit of its own. Then the goal may hold, even if it shows
+# values that break the goal by the facts that it had used.
+LIMIT = re.compile(
+    "at one of its limits|so the goal may hold|could not check its values|ran out of"
+)
+# How it says that the values which it shows may not break the goal.
+UNSURE = re.compile("so these may not break the goal")
+# How it says that values make the goal false.
+VALUES = re.compile("allow values at which this goal is false|the goal fails at|does not follow")
+
+
+class Evidence(Enum):
+    """What a check shows of a goal that it left open."""
+
+    VALUES = "values at which it is false"
+    OPEN = "no proof, within the limits"
+    LIMIT = "the search gave up at a limit"
+
+
+@dataclass(frozen=True)
+class OpenGoal:
+    """A goal that a check left open, or the error of a refused answer, and what it shows."""
+
+    text: str
+    evidence: Evidence
 
 
 @dataclass(frozen=True)
@@ -59,7 +85,7 @@ def functions_that_may_wait(text: str) -> list[str]:
     return list(dict.fromkeys(found))
 
 
-def open_goals(path: str, text: str) -> list[str]:
+def open_goals(path: str, text: str) -> list[OpenGoal]:
     """Returns the goals of a function that a check left open, and the errors of refused answers.
 
     `path` begins with the crate's name. Answers in the proof files of this function count, unless
@@ -68,12 +94,30 @@ def open_goals(path: str, text: str) -> list[str]:
     goals = []
     verdict = verdict_on(path, text)
     if verdict is not None:
-        goals += re.findall(r"^note: src/\S+: .*?\(`([^`]+)`\)", verdict.notes, re.M)
-        goals += re.findall(r"`search` did not prove `([^`]+)`", verdict.text)
+        notes = re.findall(r"^note: src/\S+: .*?\(`([^`]+)`\)(.*)", verdict.notes, re.M)
+        goals += [OpenGoal(name, evidence_of(said)) for name, said in notes]
+        # The line names each goal of the notes again, and says less of it.
+        noted = {name for name, _ in notes}
+        named = re.findall(r"`search` did not prove `([^`]+)`", verdict.text)
+        goals += [OpenGoal(name, Evidence.OPEN) for name in named if name not in noted]
     for error in refused_answers(path, text):
         if NAME_IS_GONE.search(error) is None:
-            goals.append(error)
+            goals.append(OpenGoal(error, evidence_of(error)))
     return goals
+
+
+def names_gone(path: str, text: str) -> list[str]:
+    """Returns the errors of a function's answers that only say that a name is gone."""
+    return [error for error in refused_answers(path, text) if NAME_IS_GONE.search(error)]
+
+
+def evidence_of(said: str) -> Evidence:
+    """Returns what is shown by the prover's words on an open goal."""
+    if LIMIT.search(said):
+        return Evidence.LIMIT
+    if VALUES.search(said) and not UNSURE.search(said):
+        return Evidence.VALUES
+    return Evidence.OPEN
 
 
 def refused_answers(path: str, text: str) -> Iterator[str]:
@@ -85,6 +129,16 @@ def refused_answers(path: str, text: str) -> Iterator[str]:
     pattern = rf"^(?:\./)?{folder}/\w+\.antt:\S+ error: (.*(?:\n  .*)*)"
     for error in re.findall(pattern, text, re.M):
         yield " ".join(error.split())
+
+
+def is_undecided(verdict: Verdict) -> bool:
+    """Returns whether the prover ran out of steps, memory or stack before it reached a verdict."""
+    return verdict.text.startswith("could not tell")
+
+
+def is_proved(verdict: Verdict) -> bool:
+    """Returns whether the function is proved."""
+    return re.match(r"proved\b", verdict.text) is not None
 
 
 def compile_errors(text: str) -> list[str]:

@@ -1,8 +1,13 @@
-"""The merge gate, `.ci/run`: everything that a change has to pass.
+"""The merge gate, `.ci/run [--anew]`: everything that a change has to pass.
 
-That is `rt ci`, the gate of the toolchain, which proves all crates and tests from nothing. Beside
-it run the gate's own tests, `.ci/pages`, the checks of layout, `./test`, the mutants, C without and
-with each checker, and the Rust crate. Last, the OOM tests run on what `rt ci` has built.
+That is `rt ci`, the gate of the toolchain, which proves all crates and tests, and runs the tests.
+Beside it run the gate's own tests, `.ci/pages` and the checks of layout. Then `./test --proofs`
+proves what the mutants and the library for C are judged and built over, unless it is kept. Then
+come the mutants, C without and with each checker, and the Rust crate. Last, the OOM tests run on
+what `rt ci` has built.
+
+A toolchain may keep what `rt ci` proved, and `.ci/mutants` keeps what was refused. With `--anew`,
+as for a release, both read nothing that is kept. The gate prints what each part took.
 """
 
 import os
@@ -17,14 +22,17 @@ from contextlib import ExitStack, contextmanager
 from pathlib import Path
 from types import FrameType
 
-from gate import layout, out_of_memory, rt_output
+from gate import layout, mutants, out_of_memory, process, rt_output, times
 from gate.crates import TOP, Workspace
-from gate.process import Failed, must_run, must_show, say, status_of
+from gate.kept import Kept
+from gate.process import Failed, must_run, must_show, say, status_of, wait_for
 from gate.temporary import temporary_folder
+from gate.times import Measured
 
 # The word that code needs in order to wait, and the trait of the kit that brings it.
 WAIT = re.compile(r"\bWait(?:Methods)?\b")
-# The library that `./test` builds.
+# What `./test --proofs` proves and builds for the tests of C, and the library that it builds.
+FOR_HOSTS = ("bb_memory_c", "memrun", "file_replay")
 LIBRARY = "crates/bb_memory_c/out/libbb_memory_c.a"
 
 
@@ -80,6 +88,7 @@ class Background:
 
     def __init__(self, words: Sequence[str | Path], folder: Path, log: Path | None) -> None:
         self.log = log
+        self.began = time.monotonic()
         self.command = " ".join(str(word) for word in words)
         with ExitStack() as files:
             output = files.enter_context(log.open("wb")) if log is not None else None
@@ -98,18 +107,31 @@ class Background:
             return ""
         return self.log.read_text(encoding="utf-8", errors="replace")
 
-    def finish(self) -> str:
-        """Waits for the end, and returns the output. Raises Failed with it if it fails."""
-        status = self.process.wait()
+    def has_ended(self) -> bool:
+        """Returns whether the command has ended, and doesn't wait for it."""
+        if self.process.returncode is not None:
+            return True
+        how = os.WEXITED | os.WNOHANG | os.WNOWAIT
+        return os.waitid(os.P_PID, self.process.pid, how) is not None
+
+    def finish(self, part: str) -> str:
+        """Waits for the end, measures this part of the gate, and returns the output.
+
+        Raises Failed with the output if the command fails.
+        """
+        before = process.USED.here
+        status = wait_for(self.process)
+        used = process.USED.here - before
+        Measured(part, True, time.monotonic() - self.began, used).note()
         if status != 0:
             raise Failed(f"{self.text().rstrip()}\nstatus {status}: {self.command}".strip())
         return self.text()
 
     def end(self) -> None:
         """Ends the command, and everything that it started, if it still runs."""
-        if self.process.poll() is None:
+        if not self.has_ended():
             os.killpg(self.process.pid, signal.SIGTERM)
-            self.process.wait()
+        self.process.wait()
 
 
 def show_until_end(command: Background, log: Path, beginning: str) -> None:
@@ -118,7 +140,7 @@ def show_until_end(command: Background, log: Path, beginning: str) -> None:
         rest = ""
         has_ended = False
         while not has_ended:
-            has_ended = command.process.poll() is not None
+            has_ended = command.has_ended()
             *lines, rest = (rest + output.read()).split("\n")
             for line in lines:
                 if line.startswith(beginning):
@@ -140,9 +162,10 @@ def background(
 
 
 def test_gate(top: Path) -> None:
-    """Runs the tests of the gate itself."""
+    """Runs the tests of the gate itself. What they measure is no part of the gate."""
     words = [sys.executable, "-m", "unittest", "discover", "-s", "gate/tests", "-t", "."]
-    lines = must_run(words, top).splitlines()
+    others = {name: value for name, value in os.environ.items() if name != times.VARIABLE}
+    lines = must_run(words, top, others).splitlines()
     say("\n".join(f"gate: {line}" for line in lines if line.startswith("Ran ")))
 
 
@@ -163,32 +186,58 @@ def check_texts(top: Path) -> None:
     layout.run(top)
 
 
-def run_commands(top: Path, work: Path) -> str:
+def ci_words(anew: bool) -> list[str]:
+    """Returns the command `rt ci`, which proves everything anew if so. Older kits keep nothing."""
+    if anew and "rt ci --anew" in process.run(["rt", "help"], TOP).text:
+        return ["rt", "ci", "--anew"]
+    return ["rt", "ci"]
+
+
+def prove_needed(top: Path, anew: bool) -> None:
+    """Proves the crates over which mutants are judged, and what the tests of hosts need."""
+    workspace = Workspace(top)
+    left = mutants.crates_left(workspace, Kept(mutants.store(), anew))
+    hosts = [name for name in FOR_HOSTS if name in workspace.crates]
+    must_show([top / "test", "--proofs", *dict.fromkeys([*left, *hosts])], top)
+
+
+def run_commands(top: Path, work: Path, anew: bool) -> str:
     """Runs `rt ci`, and beside it the parts of the gate that don't need its results.
 
     Returns the output of `rt ci`. Raises Failed if a command fails.
     """
-    with background(["rt", "ci"], work / "all", work / "log") as rt_ci:
-        check_texts(top)
-        must_show([top / "test"], top)
-        with background([top / ".ci/mutants"], top) as mutants:
-            must_show([top / ".ci/run-c", LIBRARY], top)
-            mutants.finish()
+    with background(ci_words(anew), work / "all", work / "log") as rt_ci:
+        with times.part("texts"):
+            check_texts(top)
+        with times.part("proofs for C and mutants"):
+            prove_needed(top, anew)
+        with background([top / ".ci/mutants", *["--anew"] * anew], top) as judged:
+            with times.part("memrun on scripts"):
+                must_show([top / ".ci/run-memrun"], top)
+            with times.part("hosts: C, C++ and Rust"):
+                must_show([top / ".ci/run-c", LIBRARY], top)
+            judged.finish("mutants")
         show_until_end(rt_ci, work / "log", "rt: ")
-        return rt_ci.finish()
+        return rt_ci.finish("rt ci")
 
 
-def run(top: Path) -> None:
+def run(top: Path, anew: bool = False) -> None:
     """Runs the gate on a checkout. Raises Failed if something fails.
 
     The last line that it prints is the last line of `rt ci`.
     """
     began = time.monotonic()
     with temporary_folder() as work:
+        os.environ[times.VARIABLE] = str(work / "times")
         copy_for_rt(top, work / "all")
-        log = run_commands(top, work)
-        refuse_waiting_functions(log)
-        out_of_memory.run(top, work / "all")
+        try:
+            log = run_commands(top, work, anew)
+            refuse_waiting_functions(log)
+            with times.part("OOM tests"):
+                out_of_memory.run(top, work / "all")
+        finally:
+            times.show(times.read(work / "times"))
+            del os.environ[times.VARIABLE]
     say(f"run: passed in {time.monotonic() - began:.0f} s")
     say(log.rstrip("\n").rpartition("\n")[2])
 
@@ -199,11 +248,11 @@ def end(number: int, frame: FrameType | None) -> None:
 
 
 def main(words: list[str]) -> None:
-    """Runs `.ci/run`."""
-    if words:
-        raise Failed("usage: .ci/run, with no arguments")
+    """Runs `.ci/run [--anew]`."""
+    if words not in ([], ["--anew"]):
+        raise Failed("usage: .ci/run [--anew]")
     signal.signal(signal.SIGTERM, end)
-    run(TOP)
+    run(TOP, bool(words))
 
 
 if __name__ == "__main__":

@@ -3,6 +3,7 @@
 import unittest
 from pathlib import Path
 
+from gate import edits
 from gate.edits import BadEdit, Change, Promise, apply, parse_edit
 
 PATH = Path("wrong.edit")
@@ -56,6 +57,88 @@ class EditTest(unittest.TestCase):
         ):
             with self.assertRaisesRegex(BadEdit, message):
                 parse_edit(PATH, text)
+
+
+SOURCE = """\
+use core::x;
+
+pub struct Pool {
+    count: usize,
+}
+
+impl Pool {
+    /// Counts.
+    pub fn count(&self) -> usize
+        ensures { result ≡ 0 }
+    {
+        if self.count > 0 {
+            self.count
+        } else {
+            0
+        }
+    }
+
+    fn many(
+        &self,
+        least: usize,
+    ) -> bool {
+        self.count > least
+    }
+
+    pub fn is_empty(&self) -> bool {
+        self.count() == 0
+    }
+}
+"""
+
+
+class FunctionsTest(unittest.TestCase):
+    """The functions that an edit changes, as far as the layout shows."""
+
+    def around(self, line: str) -> str | None:
+        """Returns the first line of the function around a line."""
+        lines = SOURCE.split("\n")
+        found = edits.function_around(lines, lines.index(line))
+        return None if found is None else lines[found].strip()
+
+    def test_lines_of_bodies(self) -> None:
+        count = "pub fn count(&self) -> usize"
+        self.assertEqual(self.around("        if self.count > 0 {"), count)
+        self.assertEqual(self.around("            self.count"), count)
+        self.assertEqual(self.around("            0"), count)
+        self.assertEqual(self.around("        self.count > least"), "fn many(")
+        self.assertEqual(
+            self.around("        self.count() == 0"), "pub fn is_empty(&self) -> bool {"
+        )
+
+    def test_lines_outside_of_bodies(self) -> None:
+        for line in (
+            "use core::x;",
+            "    count: usize,",
+            "impl Pool {",
+            "    pub fn count(&self) -> usize",
+            "        ensures { result ≡ 0 }",
+            "        least: usize,",
+        ):
+            with self.subTest(line):
+                self.assertIsNone(self.around(line))
+
+    def changed(self, *pairs: str) -> frozenset[edits.Function] | None:
+        """Returns the functions that an edit with these pairs changes."""
+        text = "# function: f\nfile: src/lib.rt\n" + "".join(
+            f"old: {old}\nnew: {new}\n" for old, new in (pair.split(" => ") for pair in pairs)
+        )
+        edit = edits.parse_edit(Path("some.edit"), text)
+        return edits.functions_changed(edit, lambda _: SOURCE)
+
+    def test_changes_in_bodies(self) -> None:
+        found = self.changed("self.count() == 0 => self.count() >= 0", "> least => < least")
+        self.assertEqual(
+            found, {edits.Function("src/lib.rt", 18), edits.Function("src/lib.rt", 25)}
+        )
+
+    def test_a_change_of_a_type(self) -> None:
+        self.assertIsNone(self.changed("> least => < least", "count: usize, => count: u32,"))
 
 
 if __name__ == "__main__":

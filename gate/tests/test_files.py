@@ -8,6 +8,7 @@ from unittest.mock import patch
 from gate.crates import TOP, Workspace
 from gate.files import TreeChanged, files_below, texts_below
 from gate.process import run
+from gate.test import plan_of
 from gate.temporary import temporary_folder
 from gate.tests.places import CheckoutTest, write
 
@@ -94,6 +95,14 @@ class CratesTest(CheckoutTest):
         self.assertTrue(workspace.is_program("program"))
         self.assertTrue(workspace.has_tests("ffi"))
         self.assertFalse(workspace.has_tests("low"))
+
+    def test_what_is_proved_with_tests_and_without(self) -> None:
+        """A crate of tests is never proved here: `rt ci` does that."""
+        workspace = Workspace(self.top)
+        with_tests = plan_of(workspace, ["low", "ffi"])
+        self.assertEqual((with_tests.proves, with_tests.tests), (["low"], ["ffi"]))
+        without = plan_of(workspace, ["low", "ffi"], has_tests=False)
+        self.assertEqual((without.proves, without.tests), (["low"], []))
 
     def test_the_sum_does_not_depend_on_the_folder(self) -> None:
         other = self.work / "plain"

@@ -3,9 +3,11 @@
 import unittest
 from unittest.mock import patch
 
-from gate.crates import Workspace
-from gate.mutants import Outcome, Round, judge, judge_crates, rounds_of
-from gate.process import Finished
+from gate import mutants
+from gate.crates import TOP, Workspace
+from gate.kept import Kept
+from gate.mutants import Judgement, Outcome, Round, Run, judge, rounds_of
+from gate.process import Failed, Finished
 from gate.tests.places import CheckoutTest, log
 
 SOURCE = "fn round_up {\n    v & !mask\n}\nfn within {\n    a > b\n}\n"
@@ -17,6 +19,17 @@ NO_PROGRAM = ROUND_UP.replace("v - mask", "v & !masque")
 MISNAMED = ROUND_UP.replace("layout::round_up", "layout::Layout::within")
 
 CRATE = "bb_memory_traits"
+WITHIN_PATH = f"{CRATE}::layout::Layout::within"
+# What a check says of an open goal, and of an answer that names what is gone.
+NOTE = "note: src/layout.rt:7:1: it is not proved that what the function ensures holds (`returns`)"
+NAME_IS_GONE = (
+    "./proofs/layout/Layout/within/Answers.antt:3:4: error: `returns`: this has no field `next`\n"
+    f"fn {WITHIN_PATH}: not proved\n"
+)
+ROUND_UP_REFUSED = (
+    f"note: src/layout.rt:2:5: it is not proved that this holds (`returns`)\n"
+    f"fn {CRATE}::layout::round_up: not proved\n"
+)
 
 
 class JudgeTest(CheckoutTest):
@@ -43,11 +56,24 @@ class JudgeTest(CheckoutTest):
 
     def outcomes(self) -> dict[str, Outcome]:
         """Judges all edits, and returns the outcomes."""
-        rounds = rounds_of(Workspace(self.top), CRATE)
-        found = list(rounds.bad)
-        for round_ in rounds.rounds:
+        workspace = Workspace(self.top)
+        read = mutants.edits_of(workspace, CRATE)
+        found = list(read.bad)
+        for round_ in rounds_of(workspace, CRATE, read.good):
             found += judge(round_, self.check)
         return {each.path.stem: each.outcome for each in found}
+
+    def outcome(self, said: str, status: int = 1) -> Outcome:
+        """Judges an edit of `within` by what a check of it says, and returns the outcome."""
+        self.add(within=WITHIN)
+        (round_,) = self.rounds()
+        (found,) = judge(round_, lambda _: Finished(status, said))
+        return found.outcome
+
+    def rounds(self) -> list[Round]:
+        """Returns the rounds of all edits."""
+        workspace = Workspace(self.top)
+        return rounds_of(workspace, CRATE, mutants.edits_of(workspace, CRATE).good)
 
     def test_edits_of_different_functions_are_one_round(self) -> None:
         self.add(within=WITHIN, round_up=ROUND_UP)
@@ -82,22 +108,144 @@ class JudgeTest(CheckoutTest):
         self.assertEqual(self.checked, [["one"], ["two"]])
 
     def test_a_check_that_was_killed_judges_nothing(self) -> None:
-        self.add(within=WITHIN)
-        (round_,) = rounds_of(Workspace(self.top), CRATE).rounds
-        (found,) = judge(round_, lambda _: Finished(-9, "so far: 1 of 2\n"))
-        self.assertIs(found.outcome, Outcome.NOT_JUDGED)
+        self.assertIs(self.outcome("so far: 1 of 2\n", -9), Outcome.NOT_JUDGED)
+
+    def test_a_mutant_that_means_the_same_is_not_refused(self) -> None:
+        self.assertIs(self.outcome(f"fn {WITHIN_PATH}: proved\n", 0), Outcome.NOT_REFUSED)
+
+    def test_a_prover_that_could_not_tell_judges_nothing(self) -> None:
+        said = f"fn {WITHIN_PATH}: could not tell\nrattle: no verdict\n"
+        self.assertIs(self.outcome(said, 3), Outcome.NOT_JUDGED)
+
+    def test_a_name_that_is_gone_is_no_refusal(self) -> None:
+        self.assertIs(self.outcome(NAME_IS_GONE), Outcome.ONLY_NAMES)
+
+    def test_a_search_that_gave_up_is_no_refusal(self) -> None:
+        gave_up = NOTE + "; `search` gave up at one of its limits\n"
+        verdict = f"fn {WITHIN_PATH}: no proof; `search` did not prove `returns`\n"
+        self.assertIs(self.outcome(gave_up + verdict), Outcome.AT_A_LIMIT)
+        self.assertIs(self.outcome(gave_up + NOTE + "\n" + verdict), Outcome.REFUSED)
+
+    def test_an_edit_beside_others_is_judged_again_if_only_names_are_gone(self) -> None:
+        """The function calls one that isn't proved since another edit of the round changed it."""
+        self.add(within=WITHIN, round_up=ROUND_UP)
+        checked = []
+
+        def check(round_: Round) -> Finished:
+            checked.append(len(round_.edits))
+            if len(round_.edits) == 2:
+                return Finished(1, f"fn {WITHIN_PATH}: not proved\n{ROUND_UP_REFUSED}")
+            return Finished(0, f"fn {WITHIN_PATH}: proved\n")
+
+        (round_,) = self.rounds()
+        outcomes = {each.path.stem: each.outcome for each in judge(round_, check)}
+        self.assertEqual(checked, [2, 1])
+        self.assertEqual(outcomes, {"round_up": Outcome.REFUSED, "within": Outcome.NOT_REFUSED})
+
+    def test_edits_of_one_function_each_are_shared_although_they_have_several_changes(self) -> None:
+        second = "old: fn within {\nnew: fn within {\n"
+        in_bodies = WITHIN.replace("old: a > b\nnew: a - a > b", "old: a > b\nnew: b > a\n")
+        self.add(round_up=ROUND_UP, within=f"{in_bodies}old: b > a\nnew: b >= a\n")
+        self.assertEqual([len(each.edits) for each in self.rounds()], [2])
+        self.add(within=f"{in_bodies}{second}")
+        self.assertEqual([len(each.edits) for each in self.rounds()], [1, 1])
+
+    def test_edits_that_change_one_function_are_not_shared(self) -> None:
+        both = f"{WITHIN}old: v & !mask\nnew: (v & !mask)\n"
+        self.add(round_up=ROUND_UP.replace("v & !mask", "v &"), within=both)
+        self.assertEqual([len(each.edits) for each in self.rounds()], [1, 1])
+
+    def judge_with_tool(self, rt: str, anew: bool = False) -> list[Outcome]:
+        """Judges the crate's edits by this `rt`, and keeps what it refuses below `self.work`."""
+        script = f'#!/bin/sh\n[ "$1" = version ] && echo kit && exit 0\n{rt}\n'
+        kept = Kept(self.work / "kept", anew)
+        with self.tool("rt", script), patch("gate.mutants.say") as said:
+            found = Run(Workspace(self.top), kept).judge_crates([CRATE])
+        self.assertEqual(said.call_count, len(found))
+        return [each.outcome for each in found]
+
+    def refusing(self) -> str:
+        """Returns an `rt` that refuses both edits of a round, if the texts are the edited ones."""
+        stored = self.work / "log"
+        stored.write_text(log("round"), encoding="utf-8")
+        return f'grep -q "v - mask" src/layout.rt && cat "{stored}"\nexit 1'
 
     def test_lanes(self) -> None:
         """Edits judged in lanes, with an `rt` that fails on each text except the edited one."""
         self.add(round_up=ROUND_UP, within=WITHIN)
-        stored = self.work / "log"
-        stored.write_text(log("round"), encoding="utf-8")
-        rt = f'#!/bin/sh\ngrep -q "v - mask" src/layout.rt && cat "{stored}"\nexit 1\n'
-        with self.tool("rt", rt), patch("gate.mutants.say") as said:
-            found = judge_crates(Workspace(self.top), [CRATE])
-        self.assertEqual([each.outcome for each in found], 2 * [Outcome.REFUSED])
-        self.assertEqual(said.call_count, 2)
+        self.assertEqual(self.judge_with_tool(self.refusing()), 2 * [Outcome.REFUSED])
         self.assertEqual(list((self.top / "crates" / CRATE / "out").iterdir()), [])
+
+    def test_a_check_that_hangs_judges_nothing(self) -> None:
+        self.add(round_up=ROUND_UP)
+        with patch("gate.mutants.LONGEST", 0.5):
+            self.assertEqual(self.judge_with_tool("sleep 600"), [Outcome.NOT_JUDGED])
+
+    def test_what_is_refused_is_kept_until_something_changes(self) -> None:
+        self.add(round_up=ROUND_UP, within=WITHIN)
+        self.judge_with_tool(self.refusing())
+        self.assertEqual(self.judge_with_tool("exit 7"), 2 * [Outcome.REFUSED])
+        self.assertEqual(self.judge_with_tool("exit 7", anew=True), 2 * [Outcome.NOT_JUDGED])
+        self.write({f"crates/{CRATE}/specs/Lib.antt": "-- another definition\n"})
+        self.assertEqual(self.judge_with_tool("exit 7"), 2 * [Outcome.NOT_JUDGED])
+
+    def test_only_a_changed_edit_is_judged_again(self) -> None:
+        self.add(round_up=ROUND_UP, within=WITHIN)
+        self.judge_with_tool(self.refusing())
+        self.add(within=WITHIN.replace("a - a > b", "b > a"))
+        self.assertEqual(self.judge_with_tool("exit 7"), [Outcome.REFUSED, Outcome.NOT_JUDGED])
+
+    def test_what_is_not_refused_is_not_kept(self) -> None:
+        self.add(round_up=ROUND_UP)
+        self.judge_with_tool("exit 7")
+        self.assertFalse((self.work / "kept").exists())
+
+    def test_an_edit_that_changes_while_it_is_judged_is_not_kept(self) -> None:
+        self.add(round_up=ROUND_UP, within=WITHIN)
+        edit = self.top / f"crates/{CRATE}/must-fail/within.edit"
+        self.judge_with_tool(f'echo >>"{edit}"\n{self.refusing()}')
+        self.assertEqual(len(list((self.work / "kept").iterdir())), 1)
+
+
+class ReasonsTest(CheckoutTest):
+    """The list of edits that are refused only at a limit."""
+
+    def reasons(self, text: str) -> dict[str, str]:
+        """Reads the list from a text, in a checkout that has one edit."""
+        self.write({"gate/at_a_limit.txt": text, "crates/low/must-fail/one.edit": ROUND_UP})
+        return mutants.read_reasons(self.top / "gate/at_a_limit.txt")
+
+    def failed(self, outcome: Outcome, reasons: dict[str, str]) -> bool:
+        """Returns whether an edit with an outcome fails."""
+        path = self.top / "crates/low/must-fail/one.edit"
+        with patch("gate.mutants.say"):
+            return bool(mutants.failures([Judgement(path, outcome, "")], reasons, self.top))
+
+    def test_a_line_is_an_edit_and_its_reason(self) -> None:
+        self.assertEqual(
+            self.reasons("# comment\nlow/must-fail/one.edit: too large: really\n"),
+            {"low/must-fail/one.edit": "too large: really"},
+        )
+        for text in ("low/must-fail/one.edit\n", "low/must-fail/two.edit: no such edit\n"):
+            with self.subTest(text), self.assertRaises(Failed):
+                self.reasons(text)
+
+    def test_the_list_of_this_tree(self) -> None:
+        paths = list(mutants.read_reasons(TOP / mutants.AT_A_LIMIT))
+        self.assertEqual(paths, sorted(paths))
+
+    def test_a_limit_needs_a_reason(self) -> None:
+        reasons = {"low/must-fail/one.edit": "too large"}
+        self.assertTrue(self.failed(Outcome.AT_A_LIMIT, {}))
+        self.assertFalse(self.failed(Outcome.AT_A_LIMIT, reasons))
+
+    def test_a_reason_excuses_nothing_else(self) -> None:
+        reasons = {"low/must-fail/one.edit": "too large"}
+        for outcome in Outcome:
+            if outcome not in (Outcome.AT_A_LIMIT, Outcome.REFUSED):
+                with self.subTest(outcome):
+                    self.assertTrue(self.failed(outcome, reasons))
+        self.assertFalse(self.failed(Outcome.REFUSED, reasons))
 
 
 if __name__ == "__main__":

@@ -4,11 +4,12 @@ import io
 import shutil
 import tempfile
 import unittest
+from concurrent.futures import ThreadPoolExecutor
 from contextlib import ExitStack, redirect_stdout
 from pathlib import Path
 from unittest.mock import Mock, patch
 
-from gate import edits, pool_file
+from gate import edits, pool_file, verdicts
 from gate.crates import TOP
 from gate.pool_traces import MACHINE
 from gate.process import Failed
@@ -42,7 +43,7 @@ class Folders(unittest.TestCase):
 
     def folders(self, free: int) -> list[Path]:
         """Returns the folders that are made if each place has this much room."""
-        tests = pool_file.PoolFile(TOP, Path("prefix"), Path("work"), {})
+        tests = pool_file.PoolFile(TOP, Path("prefix"), Path("replay"), Path("work"), {})
         usage = Mock(free=free)
         with (
             ExitStack() as made,
@@ -60,6 +61,77 @@ class Folders(unittest.TestCase):
     def test_no_place_has_room(self) -> None:
         with self.assertRaisesRegex(Failed, "no folder has room"):
             self.folders(pool_file.ROOM - 1)
+
+
+class Verdicts(unittest.TestCase):
+    """What the runs of a program say about the mutants that name it."""
+
+    def setUp(self) -> None:
+        made = tempfile.TemporaryDirectory()
+        self.addCleanup(made.cleanup)
+        self.work = Path(made.name)
+        self.tests = pool_file.PoolFile(TOP, Path("prefix"), self.work, self.work, {})
+        self.tests.folders = [self.work]
+
+    def write_program(self, body: str, folder: str) -> Path:
+        """Writes a script in place of a program that is built."""
+        program = self.work / folder / "cases"
+        program.parent.mkdir()
+        program.write_text(f"#!/bin/sh\n{body}\n", encoding="utf-8")
+        program.chmod(0o755)
+        return program
+
+    def judge(self, mutant: str, unmodified: str = "exit 0") -> None:
+        """Judges one mutant, by the bodies of the program with it and without."""
+        file = self.work / "some.mutant"
+        file.write_text("# refused by: cases\n", encoding="utf-8")
+        with (
+            patch.object(self.tests, "mutants", return_value=[file]),
+            patch.object(
+                self.tests, "build_unmodified", lambda _: self.write_program(unmodified, "without")
+            ),
+            patch.object(self.tests, "build_mutant", lambda *_: self.write_program(mutant, "with")),
+            ThreadPoolExecutor(1) as pool,
+            redirect_stdout(io.StringIO()),
+        ):
+            self.tests.check_mutants(pool)
+
+    def test_a_failed_expectation_refuses(self) -> None:
+        self.judge("exit 1")
+
+    def test_a_crash_refuses(self) -> None:
+        self.judge("kill -SEGV $$")
+
+    def test_a_mutant_that_means_the_same(self) -> None:
+        with self.assertRaisesRegex(Failed, "^some.mutant: NOT REFUSED by `cases`$"):
+            self.judge("exit 0")
+
+    def test_a_mutant_that_something_else_ends(self) -> None:
+        with self.assertRaisesRegex(Failed, "some.mutant: no verdict: .*ended by SIGKILL"):
+            self.judge("kill -KILL $$")
+
+    def test_a_mutant_that_cannot_run(self) -> None:
+        with self.assertRaisesRegex(Failed, "some.mutant: no verdict: .*status 127"):
+            self.judge("exec /nowhere/program")
+
+    def test_a_mutant_that_hangs(self) -> None:
+        with (
+            patch.object(verdicts, "LEAST", 0.2),
+            patch.object(verdicts, "TIMES", 0),
+            self.assertRaisesRegex(Failed, "some.mutant: no verdict: `cases` hasn't ended after"),
+        ):
+            self.judge("sleep 600")
+
+    def test_a_command_that_fails_without_the_mutant(self) -> None:
+        with self.assertRaisesRegex(Failed, "control: `cases` has to pass with no mutant"):
+            self.judge("exit 1", "exit 1")
+
+    def test_a_command_that_hangs_without_the_mutant(self) -> None:
+        with (
+            patch.object(pool_file, "LONGEST", 0.2),
+            self.assertRaisesRegex(Failed, "control: `cases` hasn't ended"),
+        ):
+            self.judge("exit 1", "sleep 600")
 
 
 if __name__ == "__main__":

@@ -5,10 +5,12 @@ import tempfile
 import unittest
 from concurrent.futures import ThreadPoolExecutor
 from pathlib import Path
+from unittest.mock import patch
 
-from gate import pool_traces
+from gate import pool_traces, verdicts
 from gate.pool_traces import Traces
 from gate.process import Failed
+from gate.verdicts import Control
 
 
 def write_program(path: Path, body: str) -> Path:
@@ -29,8 +31,7 @@ class TracesOfPrograms(unittest.TestCase):
 
     def traces(self, replay: str) -> Traces:
         """Returns traces that a script with this body replays."""
-        write_program(self.folder / pool_traces.REPLAY, replay)
-        return Traces(self.folder, self.folder)
+        return Traces(write_program(self.folder / "replay", replay), self.folder)
 
     def trace(self, body: str) -> Path:
         """Returns a script with this body that writes traces."""
@@ -51,7 +52,7 @@ class TracesOfPrograms(unittest.TestCase):
     def test_a_trace_is_replayed(self) -> None:
         traces = self.traces('test "$(cat)" = "random 5"')
         program = self.trace('echo "$1 $3"; echo "post 3 40" >&2')
-        self.assertEqual(traces.check_code(program, ["random", "5"]), {"post": 40})
+        self.assertEqual(traces.check_code(program, ["random", "5"]).steps, {"post": 40})
         with self.assertRaises(Failed):
             traces.check_code(program, ["random", "6"])
 
@@ -69,12 +70,37 @@ class TracesOfPrograms(unittest.TestCase):
         with self.assertRaises(Failed):
             self.traces("cat").check_code(self.trace("exit 2"), ["random", "5"])
 
+    def judge(self, trace: str, replay: str) -> None:
+        """Judges a mutant, whose traces are written and replayed by scripts with these bodies."""
+        controls = {words: Control("trace", 0.1) for words in pool_traces.OF_MUTANT}
+        self.traces(replay).check_mutant(self.trace(trace), "m", controls)
+
     def test_a_mutant_has_to_differ(self) -> None:
-        program = self.trace("echo trace")
-        self.traces("exit 1").check_mutant(program, "m")
-        for status in (0, 2):
-            with self.assertRaises(Failed):
-                self.traces(f"exit {status}").check_mutant(program, "m")
+        self.judge("echo trace", "exit 1")
+        with self.assertRaisesRegex(Failed, "^m: NOT REFUSED"):
+            self.judge("echo trace", "exit 0")
+
+    def test_runs_without_a_verdict(self) -> None:
+        for trace, replay in (
+            ("exit 2", "exit 1"),
+            ("kill -SEGV $$", "exit 1"),
+            ("echo trace", "exit 2"),
+            ("echo trace", "kill -KILL $$"),
+        ):
+            with self.subTest(trace), self.assertRaisesRegex(Failed, "m: no verdict: .*status"):
+                self.judge(trace, replay)
+
+    def test_runs_that_hang(self) -> None:
+        for trace, replay in (("sleep 600", "exit 1"), ("echo trace", "sleep 600")):
+            with (
+                self.subTest(trace),
+                patch.object(verdicts, "LEAST", 0.2),
+                self.assertRaisesRegex(Failed, "^m: no verdict: `trace` hasn't ended"),
+            ):
+                self.judge(trace, replay)
+
+    def test_each_trace_of_a_mutant_has_a_control(self) -> None:
+        self.assertLess(set(pool_traces.OF_MUTANT), set(pool_traces.OF_CODE))
 
 
 if __name__ == "__main__":

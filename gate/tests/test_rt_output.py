@@ -3,7 +3,7 @@
 import unittest
 
 from gate import rt_output
-from gate.rt_output import Counts
+from gate.rt_output import Counts, Evidence, OpenGoal
 from gate.tests.places import log
 
 TRAITS = "bb_memory_traits"
@@ -29,12 +29,14 @@ class GoalsTest(unittest.TestCase):
 
     def test_open_goal_of_a_function_without_written_proof(self) -> None:
         goals = rt_output.open_goals(f"{TRAITS}::allocator::Allocator::grow_zeroed", log("round"))
-        self.assertEqual(goals, ["returns-clause-bytes", "returns-clause-bytes"])
+        self.assertEqual(goals, [OpenGoal("returns-clause-bytes", Evidence.LIMIT)])
 
     def test_refused_answer_in_a_proof_file(self) -> None:
         goals = rt_output.open_goals(f"{TRAITS}::layout::Layout::within", log("round"))
         self.assertEqual(len(goals), 2)
-        self.assertTrue(goals[0].startswith("`invariant_of-result`: as printed, the two types"))
+        self.assertTrue(
+            goals[0].text.startswith("`invariant_of-result`: as printed, the two types")
+        )
 
     def test_goals_of_other_functions_do_not_count(self) -> None:
         self.assertEqual(
@@ -48,7 +50,43 @@ class GoalsTest(unittest.TestCase):
 
     def test_folder_of_a_function_that_calls_itself(self) -> None:
         said = "./proofs/a/+f/Answers.antt:3:4: error: `grind` found no proof\nfn low::a::f: not proved\n"
-        self.assertEqual(rt_output.open_goals("low::a::f", said), ["`grind` found no proof"])
+        self.assertEqual(
+            rt_output.open_goals("low::a::f", said),
+            [OpenGoal("`grind` found no proof", Evidence.OPEN)],
+        )
+
+    def test_evidence(self) -> None:
+        for said, evidence in (
+            ("; the facts known there allow values at which this goal is false", Evidence.VALUES),
+            ("`grind`: the goal does not follow. The hypotheses hold", Evidence.VALUES),
+            ("", Evidence.OPEN),
+            ("; `search` gave up at one of its limits", Evidence.LIMIT),
+            ("; `grind` gave up at one of its limits", Evidence.LIMIT),
+            ("`grind` stopped at its own limit of 400 steps, so the goal may hold", Evidence.LIMIT),
+        ):
+            with self.subTest(said):
+                self.assertIs(rt_output.evidence_of(said), evidence)
+
+    def test_the_verdict_says_less_of_a_goal_than_its_note(self) -> None:
+        note = "note: src/a.rt:1:1: it is not proved (`returns`); `search` gave up at one of its limits\n"
+        verdict = "fn low::a::f: no proof; `search` did not prove `returns`; `search` did not prove `two`\n"
+        goals = rt_output.open_goals("low::a::f", note + verdict)
+        self.assertEqual(
+            goals, [OpenGoal("returns", Evidence.LIMIT), OpenGoal("two", Evidence.OPEN)]
+        )
+
+    def test_words_of_verdicts(self) -> None:
+        for text, proved, undecided in (
+            ("proved", True, False),
+            ("proved, may wait", True, False),
+            ("not proved", False, False),
+            ("no proof: expected answers", False, False),
+            ("could not tell", False, True),
+        ):
+            with self.subTest(text):
+                verdict = rt_output.Verdict(text, "")
+                self.assertEqual(rt_output.is_proved(verdict), proved)
+                self.assertEqual(rt_output.is_undecided(verdict), undecided)
 
     def test_verdict(self) -> None:
         verdict = rt_output.verdict_on(f"{TRAITS}::layout::Layout::align", log("round"))

@@ -28,6 +28,7 @@ CHECKOUT = {
     ".ci/rows": WELL,
     ".ci/mutants": WELL,
     ".ci/run-c": WELL,
+    ".ci/run-memrun": WELL,
     "tools/imports": WELL,
 }
 
@@ -53,15 +54,16 @@ class GateTest(CheckoutTest):
         self.ran_layout = self.enterContext(patch("gate.run.layout.run"))
         self.enterContext(patch("gate.run.layout.install"))
 
-    def run_gate(self) -> str:
+    def run_gate(self, anew: bool = False) -> str:
         """Runs the gate and returns what it prints."""
         stored = self.work / "log"
         stored.write_text(self.log, encoding="utf-8")
         copy = "test -f crates/low/src/lib.rt && ! test -e crates/low/must-fail || exit 4\n"
-        rt = f'#!/bin/sh\n{copy}cat "{stored}"\nexit {self.status}\n'
+        known = '[ "$1" = help ] && echo "rt ci --anew proves all" && exit 0\n'
+        rt = f'#!/bin/sh\n{known}{copy}echo "rt: $*"\ncat "{stored}"\nexit {self.status}\n'
         printed = io.StringIO()
         with self.tool("rt", rt), redirect_stdout(printed):
-            run.run(self.top)
+            run.run(self.top, anew)
         return printed.getvalue()
 
     def test_it_passes_what_is_well(self) -> None:
@@ -75,7 +77,40 @@ class GateTest(CheckoutTest):
         for shell in ("", "sh", "bash"):
             ended = process.run([*shell.split(), TOP / ".ci/run", "word"], self.work)
             self.assertEqual(ended.status, 1, shell)
-            self.assertEqual(ended.text, "usage: .ci/run, with no arguments\n")
+            self.assertEqual(ended.text, "usage: .ci/run [--anew]\n")
+
+    def test_it_prints_what_each_part_took(self) -> None:
+        printed = self.run_gate()
+        for part in ("texts", "proofs for C and mutants", "mutants", "rt ci", "OOM tests"):
+            self.assertRegex(printed, rf"(?m)^ +\d+ s, +\d+ s of processor time: {part}$")
+
+    def test_anew_reads_nothing_that_is_kept(self) -> None:
+        words = '#!/bin/sh\necho "$*" >words\n'
+        self.write({".ci/mutants": words})
+        self.assertIn("rt: ci\n", self.run_gate())
+        self.assertEqual((self.top / "words").read_text(encoding="utf-8"), "\n")
+        self.assertIn("rt: ci --anew\n", self.run_gate(anew=True))
+        self.assertEqual((self.top / "words").read_text(encoding="utf-8"), "--anew\n")
+
+    def test_a_kit_that_keeps_nothing(self) -> None:
+        with self.tool("rt", "#!/bin/sh\necho rt ci\n"):
+            self.assertEqual(run.ci_words(anew=True), ["rt", "ci"])
+
+    def test_what_is_proved_for_mutants_and_hosts(self) -> None:
+        """The crates with mutants that aren't kept, and those of the library for C."""
+        words = '#!/bin/sh\necho "$*" >words\n'
+        edit = "# function: low\nfile: src/lib.rt\nold: low() {}\nnew: low() {};\n"
+        self.write(
+            {
+                "test": words,
+                "crates.txt": "low:\nmemrun:\nother:\n",
+                "crates/low/must-fail/right.edit": edit,
+            }
+        )
+        with patch("gate.crates.kit", return_value="kit"):
+            self.run_gate()
+        text = (self.top / "words").read_text(encoding="utf-8")
+        self.assertEqual(text, "--proofs low memrun\n")
 
     def test_a_function_that_may_wait(self) -> None:
         self.log = log("ci_wait")
@@ -95,7 +130,7 @@ class GateTest(CheckoutTest):
 
     def test_rt_ci_is_missing(self) -> None:
         with patch.dict(os.environ, {"PATH": "/nowhere"}), self.assertRaises(FileNotFoundError):
-            run.run_commands(self.top, self.work)
+            run.run_commands(self.top, self.work, False)
 
     def test_layout_has_findings(self) -> None:
         self.ran_layout.side_effect = Failed("planted")
@@ -109,7 +144,7 @@ class GateTest(CheckoutTest):
 
     def test_each_command_fails(self) -> None:
         commands = [name for name, text in CHECKOUT.items() if text == WELL]
-        self.assertEqual(len(commands), 6)
+        self.assertEqual(len(commands), 7)
         for command in commands:
             self.write({command: BADLY})
             with self.assertRaisesRegex(Failed, f"status 3: .*{command}"):
