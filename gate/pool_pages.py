@@ -64,14 +64,19 @@ class Pages:
 
     def compile(self, words: Sequence[str | Path]) -> None:
         """Runs the compiler, which finds the installed headers."""
-        includes = [f"-I{self.prefix / 'include'}", f"-I{self.crate}"]
+        includes: list[str | Path] = [f"-I{self.prefix / 'include'}", f"-I{self.crate}"]
         must_run(["cc", "-O2", "-w", *includes, *words, "-pthread"], self.work, self.environment)
 
     def simulated(self, source: Path, name: str) -> Path:
         """Compiles a source for the simulated system. Returns the object."""
         compiled = self.work / f"{name}.o"
         header = self.crate / "tests/pool_file/pages/large_pages.h"
-        flags = ["-std=gnu99", "-include", header, f"-DSIMULATED_PAGE={self.size}"]
+        flags: list[str | Path] = [
+            "-std=gnu99",
+            "-include",
+            header,
+            f"-DSIMULATED_PAGE={self.size}",
+        ]
         self.compile([*flags, "-c", "-o", compiled, source])
         return compiled
 
