@@ -212,8 +212,8 @@ def run_with_musl(test: OtherTarget, name: str, flags: Sequence[str], folder: Pa
     test.compile(["-std=c99", *words, calls, sources / "calls.c", wrapped, archive])
     test.run(calls)
     cases = test.work / f"cases.{name}"
-    forks = "-Wl,--wrap=pthread_atfork"
-    test.compile(["-std=c11", *words, cases, sources / "pool_file/cases.c", forks, archive])
+    forks = ["-DWRAPS_ATFORK", "-Wl,--wrap=pthread_atfork"]
+    test.compile(["-std=c11", *words, cases, sources / "pool_file/cases.c", *forks, archive])
     test.run(cases, [folder])
     kills = test.work / f"kills.{name}"
     test.compile(["-std=c11", *words, kills, sources / "pool_file/kills.c", archive])

@@ -16,9 +16,9 @@ enum {
 };
 
 // The bytes of two cache lines, which processors fetch together, or of one line on some ARM64
-// processors: threads slow each other down if each of them writes to the same pair. So each block of
-// at least that size begins at a multiple of it. The blocks of two parties of a shared pool share no
-// such pair then.
+// processors: threads slow each other down if each of them writes to the same pair. So each block
+// of at least that size begins at a multiple of it. The blocks of two parties of a shared pool
+// share no such pair then.
 enum {
     LINE_PAIR = 128
 };

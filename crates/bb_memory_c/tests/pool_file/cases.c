@@ -102,7 +102,7 @@ int fdatasync(int fd) {
 // The error with which functions that every fork has to run are refused, or 0.
 static int atfork_error;
 
-#ifdef __GLIBC__
+#ifndef WRAPS_ATFORK
 int __register_atfork(void (*prepare)(void), void (*parent)(void), void (*child)(void), void *dso);
 
 int __register_atfork(void (*prepare)(void), void (*parent)(void), void (*child)(void), void *dso) {
@@ -114,7 +114,7 @@ int __register_atfork(void (*prepare)(void), void (*parent)(void), void (*child)
     return registered(prepare, parent, child, dso);
 }
 #else
-// For another C library this program is linked with `-Wl,--wrap=pthread_atfork`.
+// For musl, and for a static program, this is linked with `-Wl,--wrap=pthread_atfork`.
 int __real_pthread_atfork(void (*prepare)(void), void (*parent)(void), void (*child)(void));
 int __wrap_pthread_atfork(void (*prepare)(void), void (*parent)(void), void (*child)(void));
 
