@@ -155,15 +155,17 @@ class OtherTarget:
             raise Failed(f"{self.target.name}: the archive has {', '.join(found)}")
 
     def run_models(self, *flags: str) -> None:
-        """Compares the library with each model, and tests memory.c."""
+        """Compares the library with each model, and tests memory.c and the files of the kit."""
         archive = self.prefix / "lib/libbb_memory.a"
         for source in sorted((self.crate / "tests/models").glob("*.c")):
             program = self.work / source.stem
             self.compile(["-std=c99", *FLAGS, *flags, "-o", program, source, archive])
             self.run(program)
-        program = self.work / "memory"
-        self.compile(["-std=c99", *FLAGS, *flags, "-o", program, self.crate / "tests/memory.c"])
-        self.run(program)
+        for name in ("memory", "kit"):
+            program = self.work / name
+            source = self.crate / f"tests/{name}.c"
+            self.compile(["-std=c99", *FLAGS, *flags, "-o", program, source])
+            self.run(program)
 
     def run_examples(self) -> None:
         """Builds and runs the examples, over both libraries."""
