@@ -24,8 +24,6 @@ from gate.temporary import temporary_folder
 
 # The word that code needs in order to wait, and the trait of the kit that brings it.
 WAIT = re.compile(r"\bWait(?:Methods)?\b")
-# The library that `./test` builds.
-LIBRARY = "crates/bb_memory_c/out/libbb_memory_c.a"
 
 
 def waiting_lines(workspace: Workspace) -> list[str]:
@@ -172,7 +170,7 @@ def run_commands(top: Path, work: Path) -> str:
         check_texts(top)
         must_show([top / "test"], top)
         with background([top / ".ci/mutants"], top) as mutants:
-            must_show([top / ".ci/run-c", LIBRARY], top)
+            must_show([top / ".ci/run-c"], top)
             mutants.finish()
         show_until_end(rt_ci, work / "log", "rt: ")
         return rt_ci.finish()
