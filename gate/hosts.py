@@ -1,21 +1,20 @@
 """Tests everything that hosts get from the library for C: `.ci/run-c [FILE]`.
 
-FILE is the built library. Without FILE, the library is proved and built first.
+FILE is the built library for this machine. Without FILE, it is compiled from the proofs.
 
-These are tests of its installation, of the release in dist, of the examples, of pools in files, of
-the Rust crate, and of the programs that GUIDE.md and README.md show, in a copy of the tree. Once a
-release of the library is made, nothing may call `rt`. If the same kit and tools made the release in
-dist, it has to have the same bytes.
+These are tests of its installation, of the releases in dist, of the examples, of pools in files, of
+the Rust crate, of other targets than this machine, and of the programs that GUIDE.md and README.md
+show, in a copy of the tree. Once the releases are made, nothing may call `rt`. If the same kit and
+tools made the releases in dist, they have to have the same bytes.
 """
 
-import filecmp
 import os
 import shutil
 import subprocess
 from collections.abc import Mapping
 from pathlib import Path
 
-from gate import pool_file, times
+from gate import other_targets, pool_file, pool_pages, releases, times
 from gate.crates import TOP
 from gate.files import MADE
 from gate.process import Failed, has, must_run, must_show, say
@@ -39,22 +38,19 @@ class Hosts:
     def __init__(self, top: Path, work: Path) -> None:
         self.top = top
         self.work = work
-        self.library = work / "given/bb_memory.o"
-        self.memrun = work / "given/memrun.o"
+        built = releases.build_folder(releases.RELEASES[0], work)
+        self.library = built / "bb_memory.o"
+        self.memrun = built / "memrun.o"
         self.prefix = work / "prefix"
 
-    def make_release(self, library: Path | None) -> None:
-        """Makes a release of memrun and a library, which is proved and built first if None."""
-        given = []
+    def make_releases(self, library: Path | None) -> None:
+        """Makes the release for each processor: for this machine from a library, if it is given."""
+        given = None
         if library is not None:
             # The path of a checkout may have blanks, at which `make` would split it.
-            shutil.copy2(library, self.work / library.name)
-            given = [f"LIBRARY={self.work / library.name}"]
-        folders = [f"DIST={self.work / 'dist'}", f"BUILD={self.library.parent}"]
-        must_run(["make", "-s", "-C", "crates/bb_memory_c", "release", *folders, *given], self.top)
-        counts = (self.work / "dist/INSTRUCTION_COUNTS").read_text(encoding="utf-8")
-        for line in counts.splitlines():
-            say(line.replace(" ", " instructions: ", 1))
+            given = self.work / library.name
+            shutil.copy2(library, given)
+        releases.make(self.top, self.work, os.environ, given)
 
     def build_replay(self) -> None:
         """Proves and builds the program that replays traces of pools in files."""
@@ -98,27 +94,20 @@ class Hosts:
         """Tests pools in files."""
         replay = self.top / REPLAY
         pool_file.check(self.top, self.prefix, replay, self.work / "pool_file", environment)
+        pool_pages.check(self.top, self.prefix, self.work, environment)
+
+    def check_other_targets(self, environment: Mapping[str, str]) -> None:
+        """Tests the library on other targets than this machine."""
+        other_targets.check(self.top, self.work, environment)
 
     def check_rust(self, environment: Mapping[str, str]) -> None:
         """Tests the Rust crate."""
         if has("cargo", environment):
             must_show([self.top / "bindings/rust/check", self.prefix], self.top, environment)
 
-    def compare_release(self) -> None:
-        """Compares the release in dist with this library's, if the same tools made both."""
-        stored = self.top / "dist"
-        made = self.work / "dist"
-        if not filecmp.cmp(stored / "MADE_BY", made / "MADE_BY", shallow=False):
-            kit = (stored / "MADE_BY").read_text(encoding="utf-8").partition("\n")[0]
-            say(f"dist was made by {kit}, or with other tools, so its bytes can't be compared")
-            return
-        names = sorted({file.name for folder in (stored, made) for file in folder.iterdir()})
-        _, differing, missing = filecmp.cmpfiles(stored, made, names, shallow=False)
-        if differing or missing:
-            raise Failed(
-                f"dist has the release of another library: {' '.join([*differing, *missing])}\n"
-                "to make it again: make -C crates/bb_memory_c release"
-            )
+    def compare_releases(self) -> None:
+        """Compares the releases in dist with those of this library, if the same tools made both."""
+        releases.compare(self.top / "dist", self.work / "dist")
 
     def run_pages(self, environment: Mapping[str, str]) -> None:
         """Runs the programs for C that GUIDE.md and README.md show, in a fresh copy of the tree."""
@@ -150,8 +139,8 @@ def run(library: Path | None) -> None:
     """Tests everything that hosts get from a library. Raises Failed if a test fails."""
     with temporary_folder() as work:
         hosts = Hosts(TOP, work)
-        with times.part("hosts: the release"):
-            hosts.make_release(library)
+        with times.part("hosts: the releases"):
+            hosts.make_releases(library)
             hosts.build_replay()
         environment = hosts.environment()
         with times.part("hosts: the installation"):
@@ -160,9 +149,11 @@ def run(library: Path | None) -> None:
             hosts.run_examples(environment)
         with times.part("hosts: pools in files"):
             hosts.check_pool_file(environment)
+        with times.part("hosts: other targets"):
+            hosts.check_other_targets(environment)
         with times.part("hosts: the Rust crate"):
             hosts.check_rust(environment)
-        hosts.compare_release()
+        hosts.compare_releases()
         with times.part("hosts: the pages"):
             hosts.run_pages(environment)
 

@@ -18,8 +18,17 @@ from gate.files import MADE, files_below
 from gate.process import Failed, has, say
 from gate.temporary import temporary_folder
 
-# The Debian packages of the tools, which have the tools' names.
-PACKAGES = ("clang-format", "black", "mypy", "shellcheck")
+# The Debian packages of the tools, and of those by which `.ci/run-c` tests other targets.
+PACKAGES = {
+    "clang-format": ("clang-format",),
+    "black": ("black",),
+    "mypy": ("mypy",),
+    "shellcheck": ("shellcheck",),
+    "aarch64-linux-gnu-gcc": ("gcc-aarch64-linux-gnu", "libc6-dev-arm64-cross"),
+    "aarch64-linux-gnu-g++": ("g++-aarch64-linux-gnu",),
+    "qemu-aarch64": ("qemu-user",),
+    "musl-gcc": ("musl-tools",),
+}
 # The versions that laid out the files, as the tools print them.
 LAYOUT_OF = {"clang-format": r"\b14\.", "black": r"\b23\."}
 C_ENDINGS = {".c", ".h", ".cpp", ".hpp"}
@@ -115,10 +124,11 @@ def install() -> None:
 
     A tool that can't be installed is skipped later.
     """
-    missing = [tool for tool in PACKAGES if shutil.which(tool) is None]
+    without = [packages for tool, packages in PACKAGES.items() if shutil.which(tool) is None]
+    missing = [package for packages in without for package in packages]
     if not missing or os.geteuid() != 0 or shutil.which("apt-get") is None:
         return
-    say(f"layout: installing {' '.join(missing)}")
+    say(f"installing {' '.join(missing)}")
     quick = ["-o", "Acquire::Retries=0", "-o", "Acquire::http::Timeout=10"]
     words = ["apt-get", "install", "-y", "-q", *quick, *missing]
     environment = {**os.environ, "DEBIAN_FRONTEND": "noninteractive"}

@@ -54,8 +54,12 @@ class Ended:
 
 @dataclass(frozen=True)
 class Setting:
-    """The setting of a run: files instead of the script and of the output, and the environment."""
+    """The setting of a run: the program, files for input and output, and the environment.
 
+    The script and the output are those files if they are given.
+    """
+
+    program: Path = MEMRUN
     input_file: Path | None = None
     output_file: Path | None = None
     environment: Mapping[str, str] = field(default_factory=dict)
@@ -65,7 +69,7 @@ def run(text: str, setting: Setting = Setting()) -> Ended:
     """Runs memrun on the text of a script, and with an argument, which it has to ignore."""
     with ExitStack() as files:
         ran = subprocess.Popen(
-            [MEMRUN, "--help"],
+            [setting.program, "--help"],
             stdin=stream(setting.input_file, os.O_RDONLY, files),
             stdout=stream(setting.output_file, os.O_WRONLY, files),
             stderr=subprocess.PIPE,
@@ -283,21 +287,23 @@ MEMORY = [
 ]
 
 
-def run_scripts() -> None:
-    """Runs memrun on all scripts, and with an input and an output that fail."""
+def run_scripts(program: Path = MEMRUN) -> int:
+    """Runs memrun on all scripts, and with an input and an output that fail.
+
+    Returns the number of scripts.
+    """
     count = 0
     for script in [stored(), *worked(), *STATUSES, *POOLS, *LONG]:
-        must_end(script, run(script.text))
+        must_end(script, run(script.text, Setting(program)))
         count += 1
-    ended = run("", Setting(input_file=TOP))
+    ended = run("", Setting(program, input_file=TOP))
     must_end(Script("an input that is a folder", [], IO_FAILED), ended, "memrun: input failed\n")
     count += 1
     for text in ("bump 4096 8\nalloc 4 1\n", "bump 4096 8\nbad\n"):
-        ended = run(text, Setting(output_file=Path("/dev/full")))
+        ended = run(text, Setting(program, output_file=Path("/dev/full")))
         must_end(Script(text, [], IO_FAILED), ended, "memrun: output failed\n")
         count += 1
-    picture.check_pages()
-    say(f"{count} scripts of memrun, with statuses 0, 2 and 3: both streams are right")
+    return count
 
 
 def run_out_of_memory(library: Path) -> None:
@@ -328,5 +334,7 @@ def main(words: list[str]) -> None:
     """Runs `.ci/run-memrun [REFUSE.SO]`."""
     if words:
         run_out_of_memory(Path(words[0]).resolve())
-    else:
-        run_scripts()
+        return
+    count = run_scripts()
+    picture.check_pages()
+    say(f"{count} scripts of memrun, with statuses 0, 2 and 3: both streams are right")

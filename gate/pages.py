@@ -47,7 +47,9 @@ TESTED = (
     ("GUIDE.md", "rust", "crates/examples/src/*.rt"),
 )
 # The pages whose programs and shell commands are run in order, each page in a fresh copy.
-HOSTS = ("GUIDE.md", "README.md")
+HOSTS = ("README.md", "GUIDE.md")
+# The commands of pages that compile or run a program for another target than this machine.
+OTHER_TOOLS = ("musl-gcc", "aarch64-linux-gnu-gcc", "qemu-aarch64")
 # Words with which no comment may begin: the files, the mark of a comment, and the words.
 FIRST_WORDS = (
     ("crates/*/src/*.rt", "//[/!]", "What|Whether"),
@@ -247,6 +249,15 @@ def findings(tree: Tree) -> Iterator[str]:
     yield from long_subject(tree.top)
 
 
+def guarded(commands: str) -> str:
+    """Returns commands of a page that are skipped if a tool for another target isn't installed."""
+    for tool in OTHER_TOOLS:
+        if re.search(rf"^{tool} ", commands, re.M):
+            missing = f"echo '{tool}: not installed, skipped'"
+            commands = f"if command -v {tool} > /dev/null; then\n{commands}else\n{missing}\nfi\n"
+    return commands
+
+
 def hosts(page: str) -> Iterator[str]:
     """Yields the parts of a script with the programs in C or C++, and the commands, of a page.
 
@@ -255,7 +266,7 @@ def hosts(page: str) -> Iterator[str]:
     blocks = re.findall(r"(?:`([\w.]+)`:\n\n)?^```(sh|c|cpp)\n(.*?)^```$", page, re.M | re.S)
     for file, language, text in blocks:
         if language == "sh":
-            yield text
+            yield guarded(text)
         elif not file:
             raise Failed(f"pages: a program without the name of its file above:\n{text}")
         else:

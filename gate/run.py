@@ -31,9 +31,8 @@ from gate.times import Measured
 
 # The word that code needs in order to wait, and the trait of the kit that brings it.
 WAIT = re.compile(r"\bWait(?:Methods)?\b")
-# What `./test --proofs` proves and builds for the tests of C, and the library that it builds.
+# What `./test --proofs` proves and builds for the tests of C.
 FOR_HOSTS = ("bb_memory_c", "memrun", "file_replay")
-LIBRARY = "crates/bb_memory_c/out/libbb_memory_c.a"
 
 
 def waiting_lines(workspace: Workspace) -> list[str]:
@@ -215,7 +214,7 @@ def run_commands(top: Path, work: Path, anew: bool) -> str:
             with times.part("memrun on scripts"):
                 must_show([top / ".ci/run-memrun"], top)
             with times.part("hosts: C, C++ and Rust"):
-                must_show([top / ".ci/run-c", LIBRARY], top)
+                must_show([top / ".ci/run-c"], top)
             judged.finish("mutants")
         show_until_end(rt_ci, work / "log", "rt: ")
         return rt_ci.finish("rt ci")

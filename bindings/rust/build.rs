@@ -9,14 +9,8 @@ use std::iter;
 use std::path::{Path, PathBuf};
 use std::process::Command;
 
-/// The folders where systems keep the files of `pkg-config`.
-const STANDARD_FOLDERS: [&str; 5] = [
-    "/usr/local/lib/pkgconfig",
-    "/usr/local/lib/x86_64-linux-gnu/pkgconfig",
-    "/usr/lib/pkgconfig",
-    "/usr/lib/x86_64-linux-gnu/pkgconfig",
-    "/usr/lib64/pkgconfig",
-];
+/// The folders where systems keep libraries for the processor that they run on.
+const NATIVE_FOLDERS: [&str; 3] = ["/usr/local/lib", "/usr/lib", "/usr/lib64"];
 
 /// The ABI of this crate's declarations: `BB_ABI` of the header.
 const ABI: &str = "4";
@@ -54,7 +48,7 @@ fn folder_by_pkg_config() -> Option<PathBuf> {
     let path = env::var_os("PKG_CONFIG_PATH").unwrap_or_default();
     let folders = env::split_paths(&path)
         .chain(iter::once_with(unpacked_release).flatten())
-        .chain(STANDARD_FOLDERS.map(PathBuf::from));
+        .chain(iter::once_with(standard_folders).flatten());
     folders.map(|folder| folder.join("bb_memory.pc")).find_map(|file| {
         let text = fs::read_to_string(&file).ok()?;
         println!("cargo::rerun-if-changed={}", file.display());
@@ -62,13 +56,32 @@ fn folder_by_pkg_config() -> Option<PathBuf> {
     })
 }
 
-/// Unpacks the release of this version into the build's own folder, if the repository around this
-/// crate has it.
+/// Returns what Cargo says of the target, such as `arch`, or an empty text.
+fn target(what: &str) -> String {
+    env::var(format!("CARGO_CFG_TARGET_{what}")).unwrap_or_default()
+}
+
+/// Returns the folders where systems keep the files of `pkg-config` for the target. If the target is
+/// another processor than the one that builds, the folders have its name.
+fn standard_folders() -> Vec<PathBuf> {
+    let (arch, libc) = (target("ARCH"), target("ENV"));
+    let is_native = env::var("HOST").is_ok_and(|host| host.starts_with(&format!("{arch}-")));
+    let named = ["/usr/local/lib", "/usr/lib"].map(|lib| format!("{lib}/{arch}-linux-{libc}"));
+    let native = NATIVE_FOLDERS.iter().filter(|_| is_native).map(|&lib| lib.to_owned());
+    let other = format!("/usr/{arch}-linux-{libc}/lib");
+    native.chain(named).chain([other]).map(|lib| PathBuf::from(lib).join("pkgconfig")).collect()
+}
+
+/// Unpacks the release of this version for the target into the build's own folder, if the repository
+/// around this crate has it. Its archive is for glibc and for musl.
 fn unpacked_release() -> Option<PathBuf> {
-    let release = concat!("bb_memory-", env!("CARGO_PKG_VERSION"), "-x86_64-linux");
+    let (arch, version) = (target("ARCH"), env!("CARGO_PKG_VERSION"));
+    let release = format!("bb_memory-{version}-{arch}-linux");
     let archive = format!("{}/../../dist/{release}.tar.gz", env!("CARGO_MANIFEST_DIR"));
-    let target = env::var("TARGET").ok()?;
-    let fits = target.starts_with("x86_64-") && target.contains("-linux-");
+    let fits = target("OS") == "linux"
+        && target("POINTER_WIDTH") == "64"
+        && target("ENDIAN") == "little"
+        && matches!(target("ENV").as_str(), "gnu" | "musl");
     if !fits || !Path::new(&archive).exists() {
         return None;
     }

@@ -1,6 +1,6 @@
 // The source of the library's own memory. This file is outside the proofs: all that a contract says
 // of a request for memory is that it may fail. The Makefile has the library call `memory_*` in
-// place of `malloc`, `realloc` and `free`.
+// place of `malloc` and `free`.
 
 // For `posix_memalign` in C99.
 #define _POSIX_C_SOURCE 200112L
@@ -10,14 +10,15 @@
 #include "bb_memory.h"
 #include "memory.h"
 
-// The alignment of each block, which `malloc` has on x86-64.
+// The alignment of each block, which `malloc` has on x86-64 and on ARM64.
 enum {
     BLOCK_ALIGN = 16
 };
 
-// The bytes of two cache lines, which processors fetch together: threads slow each other down if
-// each of them writes one of the two. So each block of at least that size begins at a multiple of
-// it. The blocks of two parties of a shared pool share no such pair then.
+// The bytes of two cache lines, which processors fetch together, or of one line on some ARM64
+// processors: threads slow each other down if each of them writes to the same pair. So each block
+// of at least that size begins at a multiple of it. The blocks of two parties of a shared pool
+// share no such pair then.
 enum {
     LINE_PAIR = 128
 };
@@ -60,7 +61,6 @@ static void release_by(void *block) {
 
 // Hidden: the archive and the shared library export only `bb_*`.
 void *memory_allocate(size_t size);
-void *memory_resize(void *block, size_t size);
 void memory_release(void *block);
 
 // A thread's loan of memory: memory.h.
@@ -100,13 +100,6 @@ void *memory_allocate(size_t size) {
         return NULL;
     loan.given++;
     return loan.block;
-}
-
-// Fails. The library never calls this, as `check` finds: no block of it is resized.
-void *memory_resize(void *block, size_t size) {
-    (void)block;
-    (void)size;
-    return NULL;
 }
 
 // Does nothing for NULL, as `free` does: the host's function never gets it.

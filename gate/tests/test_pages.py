@@ -255,6 +255,14 @@ class Shown(unittest.TestCase):
         with self.assertRaisesRegex(process.Failed, "without the name of its file above:\nint a;"):
             list(pages.hosts("A program:\n\n```c\nint a;\n```\n"))
 
+    def test_commands_for_another_target_may_be_skipped(self) -> None:
+        (commands,) = pages.hosts("```sh\nmusl-gcc a.c\n./a.out\n```\n")
+        self.assertEqual(
+            commands,
+            "if command -v musl-gcc > /dev/null; then\nmusl-gcc a.c\n./a.out\nelse\n"
+            "echo 'musl-gcc: not installed, skipped'\nfi\n",
+        )
+
 
 class Fixes(unittest.TestCase):
     """`--fix` writes the numbers that nobody counts by hand."""

@@ -61,7 +61,6 @@ int main(void) {
     EXPECT(block == blocks[0] && memory_allocate(65) == NULL);
     memory_release(block);
     EXPECT(host.released == 1 && host.last == blocks[0]);
-    EXPECT(memory_resize(blocks[0], 64) == NULL);
 
     // The second and the third request get the loan, whose releases free nothing.
     memory_lend(lent, sizeof lent, 2, 2);

@@ -84,14 +84,16 @@ ssize_t pwrite(int fd, const void *bytes, size_t size, off_t at) {
 }
 
 // How many files were written to the disk, and the error if that fails, or 0. It has to come when a
-// file has its header, and no more.
+// file has its header, and no more. And the format that the header has to have.
 static uint32_t synced;
 static int syncing_error;
+static char format = 2;
 
 int fdatasync(int fd) {
     char header[PAGE] = "";
     const ssize_t length = pread(fd, header, sizeof header, 0);
-    EXPECT(length > 16 && length < PAGE && memcmp(header, "bbpool\r\n\2\0\0\0\1", 13) == 0);
+    EXPECT(length > 16 && length < PAGE && memcmp(header, "bbpool\r\n", 8) == 0);
+    EXPECT(header[8] == format && memcmp(header + 9, "\0\0\0\1", 4) == 0);
     synced++;
     errno = syncing_error;
     return syncing_error == 0 ? 0 : -1;
@@ -100,6 +102,7 @@ int fdatasync(int fd) {
 // The error with which functions that every fork has to run are refused, or 0.
 static int atfork_error;
 
+#ifndef WRAPS_ATFORK
 int __register_atfork(void (*prepare)(void), void (*parent)(void), void (*child)(void), void *dso);
 
 int __register_atfork(void (*prepare)(void), void (*parent)(void), void (*child)(void), void *dso) {
@@ -110,6 +113,17 @@ int __register_atfork(void (*prepare)(void), void (*parent)(void), void (*child)
     memcpy(&registered, &found, sizeof found);
     return registered(prepare, parent, child, dso);
 }
+#else
+// For musl, and for a static program, this is linked with `-Wl,--wrap=pthread_atfork`.
+int __real_pthread_atfork(void (*prepare)(void), void (*parent)(void), void (*child)(void));
+int __wrap_pthread_atfork(void (*prepare)(void), void (*parent)(void), void (*child)(void));
+
+int __wrap_pthread_atfork(void (*prepare)(void), void (*parent)(void), void (*child)(void)) {
+    if (atfork_error != 0)
+        return atfork_error;
+    return __real_pthread_atfork(prepare, parent, child);
+}
+#endif
 
 // Whether the system maps pages a second time.
 static bool maps_again = true;
@@ -216,6 +230,11 @@ static uint32_t code_of(const char *name, const bb_pool_file_options *options) {
         close_it(file);
     errno = error;
     return code;
+}
+
+// Returns the bytes of the system's page, which may be larger than one of the file.
+static size_t system_page(void) {
+    return (size_t)sysconf(_SC_PAGESIZE);
 }
 
 static bool fails_with(int error, const char *name, const bb_pool_file_options *options) {
@@ -367,6 +386,16 @@ static void wrong_files(void) {
     write_file(path, "\1", 1, 12);
     EXPECT(code_of(path, NULL) == BB_FILE_STALE && code_of(path, &OPTIONS) == BB_OK);
     EXPECT(code_of(path, NULL) == BB_OK);
+    write_file(path, "\3", 1, 8);  // a format for buckets that are aligned to more than a page
+    EXPECT(code_of(path, NULL) == BB_FILE_VERSION);
+    remove_it();
+    bb_pool_file_options coarse = OPTIONS;
+    coarse.bucket_align = 2 * PAGE;
+    format = 3;
+    EXPECT(code_of(path, &coarse) == BB_OK && code_of(path, NULL) == BB_OK);
+    write_file(path, "\2", 1, 8);
+    EXPECT(code_of(path, NULL) == BB_FILE_VERSION && code_of(path, &coarse) == BB_FILE_VERSION);
+    format = 2;
     remove_it();
     impossible_options();
     EXPECT(mkdir(path, 0700) == 0 && fails_with(EISDIR, path, &OPTIONS) && rmdir(path) == 0);
@@ -547,7 +576,45 @@ static void stale(void) {
     remove_it();
 }
 
-// Various numbers of buckets and parties, and large alignments.
+// Opens a file with three buckets of this alignment twice. Each bucket is aligned, and what the
+// first owner writes into it is at the same place of the second one's region.
+static void aligned(size_t align, uint32_t slots) {
+    const bb_pool_file_options options = {.bucket_size = 3 * align - 1,
+                                          .bucket_align = align,
+                                          .buckets = 3,
+                                          .parties = 2,
+                                          .slots = slots};
+    bb_pool_file *one;
+    bb_pool_file *two;
+    requested = 0;
+    format = align > PAGE ? 3 : 2;
+    EXPECT(bb_pool_file_open(&one, path, &options) == BB_OK);
+    EXPECT(bb_pool_file_open(&two, path, NULL) == BB_OK);
+    format = 2;
+    bb_pool_party *party = join_it(one);
+    EXPECT(info_of(one).start != info_of(two).start);
+    EXPECT((uintptr_t)info_of(two).start % align == 0);
+    for (int at = 0; at < 3; at++) {
+        bb_place place = take_one(party);
+        EXPECT((uintptr_t)place % align == 0);
+        memset(place, at + 1, options.bucket_size);
+        EXPECT(bb_pool_file_look(two, slots - 1).code == BB_DETACHED_EMPTY);
+    }
+    const char *start = info_of(two).start;
+    for (size_t at = 0; at < 3; at++) {
+        const char *bucket = start + at * BB_STRIDE(3 * align - 1, align);
+        EXPECT(bucket[0] == (char)at + 1 && bucket[options.bucket_size - 1] == (char)at + 1);
+    }
+    EXPECT(bb_pool_party_take(party).code == BB_OUT_OF_MEMORY);
+    EXPECT(info_of(two).held == 3 && info_of(two).alive == 1);
+    close_it(one);
+    EXPECT(info_of(two).held == 0);
+    close_it(two);
+    remove_it();
+}
+
+// Various numbers of buckets and parties, and alignments below and above each system's page. These
+// numbers of slots take one, two, three and four pages of the file.
 static void layouts(void) {
     for (uint32_t buckets = 1; buckets < 80; buckets += buckets < 20 ? 1 : 7) {
         for (uint32_t parties = 1; parties < 80; parties += 13) {
@@ -560,33 +627,10 @@ static void layouts(void) {
             remove_it();
         }
     }
-    for (size_t align = 1; align <= (size_t)1 << 22; align *= 4) {
-        const bb_pool_file_options options = {.bucket_size = 3 * align - 1,
-                                              .bucket_align = align,
-                                              .buckets = 3,
-                                              .parties = 2,
-                                              .slots = 1};
-        bb_pool_file *one;
-        bb_pool_file *two;
-        requested = 0;
-        EXPECT(bb_pool_file_open(&one, path, &options) == BB_OK);
-        EXPECT(bb_pool_file_open(&two, path, NULL) == BB_OK);
-        bb_pool_party *party = join_it(one);
-        EXPECT(info_of(one).start != info_of(two).start);
-        for (int at = 0; at < 3; at++) {
-            bb_place place = take_one(party);
-            EXPECT((uintptr_t)place % align == 0);
-            memset(place, at + 1, options.bucket_size);
-        }
-        const char *start = info_of(two).start;
-        for (size_t at = 0; at < 3; at++)
-            EXPECT(start[at * BB_STRIDE(3 * align - 1, align)] == (char)at + 1);
-        EXPECT(bb_pool_party_take(party).code == BB_OUT_OF_MEMORY);
-        EXPECT(info_of(two).held == 3 && info_of(two).alive == 1);
-        close_it(one);
-        EXPECT(info_of(two).held == 0);
-        close_it(two);
-        remove_it();
+    for (size_t align = 1; align <= (size_t)1 << 22; align *= 2) {
+        aligned(align, 1);
+        for (uint32_t slots = 64; slots < 256 && align <= 1 << 16; slots += 64)
+            aligned(align, slots);
     }
 }
 
@@ -793,7 +837,7 @@ static void many(bool again) {
         const size_t faults = page_faults();
         EXPECT(bb_pool_file_open(&two, path, &options) == BB_OK);
         if (at == 4 && again && maps_at_once())
-            EXPECT(page_faults() - faults < numbers[at] * sizeof(uint64_t) / PAGE / 2);
+            EXPECT(page_faults() - faults < numbers[at] * sizeof(uint64_t) / system_page() / 2);
         if (at == 0)
             few = memory_size;
         EXPECT(memory_size == few);
@@ -1306,14 +1350,17 @@ static void forked(void) {
     bb_pool_file *file = open_it();
     bb_pool_party *party = join_it(file);
     const bb_place place = take_one(party);
-    char *start = info_of(file).start;
+    // The pages of words, slots and region, and one more of the system that is reserved.
+    const size_t page = system_page();
+    char *first = (char *)info_of(file).start - 2 * PAGE;
+    first -= (uintptr_t)first % page;
+    const size_t size = (3 * PAGE + page - 1) / page * page + page;
     unsigned char pages[4];
-    // The pages of words, slots and region, and one more that is reserved.
-    EXPECT(mincore(start - 2 * PAGE, 4 * PAGE, pages) == 0);
+    EXPECT(mincore(first, size, pages) == 0);
     const pid_t child = child_of();
     if (child == 0) {
-        for (int page = -2; page < 2; page++)
-            EXPECT(mincore(start + page * PAGE, PAGE, pages) != 0 && errno == ENOMEM);
+        for (size_t at = 0; at < size; at += page)
+            EXPECT(mincore(first + at, page, pages) != 0 && errno == ENOMEM);
         bb_pool_file_figures figures;
         bb_pool_party *more;
         bb_holder flag;
@@ -1453,7 +1500,7 @@ static void closed(void) {
         bb_pool_file *own = open_it();
         bb_pool_party *party = join_it(own);
         take_one(party);
-        EXPECT(close_range(3, 99, 0) == 0);
+        EXPECT(syscall(SYS_close_range, 3, 99, 0) == 0);
         EXPECT(bb_pool_party_deallocate(party, take_one(party)) == BB_OK);
         bb_pool_file_figures figures;
         EXPECT(bb_pool_file_is_alive(own, 0).number == 1);  // it is this process's own

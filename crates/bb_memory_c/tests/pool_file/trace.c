@@ -957,7 +957,10 @@ int main(int argc, char **argv) {
     watching = open(path, O_RDWR | O_CLOEXEC);
     inherited = open(path, O_RDWR | O_CLOEXEC);
     EXPECT(watching >= 0 && inherited >= 0);
-    words = map(2 * PAGE, watching, PAGE);
+    // The words and the slots, after as much of the header as a mapping has to begin with.
+    const size_t lead = PAGE % (size_t)sysconf(_SC_PAGESIZE);
+    char *first = map(lead + 2 * PAGE, watching, (off_t)(PAGE - lead));
+    words = (void *)(first + lead);
     shared = map(PROCESSES * sizeof *shared, -1, 0);
     add(GONE, PROCESSES);  // so that no event of a call has the index 0
     if (is_random) {

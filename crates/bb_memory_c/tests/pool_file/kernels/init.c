@@ -1,0 +1,60 @@
+// The first program of a virtual machine: runs the commands of the file `/commands`, one on each
+// line, says how each has ended, and switches the machine off. gate/kernels.py says what for.
+#include <stdio.h>
+#include <stdlib.h>
+#include <string.h>
+#include <sys/mount.h>
+#include <sys/reboot.h>
+#include <sys/stat.h>
+#include <sys/wait.h>
+#include <unistd.h>
+
+enum {
+    LONGEST_LINE = 200,
+    MOST_WORDS = 10
+};
+
+static void mounted(const char *kind, const char *at) {
+    mkdir(at, 0755);
+    if (mount(kind, at, kind, 0, NULL) != 0)
+        perror(at);
+}
+
+// Runs a command to its end, and returns its exit status, or -1 if a signal ended it.
+static int run(char *line) {
+    char *words[MOST_WORDS + 1] = {NULL};
+    int count = 0;
+    for (char *word = strtok(line, " \n"); word != NULL && count < MOST_WORDS;
+         word = strtok(NULL, " \n"))
+        words[count++] = word;
+    const pid_t child = fork();
+    if (child == 0) {
+        execv(words[0], words);
+        _exit(127);
+    }
+    int status;
+    if (child < 0 || waitpid(child, &status, 0) != child || !WIFEXITED(status))
+        return -1;
+    return WEXITSTATUS(status);
+}
+
+int main(void) {
+    char line[LONGEST_LINE];
+    char shown[LONGEST_LINE];
+    mounted("proc", "/proc");
+    mounted("devtmpfs", "/dev");
+    mounted("tmpfs", "/dev/shm");
+    mounted("tmpfs", "/tmp");
+    chmod("/dev/shm", 0755);
+    setvbuf(stdout, NULL, _IOLBF, 0);
+    printf("init: pages of %ld bytes\n", sysconf(_SC_PAGESIZE));
+    FILE *commands = fopen("/commands", "r");
+    while (commands != NULL && fgets(line, sizeof line, commands) != NULL) {
+        strcpy(shown, line);
+        shown[strcspn(shown, "\n")] = 0;
+        printf("init: status %d: %s\n", run(line), shown);
+    }
+    fflush(stdout);
+    sync();
+    reboot(RB_POWER_OFF);
+}
