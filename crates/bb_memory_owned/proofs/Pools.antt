@@ -190,15 +190,15 @@ stands-freed pool live position i chunk is stands at fills =
     let here : slice_get new.held i ≡ Some false = slice_get-set_same pool.held i false true fills.held in
     let filled : All (λ (c : Chunk). (j : ℕ) × Fills new c j) (remove live position) =
     All-from_positions (λ (c : Chunk). (j : ℕ) × Fills new c j) (remove live position) (λ k other there.
-    let was = slice_get-removed live position k other there in
-    let b = filled-at pool live stands was.0 other was.2 in
-    let apart : b.0 ≢ i = λ same. places-apart live stands.differ was.0 position other chunk was.1 was.2 at
-    (b.1.placed ∙ ap (bucket_place pool.geometry) same ∙ sym fills.placed) in (
-      b.0,
+    let (before, elsewhere, was_there) = slice_get-removed live position k other there in
+    let (j, filled) = filled-at pool live stands before other was_there in
+    let apart : j ≢ i = λ same. places-apart live stands.differ before position other chunk elsewhere was_there at
+    (filled.placed ∙ ap (bucket_place pool.geometry) same ∙ sym fills.placed) in (
+      j,
       record {
-        held = slice_get-set_other pool.held i b.0 false apart ∙ b.1.held;
-        placed = b.1.placed;
-        short = b.1.short;
+        held = slice_get-set_other pool.held i j false apart ∙ filled.held;
+        placed = filled.placed;
+        short = filled.short;
       },
     )) in
     let differ : PlacesDiffer (remove live position) =
@@ -208,12 +208,12 @@ stands-freed pool live position i chunk is stands at fills =
     elim (cases_eq j i) [
       | inl same ↦ absurd (let e : Some true ≡ Some false = sym has ∙ (ap (slice_get new.held) same ∙ here) in cc)
       | inr apart ↦
-          let was = stands.held j (sym (slice_get-set_other pool.held i j false apart) ∙ has) in
-          let moved : was.0 ≢ position = λ same.
-          let c : was.1.chunk ≡ chunk = same_Some was.1.chunk chunk (sym was.1.there ∙ (ap (slice_get live) same ∙ at)) in
-          apart (one_bucket pool.geometry is.geometry j i (sym was.1.placed ∙ ap (λ (x : Chunk). x.place) c ∙ fills.placed)) in
-          let still = slice_get-unremoved live position was.0 was.1.chunk moved was.1.there in
-          (still.0, record { chunk = was.1.chunk; there = still.1; placed = was.1.placed })
+          let (before, was) = stands.held j (sym (slice_get-set_other pool.held i j false apart) ∙ has) in
+          let elsewhere : before ≢ position = λ same.
+          let c : was.chunk ≡ chunk = same_Some was.chunk chunk (sym was.there ∙ (ap (slice_get live) same ∙ at)) in
+          apart (one_bucket pool.geometry is.geometry j i (sym was.placed ∙ ap (λ (x : Chunk). x.place) c ∙ fills.placed)) in
+          let (now, still_there) = slice_get-unremoved live position before was.chunk elsewhere was.there in
+          (now, record { chunk = was.chunk; there = still_there; placed = was.placed })
     ])
 
 -- ONE RESIZED

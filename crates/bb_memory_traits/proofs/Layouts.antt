@@ -26,11 +26,11 @@ layout-plain size align = (
 
 -- of two powers of two, the lower one divides the higher one
 power-divides : (low high : ℕ) → IsPowerOfTwo low → IsPowerOfTwo high → low ≤ high → (k : ℕ) × (high ≡ k * low)
-power-divides low high p q le = elim (cases_lt q.0 p.0) [
-  | inl below ↦ absurd (omega (arith, p.1, q.1, pow_pos q.0, pow-suc 2 q.0, pow_mono {i = suc q.0} {j = p.0} (omega arith)))
+power-divides low high (p, low_is) (q, high_is) le = elim (cases_lt q p) [
+  | inl below ↦ absurd (omega (arith, low_is, high_is, pow_pos q, pow-suc 2 q, pow_mono {i = suc q} {j = p} (omega arith)))
   | inr above ↦
-      let parts : q.0 ≡ (q.0 - p.0) + p.0 = omega arith in
-      (2 ^ (q.0 - p.0), q.1 ∙ ap (λ j. 2 ^ j) parts ∙ pow-add 2 (q.0 - p.0) p.0 ∙ ap (λ m. 2 ^ (q.0 - p.0) * m) (sym p.1))
+      let parts : q ≡ (q - p) + p = omega arith in
+      (2 ^ (q - p), high_is ∙ ap (λ j. 2 ^ j) parts ∙ pow-add 2 (q - p) p ∙ ap (λ m. 2 ^ (q - p) * m) (sym low_is))
 ]
 
 -- a size and a power of two are a layout exactly if the size is at most what the alignment leaves
@@ -39,31 +39,32 @@ pub valid-up_to : (size align : ℕ) → IsTrue (is_power_of_two align) → alig
     (align ≤ 2 ^ 63) × (IsLayout size align ↔ (size ≤ 2 ^ 63 - align))
 valid-up_to size align test small =
     let power = power_of_two-from_test align test in
-    let low : align ≤ 2 ^ 63 = elim (cases_lt power.0 64) [
-      | inl below ↦ omega (arith, power.1, pow_mono {i = power.0} {j = 63} (omega arith))
-      | inr above ↦ absurd (omega (arith, power.1, pow_mono {i = 64} {j = power.0} above))
+    let (exponent, align_is) = power in
+    let low : align ≤ 2 ^ 63 = elim (cases_lt exponent 64) [
+      | inl below ↦ omega (arith, align_is, pow_mono {i = exponent} {j = 63} (omega arith))
+      | inr above ↦ absurd (omega (arith, align_is, pow_mono {i = 64} {j = exponent} above))
     ] in
-    let whole = power-divides align (2 ^ 63) power (63, refl) low in
+    let (most, whole) = power-divides align (2 ^ 63) power (63, refl) low in
     let positive = power_of_two-positive align power in
     let place = least_place-is size align positive in
-    let k = place.multiple.0 in (
+    let (k, multiple_is) = place.multiple in (
       low,
       (
         λ layout.
             let fits = ((layout-plain size align).0 layout).1 in
-            elim (cases_lt k whole.0) [
-              | inl less ↦ let more = mul-le-mul_right {m = k + 1} {n = whole.0} align (omega arith) in
-                  omega (arith, place.above, place.multiple.1, whole.1, more)
-              | inr past ↦ absurd (omega (arith, fits, place.multiple.1, whole.1, mul-le-mul_right align past))
+            elim (cases_lt k most) [
+              | inl less ↦ let more = mul-le-mul_right {m = k + 1} {n = most} align (omega arith) in
+                  omega (arith, place.above, multiple_is, whole, more)
+              | inr past ↦ absurd (omega (arith, fits, multiple_is, whole, mul-le-mul_right align past))
             ],
         λ below. (layout-plain size align).1 (
           power,
-          elim (cases_lt 0 whole.0) [
+          elim (cases_lt 0 most) [
             | inl some ↦
-                let before : whole.0 ≡ (whole.0 - 1) + 1 = omega arith in
-                let parts : whole.0 * align ≡ (whole.0 - 1) * align + align = omega (arith, ap (λ m. m * align) before) in
-                omega (arith, positive, parts, whole.1, place.least (whole.0 - 1) (omega (arith, below, parts, whole.1)))
-            | inr none ↦ let nothing : whole.0 ≡ 0 = omega arith in absurd (omega (arith, whole.1, ap (λ m. m * align) nothing))
+                let before : most ≡ (most - 1) + 1 = omega arith in
+                let parts : most * align ≡ (most - 1) * align + align = omega (arith, ap (λ m. m * align) before) in
+                omega (arith, positive, parts, whole, place.least (most - 1) (omega (arith, below, parts, whole)))
+            | inr none ↦ let nothing : most ≡ 0 = omega arith in absurd (omega (arith, whole, ap (λ m. m * align) nothing))
           ],
         ),
       ),
