@@ -45,9 +45,6 @@ first_probe buckets first below =
 pub probes_one : (buckets first : ℕ) → first < buckets → probes_before buckets first ≡ 1
 probes_one buckets first below = ap (λ (b : Bool). if b then 1 else 0) (test_below first buckets below)
 
-pub probes_none : (buckets first : ℕ) → buckets ≤ first → probes_before buckets first ≡ 0
-probes_none buckets first past = ap (λ (b : Bool). if b then 1 else 0) (test_not_below first buckets past)
-
 pub probe_behind : (buckets first start probe rest : ℕ) → start_of buckets first ≡ start → start + probe ≡ buckets + rest →
     rest < buckets → probed buckets first probe ≡ rest
 probe_behind buckets first start probe rest is same below = ap (λ (s : ℕ). (s + probe) % buckets) is
