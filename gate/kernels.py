@@ -6,12 +6,13 @@ image of Linux for ARM64, such as `vmlinuz-*` of Debian's packages linux-image-*
 `cpio`: the Debian packages qemu-system-arm, gcc-aarch64-linux-gnu, libc6-dev-arm64-cross and cpio.
 The merge gate doesn't run it, since it takes minutes for each kernel. It is for a release.
 
-A machine runs static programs: each call, `cases`, and `kills`, which kills processes at random and
-while they make a file. Stepping through single instructions isn't tried, as the library's page says.
-qemu runs ARM64 code in the order of memory of this machine's processor.
+A machine runs static programs: `cases`, and `kills`, which kills processes at random and while they
+make a file. Stepping through single instructions isn't tried, as the library's page says. qemu runs
+ARM64 code in the order of memory of this machine's processor.
 """
 
 import re
+import shutil
 import subprocess
 from pathlib import Path
 
@@ -23,17 +24,15 @@ from gate.temporary import temporary_folder
 COMPILER = "aarch64-linux-gnu-gcc"
 # The commands in a machine.
 COMMANDS = (
-    "/tests/calls",
     "/tests/cases /dev/shm",
     "/tests/kills run /dev/shm 200 0 1",
     "/tests/kills run /dev/shm 200 8 2",
     "/tests/kills make /dev/shm 100",
 )
-# The programs: the source below the tests of the crate, and flags.
+# The programs: the source among the tests of pools in files, and flags.
 PROGRAMS = {
-    "calls": ("calls.c", "-Wl,--wrap=malloc,--wrap=posix_memalign"),
-    "cases": ("pool_file/cases.c", "-DWRAPS_ATFORK", "-Wl,--wrap=pthread_atfork"),
-    "kills": ("pool_file/kills.c",),
+    "cases": ("cases.c", "-DWRAPS_ATFORK", "-Wl,--wrap=pthread_atfork"),
+    "kills": ("kills.c",),
 }
 # With the architecture's own algorithm of pointer authentication, an emulation takes many times longer.
 MACHINE = ("-M", "virt", "-cpu", "max,pauth-impdef=on", "-smp", "2", "-m", "1536")
@@ -68,12 +67,14 @@ def make_image(top: Path, release: Path, work: Path) -> Path:
         f"-I{work / 'include'}",
     ]
     compile_static += [f"-I{crate}"]
-    tests = crate / "tests"
-    must_run([*compile_static, "-o", root / "init", tests / "pool_file/kernels/init.c"], work)
+    tests = crate / "tests/pool_file"
+    must_run([*compile_static, "-o", root / "init", tests / "kernels/init.c"], work)
     for name, (source, *flags) in PROGRAMS.items():
         output = root / "tests" / name
         words = [*compile_static, "-o", output, tests / source, *flags]
         must_run([*words, work / "lib/libbb_memory.a", "-pthread"], work)
+    (root / "bin").mkdir()
+    shutil.copy2(root / "init", root / "bin/sleep")
     (root / "commands").write_text("".join(f"{each}\n" for each in COMMANDS), encoding="utf-8")
     names = b"".join(
         bytes(file.relative_to(root)) + b"\n" for file in sorted([root, *root.rglob("*")])
@@ -119,7 +120,7 @@ def run(top: Path, release: Path, kernels: list[Path]) -> None:
             if failed:
                 raise Failed(f"{printed}\n{kernel.name}: failed: {', '.join(failed)}")
             for line in printed.splitlines():
-                if line.startswith(("calls:", "cases:", "kills:")):
+                if line.startswith(("cases:", "kills:")):
                     say(f"{kernel.name}: {line.rstrip()}")
             say(f"{kernel.name}: passed, with pages of {page_of(printed)} bytes")
 

@@ -50,7 +50,8 @@ class Targets(unittest.TestCase):
         self.assertEqual(program, Path(TOP / "crates/memrun/out/memrun.o"))
 
     def test_arguments(self) -> None:
-        for words in ([], ["bb_memory_c", "x86_64"], ["none", "x86_64", "a"]):
+        wrong: list[list[str]] = [[], ["bb_memory_c", "x86_64"], ["none", "x86_64", "a"]]
+        for words in wrong:
             with self.subTest(words), self.assertRaisesRegex(Failed, "usage: "):
                 targets.main(words)
         with self.assertRaisesRegex(Failed, "sparc is none of x86_64, aarch64"):

@@ -1,5 +1,6 @@
 // The first program of a virtual machine: runs the commands of the file `/commands`, one on each
-// line, says how each has ended, and switches the machine off. gate/kernels.py says what for.
+// line, says how each has ended, and switches the machine off. gate/kernels.py says what for. With
+// an argument, it is the machine's command `sleep`.
 #include <stdio.h>
 #include <stdlib.h>
 #include <string.h>
@@ -38,9 +39,11 @@ static int run(char *line) {
     return WEXITSTATUS(status);
 }
 
-int main(void) {
+int main(int argc, char **argv) {
     char line[LONGEST_LINE];
     char shown[LONGEST_LINE];
+    if (argc > 1)
+        return (int)sleep((unsigned)atoi(argv[1]));
     mounted("proc", "/proc");
     mounted("devtmpfs", "/dev");
     mounted("tmpfs", "/dev/shm");
