@@ -1,4 +1,4 @@
-"""Keeps the reasons for which mutants were refused, outside of all checkouts.
+"""Keeps what was found about mutants, outside of all checkouts.
 
 An entry is a file, whose name is a checksum of everything that the judgement rests on. So it never
 goes stale, and it serves each checkout of this user. An entry that nothing has read for a month is
@@ -28,7 +28,7 @@ class Kept:
         self.anew = anew
 
     def read(self, key: str) -> str | None:
-        """Returns the reason that is kept under a key, if there is a whole entry."""
+        """Returns the text that is kept under a key, if there is a whole entry."""
         file = self.folder / key
         if self.anew:
             return None
@@ -39,18 +39,18 @@ class Kept:
             return None
         if not isinstance(entry, dict) or entry.get("key") != key:
             return None
-        reason = entry.get("reason")
-        return reason if isinstance(reason, str) else None
+        text = entry.get("text")
+        return text if isinstance(text, str) else None
 
-    def write(self, key: str, reason: str) -> None:
-        """Keeps a reason under a key, if the folder can be written.
+    def write(self, key: str, text: str) -> None:
+        """Keeps a text under a key, if the folder can be written.
 
         A run beside this one never reads half of it.
         """
         written = self.folder / f"{key}.{os.getpid()}"
         with suppress(OSError):
             self.folder.mkdir(parents=True, exist_ok=True)
-            written.write_text(json.dumps({"key": key, "reason": reason}), encoding="utf-8")
+            written.write_text(json.dumps({"key": key, "text": text}), encoding="utf-8")
             written.replace(self.folder / key)
 
     def remove_old(self) -> None:

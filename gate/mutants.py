@@ -11,8 +11,9 @@ text isn't a program, is a BAD EDIT, and the other edits of its round are judged
 gave up, nothing is known of the contract. Such an edit has to become one that is refused sooner, or
 gate/at_a_limit.txt says why it can't.
 
-What is refused is kept, by a checksum of all that the judgement rests on (gate/kept.py). A later
-run reads it, in any checkout of this user. `.ci/mutants --anew [NAME..]` reads nothing.
+What is refused, or at a limit, is kept by a checksum of all that the judgement rests on
+(gate/kept.py). A later run reads it, in any checkout of this user. It passes or fails as before.
+`.ci/mutants --anew [NAME..]` reads nothing.
 """
 
 import hashlib
@@ -223,6 +224,8 @@ def report(judgements: Iterable[Judgement], top: Path) -> None:
         say(f"{path}: {each.outcome.value}: {each.reason[:200]}")
 
 
+# The outcomes that a later check of the same has again, since a limit counts steps and not time.
+SETTLED = (Outcome.REFUSED, Outcome.AT_A_LIMIT)
 # The files that turn the output of a check into a judgement.
 JUDGES = ("edits.py", "mutants.py", "rt_output.py")
 
@@ -242,7 +245,7 @@ def key_of(edit: Edit, crate: str) -> str:
 
 
 def store() -> Path:
-    """Returns the folder, outside of all checkouts, that keeps what was refused."""
+    """Returns the folder, outside of all checkouts, that keeps judgements."""
     return cache() / "bb_memory/mutants"
 
 
@@ -258,7 +261,7 @@ def crates_left(workspace: Workspace, kept: Kept) -> list[str]:
 
 
 class Run:
-    """One run over some crates of a checkout, which keeps what is refused."""
+    """One run over some crates of a checkout, which keeps the judgements that are settled."""
 
     def __init__(self, workspace: Workspace, kept: Kept) -> None:
         self.workspace = workspace
@@ -272,19 +275,20 @@ class Run:
         for edit in good:
             key = key_of(edit, sum_of_crate)
             self.keys[edit.path] = key
-            reason = self.kept.read(key)
-            if reason is not None:
-                found.append(Judgement(edit.path, Outcome.REFUSED, f"{reason} (kept)"))
+            name, _, reason = (self.kept.read(key) or "").partition(": ")
+            outcome = next((each for each in SETTLED if each.name == name), None)
+            if outcome is not None:
+                found.append(Judgement(edit.path, outcome, f"{reason} (kept)"))
         return found
 
     def keep(self, round_: Round, judgements: Iterable[Judgement]) -> None:
-        """Keeps the reasons of edits that were refused, unless something that was read changed."""
+        """Keeps the judgements that are settled, unless something that was read changed."""
         sum_of_crate = self.workspace.sum_of(round_.crate)
         by_path = {edit.path: edit for edit in round_.edits}
         for each in judgements:
             key = key_of(by_path[each.path], sum_of_crate)
-            if each.outcome is Outcome.REFUSED and key == self.keys[each.path]:
-                self.kept.write(key, each.reason)
+            if each.outcome in SETTLED and key == self.keys[each.path]:
+                self.kept.write(key, f"{each.outcome.name}: {each.reason}")
 
     def judge_round(self, round_: Round, check: Check) -> list[Judgement]:
         """Judges the edits of a round, and prints and keeps the judgements."""

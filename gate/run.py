@@ -6,7 +6,7 @@ proves what the mutants and the library for C are judged and built over, unless 
 come the mutants, C without and with each checker, and the Rust crate. Last, the OOM tests run on
 what `rt ci` has built.
 
-A toolchain may keep what `rt ci` proved, and `.ci/mutants` keeps what was refused. With `--anew`,
+A toolchain may keep what `rt ci` proved, and `.ci/mutants` keeps what it judged. With `--anew`,
 as for a release, both read nothing that is kept. The gate prints what each part took.
 """
 

@@ -34,7 +34,7 @@ class KeptTest(unittest.TestCase):
 
     def test_a_damaged_entry_counts_for_nothing(self) -> None:
         self.folder.mkdir(parents=True)
-        for text in ("", "{", "[]", '{"key": "key"}', '{"key": "other", "reason": "a goal"}'):
+        for text in ("", "{", "[]", '{"key": "key"}', '{"key": "other", "text": "a goal"}'):
             (self.folder / "key").write_text(text, encoding="utf-8")
             self.assertIsNone(self.kept.read("key"), text)
 

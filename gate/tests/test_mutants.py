@@ -189,6 +189,14 @@ class JudgeTest(CheckoutTest):
         self.write({f"crates/{CRATE}/specs/Lib.antt": "-- another definition\n"})
         self.assertEqual(self.judge_with_tool("exit 7"), 2 * [Outcome.NOT_JUDGED])
 
+    def test_what_is_at_a_limit_is_kept_as_that(self) -> None:
+        self.add(within=WITHIN)
+        said = NOTE + "; `search` gave up at one of its limits\n" + f"fn {WITHIN_PATH}: no proof"
+        stored = self.work / "log"
+        stored.write_text(said, encoding="utf-8")
+        for rt in (f'cat "{stored}"', "exit 7"):
+            self.assertEqual(self.judge_with_tool(rt), [Outcome.AT_A_LIMIT])
+
     def test_only_a_changed_edit_is_judged_again(self) -> None:
         self.add(round_up=ROUND_UP, within=WITHIN)
         self.judge_with_tool(self.refusing())
