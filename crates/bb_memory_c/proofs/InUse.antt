@@ -32,72 +32,54 @@ tells-in-use joined list number is listed there = elim (cases_lt 0 joined.most) 
       absurd (no-entry list number is (listed.none (omega (arith, none))) there)
 ]
 
--- a party whose list lacks one of the pool's buckets caches none
-pub caches-none : (joined : CachingParty) (list : List Bool) (number : ℕ) → AreListed joined joined.most list →
-    number < (geometry_of joined).buckets → slice_get list number ≡ None → joined.most ≡ 0
-caches-none joined list number listed below lacks = elim (cases_lt 0 joined.most) [
+-- a party whose list lacks one of the pool's buckets caches none, so its flag says whether the bucket is in use
+pub flag-tells-in-use : (joined : CachingParty) (list : List Bool) (number : ℕ) (is : Bool) →
+    length joined.cached ≤ joined.most → AreListed joined joined.most list → number < (geometry_of joined).buckets →
+    slice_get list number ≡ None → (is ≡ true) ↔ IsHeldAfter joined.party.log number → IsTrue is ↔ IsOut joined number
+unfolding IsOut
+flag-tells-in-use joined list number is few listed below lacks held = elim (cases_lt 0 joined.most) [
   | inl some ↦
       let enough = (listed.flagged some).enough in
       let there = slice_get-get_or list number false (omega (arith, below, enough)) in absurd (cc)
-  | inr none ↦ omega (arith, none)
+  | inr none ↦ (
+    λ yes. (held.0 yes, λ (k, within, same). absurd (omega (arith, few, none, within))),
+    λ out. held.1 out.0,
+  )
 ]
-
--- the buckets that such a party holds are in use
-pub held-is-out : (joined : CachingParty) (number : ℕ) → length joined.cached ≤ joined.most → joined.most ≡ 0 →
-    IsHeldAfter joined.party.log number ↔ IsOut joined number
-unfolding IsOut
-held-is-out joined number few none = (
-  λ held. (held, λ (k, within, same). absurd (omega (arith, few, none, within))),
-  λ out. out.0,
-)
 
 -- ONE ENTRY
 
--- one entry is written, and no other bucket comes into use or ceases to be in use
-pub flagged-noted : {pool : SharedPool} {before after : ℕ → Type 0} (number : ℕ) (is : Bool) {list : List Bool} →
+-- one entry is written, and the others say the same as before
+told-noted : {before after : ℕ → Type 0} (list : List Bool) (number : ℕ) (is : Bool) →
+    ((bucket : ℕ) → Has list bucket ↔ before bucket) → number < length list → (is ≡ true) ↔ after number →
+    ((other : ℕ) → other ≢ number → before other ↔ after other) → (bucket : ℕ) → Has (set list number is) bucket ↔ after bucket
+told-noted {before} {after} list number is exact within here others bucket = elim (cases_eq bucket number) [
+  | inl same ↦
+      let there = slice_get-set_same list number is _ (slice_get-get_or list number false within) in
+      subst (λ (b : ℕ). Has (set list number is) b ↔ after b) (sym same) (
+        λ has. here.0 (same_Some is true (sym there ∙ has)),
+        λ so. there ∙ ap Some (here.1 so),
+      )
+  | inr apart ↦
+      let old = slice_get-set_other list number bucket is apart in (
+        λ has. (others bucket apart).0 ((exact bucket).0 (sym old ∙ has)),
+        λ so. old ∙ (exact bucket).1 ((others bucket apart).1 so),
+      )
+]
+
+flagged-noted : {pool : SharedPool} {before after : ℕ → Type 0} (number : ℕ) (is : Bool) {list : List Bool} →
     AreFlagged pool before list → number < pool.scene.geometry.buckets → (is ≡ true) ↔ after number →
     ((other : ℕ) → other ≢ number → before other ↔ after other) → AreFlagged pool after (set list number is)
-flagged-noted {pool} {before} {after} number is {list} are below here others = record {
+flagged-noted number is {list} are below here others = record {
   enough = omega (arith, are.enough, length-set_at list number is);
   below = λ bucket has. elim (slice_get-set list number bucket is true has) [
     | inl old ↦ are.below bucket old
     | inr new ↦ omega (arith, new.0, below)
   ];
-  exact = λ bucket. elim (cases_eq bucket number) [
-    | inl same ↦
-        let old = slice_get-get_or list number false (omega (arith, are.enough, below)) in
-        let there = slice_get-set_same list number is _ old in
-        subst (λ (b : ℕ). Has (set list number is) b ↔ after b) (sym same) (
-          λ has. here.0 (same_Some is true (sym there ∙ has)),
-          λ so. there ∙ ap Some (here.1 so),
-        )
-    | inr apart ↦
-        let old = slice_get-set_other list number bucket is apart in (
-          λ has. (others bucket apart).0 ((are.exact bucket).0 (sym old ∙ has)),
-          λ so. old ∙ (are.exact bucket).1 ((others bucket apart).1 so),
-        )
-  ];
+  exact = told-noted list number is are.exact (omega (arith, are.enough, below)) here others;
 }
 
--- NO ENTRY
-
--- a list says the same of a party with the same buckets in use
-pub listed-same : {joined after : CachingParty} {most : ℕ} {list : List Bool} → AreListed joined most list →
-    after.party.allocator ≡ joined.party.allocator → ((other : ℕ) → IsOut joined other ↔ IsOut after other) →
-    AreListed after most list
-listed-same {joined} {after} {most} {list} listed same outs = record {
-  flagged = λ some.
-      let are = listed.flagged some in
-      subst (λ (p : SharedPool). AreFlagged p (IsOut after) list) (sym same) record {
-        enough = are.enough;
-        below = are.below;
-        exact = λ bucket. (
-          λ has. (outs bucket).0 ((are.exact bucket).0 has),
-          λ out. (are.exact bucket).1 ((outs bucket).1 out),
-        );
-      };
-  none = listed.none;
-}
+-- EACH BUCKET
 
 -- of the first buckets, the list says which are in use, and it has no other entry that is set
 pub record AreListedBelow (joined : CachingParty) (number : ℕ) (list : List Bool) : Type 0 where
@@ -114,39 +96,41 @@ listed-none joined n = record {
 pub listed-next : (joined : CachingParty) (number : ℕ) (is : Bool) {list : List Bool} → AreListedBelow joined number list →
     number < length list → IsTrue is ↔ IsOut joined number → AreListedBelow joined (number + 1) (set list number is)
 listed-next joined number is {list} listed within here = record {
-  exact = λ bucket. elim (cases_eq bucket number) [
-    | inl same ↦
-        let old = slice_get-get_or list number false within in
-        let there = slice_get-set_same list number is _ old in
-        subst (λ (b : ℕ). Has (set list number is) b ↔ ((b < number + 1) × IsOut joined b)) (sym same) (
-          λ has. (omega arith, here.0 (same_Some is true (sym there ∙ has))),
-          λ (below, out). there ∙ ap Some (here.1 out),
-        )
-    | inr apart ↦
-        let old = slice_get-set_other list number bucket is apart in (
-          λ has. let was = (listed.exact bucket).0 (sym old ∙ has) in let low = was.0 in (omega (arith, low), was.1),
-          λ (below, out). old ∙ (listed.exact bucket).1 (omega (arith, below, apart), out),
-        )
-  ];
+  exact = told-noted list number is listed.exact within (λ yes. (omega arith, here.0 yes), λ so. here.1 so.1)
+      (λ other apart. (λ (low, out). (omega (arith, low), out), λ (low, out). (omega (arith, low, apart), out)));
 }
 
-pub listed-all : (joined : CachingParty) (most : ℕ) {list : List Bool} → IsParty joined.party → 0 < most →
+pub flagged-all : (joined : CachingParty) {list : List Bool} → IsParty joined.party →
     AreListedBelow joined (geometry_of joined).buckets list → (geometry_of joined).buckets ≤ length list →
-    AreListed joined most list
+    AreFlagged joined.party.allocator (IsOut joined) list
 unfolding IsOut
-listed-all joined most is some listed enough = record {
-  flagged = λ _. record {
-    enough = enough;
-    below = λ bucket has. ((listed.exact bucket).0 has).0;
-    exact = λ bucket. (
-      λ has. ((listed.exact bucket).0 has).1,
-      λ out. (listed.exact bucket).1 (held_below joined.party is bucket out.0, out),
-    );
-  };
-  none = λ none. absurd (omega (arith, some, none));
+flagged-all joined is listed enough = record {
+  enough = enough;
+  below = λ bucket has. ((listed.exact bucket).0 has).0;
+  exact = λ bucket. (
+    λ has. ((listed.exact bucket).0 has).1,
+    λ out. (listed.exact bucket).1 (held_below joined.party is bucket out.0, out),
+  );
 }
 
 -- THE PARTY
+
+-- after a step: the entries say which buckets the party has in use then, and a list without entries has none then
+joined-after : {pool : SharedPool} {joined after : CachingParty} {list now : List Bool} → IsJoinedAt pool joined list →
+    after.party.allocator ≡ joined.party.allocator → after.most ≡ joined.most →
+    (AreFlagged pool (IsOut joined) list → AreFlagged pool (IsOut after) now) → (list ≡ [] → now ≡ []) →
+    IsJoinedAt pool after now
+joined-after {pool} {joined} {after} {list} {now} at same most flagged none =
+    let theirs = same ∙ at.theirs in
+    record {
+      theirs = theirs;
+      listed = record {
+        flagged = λ some. subst (λ (p : SharedPool). AreFlagged p (IsOut after) now) (sym theirs)
+            (flagged (subst (λ (p : SharedPool). AreFlagged p (IsOut joined) list) at.theirs
+            (at.listed.flagged (omega (arith, some, most)))));
+        none = λ zero. none (at.listed.none (sym most ∙ zero));
+      };
+    }
 
 -- after a step on one bucket, whose entry is written
 pub joined-noted : {pool : SharedPool} {joined after : CachingParty} (number : ℕ) (is : Bool) {list : List Bool} →
@@ -154,19 +138,9 @@ pub joined-noted : {pool : SharedPool} {joined after : CachingParty} (number : �
     (AreFlagged pool (IsOut joined) list → number < pool.scene.geometry.buckets) → (is ≡ true) ↔ IsOut after number →
     ((other : ℕ) → other ≢ number → IsOut joined other ↔ IsOut after other) →
     IsJoinedAt pool after (set list number is)
-joined-noted {pool} {joined} {after} number is {list} at same most below here others =
-    let theirs = same ∙ at.theirs in
-    record {
-      theirs = theirs;
-      listed = record {
-        flagged = λ some.
-            let are = subst (λ (p : SharedPool). AreFlagged p (IsOut joined) list) at.theirs
-            (at.listed.flagged (omega (arith, some, most))) in
-            subst (λ (p : SharedPool). AreFlagged p (IsOut after) (set list number is)) (sym theirs)
-            (flagged-noted number is are (below are) here others);
-        none = λ none. ap (λ (l : List Bool). set l number is) (at.listed.none (sym most ∙ none));
-      };
-    }
+joined-noted number is at same most below here others =
+    joined-after at same most (λ are. flagged-noted number is are (below are) here others)
+    (λ none. ap (λ (l : List Bool). set l number is) none)
 
 -- after a step by which a bucket comes into use or ceases to be in use
 pub joined-gains : {pool : SharedPool} {joined after : CachingParty} (number : ℕ) {list : List Bool} →
@@ -187,48 +161,41 @@ joined-takes {after = after} bucket at serves =
     (held_below after.party serves.serves.is_party number serves.serves.held) in
     joined-gains number at serves.party serves.most below serves.taken serves.others_kept serves.others
 
-pub joined-loses : {pool : SharedPool} {joined after : CachingParty} (number : ℕ) {list : List Bool} →
-    IsJoinedAt pool joined list → after.party.allocator ≡ joined.party.allocator → after.most ≡ joined.most →
-    IsOut joined number → ¬ IsOut after number →
-    ((other : ℕ) → other ≢ number → IsOut joined other → IsOut after other) →
+pub joined-loses : {pool : SharedPool} {joined after : CachingParty} (number lost : ℕ) {list : List Bool} →
+    lost ≡ number → IsJoinedAt pool joined list → after.party.allocator ≡ joined.party.allocator → after.most ≡ joined.most →
+    IsOut joined number → ¬ IsOut after lost → ((other : ℕ) → other ≢ lost → IsOut joined other → IsOut after other) →
     ((other : ℕ) → IsOut after other → IsOut joined other) → IsJoinedAt pool after (set list number false)
-joined-loses number at same most was out kept others = joined-noted number false at same most
-    (λ are. are.below number ((are.exact number).1 was)) (λ wrong. absurd (false≢true wrong), λ is. absurd (out is))
-    (λ other apart. (kept other apart, others other))
+joined-loses {after = after} number lost its at same most was out kept others = joined-noted number false at same most
+    (λ are. are.below number ((are.exact number).1 was))
+    (λ wrong. absurd (false≢true wrong), λ is. absurd (out (subst (IsOut after) (sym its) is)))
+    (λ other apart. (kept other (λ is. apart (is ∙ its)), others other))
 
 -- after steps that leave the same buckets in use
 pub joined-same : {pool : SharedPool} {joined after : CachingParty} {list : List Bool} → IsJoinedAt pool joined list →
     after.party.allocator ≡ joined.party.allocator → after.most ≡ joined.most →
     ((other : ℕ) → IsOut joined other ↔ IsOut after other) → IsJoinedAt pool after list
-joined-same {joined = joined} {after = after} {list = list} at same most outs = record {
-  theirs = same ∙ at.theirs;
-  listed = listed-same (subst (λ (m : ℕ). AreListed joined m list) (sym most) at.listed) same outs;
-}
+joined-same at same most outs = joined-after at same most (λ are. record {
+  enough = are.enough;
+  below = are.below;
+  exact = λ bucket. (
+    λ has. (outs bucket).0 ((are.exact bucket).0 has),
+    λ out. (are.exact bucket).1 ((outs bucket).1 out),
+  );
+}) (λ none. none)
 
 -- a party that holds none, and whose list has no entry of a bucket in use
 pub joined-cleared : {pool : SharedPool} {joined : CachingParty} (after : CachingParty) {list : List Bool} →
     IsJoinedAt pool joined list → after.party.allocator ≡ joined.party.allocator → after.most ≡ joined.most →
     ¬ HoldsSome after.party → IsJoinedAt pool after (replicate (length list) false)
 unfolding IsOut
-joined-cleared {pool} {joined} after {list} at same most idle =
-    let cleared : List Bool = replicate (length list) false in
-    let unset : (bucket : ℕ) → ¬ Has cleared bucket =
+joined-cleared after {list} at same most idle =
+    let unset : (bucket : ℕ) → ¬ Has (replicate (length list) false) bucket =
     λ bucket has. false≢true (slice_get-replicated (length list) bucket false true has) in
-    record {
-      theirs = same ∙ at.theirs;
-      listed = record {
-        flagged = λ some.
-            let are = at.listed.flagged (omega (arith, some, most)) in
-            let enough = subst (λ (p : SharedPool). p.scene.geometry.buckets ≤ length list) (sym same) are.enough in
-            record {
-              enough = omega (arith, enough, length-replicate (length list) false);
-              below = λ bucket has. absurd (unset bucket has);
-              exact = λ bucket. (λ has. absurd (unset bucket has), λ out. absurd (idle (bucket, out.0)));
-            };
-        none = λ none.
-            ap (λ (l : List Bool). replicate (length l) false) (at.listed.none (sym most ∙ none));
-      };
-    }
+    joined-after at same most (λ are. record {
+      enough = omega (arith, are.enough, length-replicate (length list) false);
+      below = λ bucket has. absurd (unset bucket has);
+      exact = λ bucket. (λ has. absurd (unset bucket has), λ out. absurd (idle (bucket, out.0)));
+    }) (λ none. ap (λ (l : List Bool). replicate (length l) false) none)
 
 -- a party that caches none
 pub joined-fresh : {pool : SharedPool} {joined : CachingParty} {list : List Bool} → joined.party.allocator ≡ pool →

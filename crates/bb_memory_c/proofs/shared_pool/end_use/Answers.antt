@@ -1,4 +1,4 @@
-use Rattle.bb_memory_c.proofs.InUse.{caches-none, held-is-out, tells-in-use}
+use Rattle.bb_memory_c.proofs.InUse.{flag-tells-in-use, tells-in-use}
 use Rattle.bb_memory_c.proofs.shared_pool.end_use.Goals as goal
 use Rattle.std.proofs.Common.{sym, ◌∙◌}
 
@@ -9,8 +9,5 @@ returns-in-Some-clause-value c =
 
 pub returns-in-None-clause-value : goal.returns-in-None-clause-value
 returns-in-None-clause-value c =
-    let none = caches-none c.args.party.now c.args.in_use.now.items c.args.number c.requires.listed c.requires.below
-    (sym c.clear.ensures.was ∙ c.in-None.is) in
-    let out = held-is-out c.args.party.now c.args.number c.requires.few none in
-    let held = c.is_held.ensures.value in
-    (λ yes. out.0 (held.0 yes), λ is. held.1 (out.1 is))
+    flag-tells-in-use c.args.party.now c.args.in_use.now.items c.args.number c.is_held.result c.requires.few c.requires.listed
+    c.requires.below (sym c.clear.ensures.was ∙ c.in-None.is) c.is_held.ensures.value

@@ -4,7 +4,7 @@ use Rattle.bb_memory_c.proofs.shared_pool.JoinedPool.detach.Goals as goal
 use Rattle.bb_memory_c.specs.SharedPools.{IsJoinedAt}
 use Rattle.bb_memory_shared_pools.specs.SharedPool.{TakenBucket}
 use Rattle.bb_memory_shared_pools.specs.SharedPoolCaching.{CachingParty, IsOut}
-use Rattle.std.proofs.Common.{ap, rules, subst, sym, ℕ, ◌∙◌}
+use Rattle.std.proofs.Common.{ap, rules, subst, sym, ◌∙◌}
 use Rattle.std.specs.Arc.{arc_value}
 
 pub invariant_of-self : goal.invariant_of-self
@@ -16,10 +16,9 @@ invariant_of-self c =
     let was = subst (λ (j : CachingParty). IsOut j number) (sym (c.self-2.view_is ∙ c.held_at.ensures.unchanged))
     c.in-Some.ensures.held.out in
     subst (IsJoinedAt (arc_value c.self-2.inside.pool) after) (sym c.note.ensures)
-    (joined-loses number c.self-2.invariant (ap (λ (j : CachingParty). j.party.allocator) did.logged)
-    (ap (λ (j : CachingParty). j.most) did.logged) was
-    (λ out. did.was_detached (subst (λ (n : ℕ). IsOut after n) (sym its) out))
-    (λ other apart. did.others_kept other (λ same. apart (same ∙ its))) did.others)
+    (joined-loses number c.bucket-bucket.result.number its c.self-2.invariant
+    (ap (λ (j : CachingParty). j.party.allocator) did.logged) (ap (λ (j : CachingParty). j.most) did.logged) was
+    did.was_detached did.others_kept did.others)
 
 pub returns : goal.returns
 returns c = detaches c.in-Some.number c.detach-token.result c.in-Some.ensures.held (search rules) (search rules) (search rules)

@@ -3,7 +3,7 @@ use Rattle.bb_memory_c.proofs.shared_pool.JoinedPool.give_back_if_out.Goals as g
 use Rattle.bb_memory_c.specs.SharedPools.{IsJoinedAt, geometry_of}
 use Rattle.bb_memory_shared_pools.specs.SharedPool.{SharedPool, TakenBucket}
 use Rattle.bb_memory_shared_pools.specs.SharedPoolCaching.{CachingParty, IsOut}
-use Rattle.std.proofs.Common.{ap, false, subst, sym, ℕ, ◌<◌, ◌∙◌}
+use Rattle.std.proofs.Common.{ap, false, subst, sym, ◌<◌, ◌∙◌}
 use Rattle.std.proofs.lemmas.Bool.{false≢true}
 use Rattle.std.specs.Arc.{arc_value}
 
@@ -39,6 +39,5 @@ invariant_of-self-2 c =
     c.self.invariant in
     let was = subst (λ (j : CachingParty). IsOut j number) (sym did.unchanged) (did.value.0 c.if-not-was_in_use.false) in
     subst (IsJoinedAt (arc_value c.self.inside.pool) after) (sym did.cleared)
-    (joined-loses number at gone.party gone.most was
-    (λ out. gone.given_back (subst (λ (n : ℕ). IsOut after n) (sym its) out))
-    (λ other apart. gone.others_kept other (λ same. apart (same ∙ its))) gone.others)
+    (joined-loses number c.bucket-bucket.result.number its at gone.party gone.most was gone.given_back gone.others_kept
+    gone.others)

@@ -1,4 +1,4 @@
-use Rattle.bb_memory_c.proofs.InUse.{caches-none, held-is-out, tells-in-use}
+use Rattle.bb_memory_c.proofs.InUse.{flag-tells-in-use, tells-in-use}
 use Rattle.bb_memory_c.proofs.shared_pool.JoinedPool.is_out.Goals as goal
 use Rattle.bb_memory_c.specs.SharedPools.{AreListed}
 use Rattle.bb_memory_shared_pools.specs.SharedPoolCaching.{CachingParty}
@@ -18,7 +18,5 @@ returns-in-None-clause-value c =
     let list = c.self.inside.in_use.items in
     let at = ap (λ (l : List Bool). slice_get l c.args.number) c.deref.ensures.value in
     let listed = subst (λ (j : CachingParty). AreListed j j.most list) c.self.view_is c.self.invariant.listed in
-    let none = caches-none joined list c.args.number listed c.requires (sym at ∙ sym c.entry.ensures ∙ c.in-None.is) in
-    let out = held-is-out joined c.args.number c.invariant.ensures.few none in
-    let held = rw c.self.view_is at c.is_held.ensures.value in
-    (λ yes. out.0 (held.0 yes), λ is. held.1 (out.1 is))
+    flag-tells-in-use joined list c.args.number c.is_held.result c.invariant.ensures.few listed c.requires
+    (sym at ∙ sym c.entry.ensures ∙ c.in-None.is) (rw c.self.view_is at c.is_held.ensures.value)
