@@ -108,7 +108,7 @@ attach_from_entry party bucket from = entry_of (AttachFrom party bucket from) (A
 abbrev pub miss_from_entry : ℕ → ℕ → ℕ → PoolLog
 miss_from_entry party bucket from = entry_of (AttachFrom party bucket from) (Misses bucket) ∷ []
 
--- a step that misses a bucket: the party `from` has detached it into a token
+-- a step that misses a bucket: the party `from` has detached it with a token
 abbrev pub token_entry : ℕ → ℕ → ℕ → PoolLog
 token_entry party bucket from = entry_of (FindToken party bucket from) (Misses bucket) ∷ []
 
@@ -259,7 +259,7 @@ abbrev pub HasAttachedFrom : SharedPool → PoolParty → ℕ → ℕ → PoolPa
 HasAttachedFrom pool old number from new = HasGained pool old number (attach_from_entry old.number number from) new
 
 -- the step of an exchange that doesn't attach the bucket from the party `from`: this party hasn't detached the bucket, or has
--- detached it into a token
+-- detached it with a token
 abbrev pub IsMissFrom : ℕ → ℕ → ℕ → PoolLog → Type 0
 IsMissFrom party bucket from step = (step ≡ miss_from_entry party bucket from) ⊎ (step ≡ token_entry party bucket from)
 

@@ -35,7 +35,7 @@ pub enum PoolStep {
     /// The party, which is in no pass, tries to attach a bucket from the party `from`. If that party
     /// has detached the bucket, this one holds it then. Otherwise the step is a miss.
     AttachFrom { party: u32, bucket: u32, from: u32 },
-    /// The party, which is in no pass, finds that the party `from` has detached a bucket into a
+    /// The party, which is in no pass, finds that the party `from` has detached a bucket with a
     /// token, and misses the bucket. The machine doesn't know which detached buckets have a token.
     FindToken { party: u32, bucket: u32, from: u32 },
     /// The party, which is in no pass, gives back a detached bucket.
@@ -58,7 +58,7 @@ pub enum PoolOutcome {
     /// changed.
     Passed,
     /// The party, which is in no pass, tried to take a bucket whose flag was taken, or to attach a
-    /// bucket from a party that hadn't detached it, or had detached it into a token. Nothing
+    /// bucket from a party that hadn't detached it, or had detached it with a token. Nothing
     /// changed.
     Misses(u32),
     /// The bucket's holder detached it. Its flag stays taken.

@@ -6,7 +6,7 @@ ghost use Rattle.bb_memory_shared_pools.specs.SharedPoolMeetings.{HasTaker, Have
 ghost use Rattle.bb_memory_traits.specs.Chunk.{Chunk, IsSound};
 ghost use Rattle.bb_memory_traits.specs.PoolObject.{IsHeld};
 ghost use Rattle.bb_memory_traits.specs.declared.layout.Layout.{Layout};
-ghost use Rattle.std.specs.Prelude.{All, Any, Contains, List, Some, [], length, slice_get, true, ℕ, ◌<◌, ◌↔◌, ◌≡◌, ◌≢◌};
+ghost use Rattle.std.specs.Prelude.{All, Any, Contains, List, Some, length, slice_get, true, ℕ, ◌<◌, ◌↔◌, ◌≡◌};
 
 /// States what holds for parties of a shared pool that met ([`meet_all`](super::SharedPoolAllocator::meet_all)), above all if
 /// these are all parties of the pool, whatever the threads did. The function does nothing: its contract is the law.

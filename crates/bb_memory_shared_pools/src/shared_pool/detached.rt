@@ -127,7 +127,7 @@ impl<const CAPPED: usize, const MOST: usize> SharedBucketPool<CAPPED, MOST> {
     /// its flag. Returns whether that succeeded: only if the flag says at the exchange that exactly this party has detached the
     /// bucket, without a token. So of any number of callers at most one succeeds. The exchange is a step of the party's log. If
     /// it loses, it changes nothing else, and the log says what it found: `from` hadn't detached the bucket, or had detached it
-    /// into a token.
+    /// with a token.
     ///
     /// [`by_number::bucket`](super::by_number::bucket) makes the token of a bucket that was attached. The party has to be this
     /// pool's. `from` may be any number.
