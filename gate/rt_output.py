@@ -7,7 +7,7 @@ from enum import Enum
 
 # Errors in a proof file that only say that a name is gone, or that another declaration was refused.
 # They show nothing about a contract.
-NAME_IS_GONE = re.compile("has no |is not in scope|not admitted|stands on")
+NAME_IS_GONE = re.compile("has no (?:field )?`|is not in scope|not admitted|stands on")
 # How the prover says that it stopped at a limit of its own. Then the goal may hold, even if it shows
 # values that break the goal by the facts that it had used.
 LIMIT = re.compile(

@@ -95,6 +95,20 @@ class GoalsTest(unittest.TestCase):
         self.assertIsNone(rt_output.verdict_on(f"{TRAITS}::layout::Layout", log("round")))
 
 
+class NamesTest(unittest.TestCase):
+    """Errors that only say that a name is gone, and others that sound like them."""
+
+    def test_each_kind(self) -> None:
+        for error, is_gone in (
+            ("module `Goals` has no `returns-x` that can be named from here", True),
+            ("record `Else` has no field `if-align-self`", True),
+            ("`and_step` is not in scope", True),
+            ("`simp` has no last argument", False),
+        ):
+            with self.subTest(error):
+                self.assertEqual(rt_output.NAME_IS_GONE.search(error) is not None, is_gone)
+
+
 class CompileErrorsTest(unittest.TestCase):
     """Errors in texts that aren't programs."""
 
