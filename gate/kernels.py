@@ -47,10 +47,10 @@ def missing(text: str) -> list[str]:
     return [command for command in COMMANDS if command not in said]
 
 
-def page_of(text: str) -> str:
-    """Returns the size of the kernel's page, by what the machine printed."""
+def page_of(text: str) -> str | None:
+    """Returns the size of the kernel's page, if the machine printed it."""
     match = re.search(r"^init: pages of (\d+) bytes", text, re.MULTILINE)
-    return "unknown" if match is None else match[1]
+    return None if match is None else match[1]
 
 
 def make_image(top: Path, release: Path, work: Path) -> Path:
@@ -122,7 +122,10 @@ def run(top: Path, release: Path, kernels: list[Path]) -> None:
             for line in printed.splitlines():
                 if line.startswith(("cases:", "kills:")):
                     say(f"{kernel.name}: {line.rstrip()}")
-            say(f"{kernel.name}: passed, with pages of {page_of(printed)} bytes")
+            page = page_of(printed)
+            if page is None:
+                raise Failed(f"{printed}\n{kernel.name}: doesn't say what pages it has")
+            say(f"{kernel.name}: passed, with pages of {page} bytes")
 
 
 def main(words: list[str]) -> None:

@@ -46,7 +46,8 @@ TESTED = (
     ("README.md", "rust", "crates/examples/src/*.rt"),
     ("GUIDE.md", "rust", "crates/examples/src/*.rt"),
 )
-# The pages whose programs and shell commands are run in order, each page in a fresh copy.
+# The pages whose programs and shell commands are run in this order, in one fresh copy of the tree:
+# GUIDE.md uses a program of README.md.
 HOSTS = ("README.md", "GUIDE.md")
 # The commands of pages that compile or run a program for another target than this machine.
 OTHER_TOOLS = ("musl-gcc", "aarch64-linux-gnu-gcc", "qemu-aarch64")

@@ -10,7 +10,8 @@ bb_pool_file.c. Each has to be refused by the program that its file names:
     old: if (load_slot(file, slot) == word)
     new: if (word != 0)
 
-Each such command first runs with the unmodified code, and has to pass (gate/verdicts.py).
+Each such command first runs with the unmodified code, and has to pass (gate/verdicts.py). If the
+function isn't exported, a line `# call: FUNCTION` names each exported one that the change breaks.
 
 Last, gate/pool_traces.py compares the code with the proved machine. A mutant that no program
 refuses is `refused by: machine`.

@@ -72,7 +72,10 @@ Controls = Mapping[tuple[str, ...], Control]
 
 
 class Traces:
-    """The traces that programs write. The replay program is the one built below `top`."""
+    """The traces that programs write, over files of pools in `folder`.
+
+    `replay` is the program that replays a trace in the machine.
+    """
 
     def __init__(self, replay: Path, folder: Path) -> None:
         self.replay_program = replay

@@ -1,9 +1,9 @@
 """Compiles proved crates for a processor: `tools/compile CRATE PROCESSOR FILE [CPU]`.
 
 FILE becomes the archive of a static library, or the object of a program. It runs on every x86-64 or
-ARM64 processor, or with CPU on such ones only. The crate and those below it are proved first, unless
-that is done. A proof is for every processor, so nothing is proved anew
-for another one: `rt` finds that its modules are checked, and compiles them.
+ARM64 processor, or with CPU only on such ones. The crate and those below it are proved first, unless
+that is done. A proof is for every processor: for another one, `rt` finds that the modules are
+checked, and only compiles them.
 
 `rt` works in a lane, so what it makes for one processor doesn't replace what it made for another.
 """

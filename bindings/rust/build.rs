@@ -9,7 +9,7 @@ use std::iter;
 use std::path::{Path, PathBuf};
 use std::process::Command;
 
-/// The folders where systems keep libraries for the processor that they run on.
+/// The folders where systems keep libraries for themselves.
 const NATIVE_FOLDERS: [&str; 3] = ["/usr/local/lib", "/usr/lib", "/usr/lib64"];
 
 /// The ABI of this crate's declarations: `BB_ABI` of the header.
@@ -61,11 +61,11 @@ fn target(what: &str) -> String {
     env::var(format!("CARGO_CFG_TARGET_{what}")).unwrap_or_default()
 }
 
-/// Returns the folders where systems keep the files of `pkg-config` for the target. If the target is
-/// another processor than the one that builds, the folders have its name.
+/// Returns the folders where systems keep the files of `pkg-config` for the target. If the target
+/// isn't the system that builds, the folders have its name.
 fn standard_folders() -> Vec<PathBuf> {
     let (arch, libc) = (target("ARCH"), target("ENV"));
-    let is_native = env::var("HOST").is_ok_and(|host| host.starts_with(&format!("{arch}-")));
+    let is_native = env::var("HOST").ok() == env::var("TARGET").ok();
     let named = ["/usr/local/lib", "/usr/lib"].map(|lib| format!("{lib}/{arch}-linux-{libc}"));
     let native = NATIVE_FOLDERS.iter().filter(|_| is_native).map(|&lib| lib.to_owned());
     let other = format!("/usr/{arch}-linux-{libc}/lib");

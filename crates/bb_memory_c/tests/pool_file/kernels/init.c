@@ -15,7 +15,8 @@ enum {
     MOST_WORDS = 10
 };
 
-static void mounted(const char *kind, const char *at) {
+// Mounts a file system of this kind, and prints a line if that fails.
+static void mount_at(const char *kind, const char *at) {
     mkdir(at, 0755);
     if (mount(kind, at, kind, 0, NULL) != 0)
         perror(at);
@@ -44,14 +45,16 @@ int main(int argc, char **argv) {
     char shown[LONGEST_LINE];
     if (argc > 1)
         return (int)sleep((unsigned)atoi(argv[1]));
-    mounted("proc", "/proc");
-    mounted("devtmpfs", "/dev");
-    mounted("tmpfs", "/dev/shm");
-    mounted("tmpfs", "/tmp");
+    mount_at("proc", "/proc");
+    mount_at("devtmpfs", "/dev");
+    mount_at("tmpfs", "/dev/shm");
+    mount_at("tmpfs", "/tmp");
     chmod("/dev/shm", 0755);
     setvbuf(stdout, NULL, _IOLBF, 0);
     printf("init: pages of %ld bytes\n", sysconf(_SC_PAGESIZE));
     FILE *commands = fopen("/commands", "r");
+    if (commands == NULL)
+        perror("/commands");
     while (commands != NULL && fgets(line, sizeof line, commands) != NULL) {
         strcpy(shown, line);
         shown[strcspn(shown, "\n")] = 0;
