@@ -1,9 +1,7 @@
 -- Powers of two, and the masks that they make.
-use Rattle.std.proofs.Common.{◌↔◌, IsTrue, ap, arith, bit_and, count_ones, eq-eqb, eqb-true, inl, inr, pow-add, pow-suc, pow_mono, pow_pos, subst, suc, sym, zero, ℕ, ◌%◌, ◌*◌, ◌+◌, ◌-◌, ◌/◌, ◌<◌, ◌^◌, ◌∙◌, ◌≡◌, ◌≤◌}
-use Rattle.std.proofs.Math.Nat.{mod_self}
+use Rattle.std.proofs.Common.{IsTrue, ap, arith, bit_and, count_ones, eq-eqb, eqb-true, inl, inr, pow-add, pow-suc, pow_mono, pow_pos, subst, suc, sym, zero, ℕ, ◌%◌, ◌*◌, ◌+◌, ◌-◌, ◌/◌, ◌<◌, ◌^◌, ◌∙◌, ◌≡◌, ◌≤◌}
 use Rattle.std.proofs.lemmas.Bool.{cases_lt}
 use Rattle.std.proofs.lemmas.Nat.{and-not, and_comm, and_mask, ones-le, zero_from_ones}
-use Rattle.std.specs.Int.Bits.{and_self, and_step}
 use Rattle.std.specs.Int.{IsPowerOfTwo, is_power_of_two}
 use Rattle.std.specs.Int.Count.{ones_step}
 
@@ -37,32 +35,6 @@ power_of_two-test n power = eq-eqb (count_ones n) 1 (ap count_ones power.1 ∙ o
 -- a power of two isn't 0
 pub power_of_two-positive : (n : ℕ) → IsPowerOfTwo n → 0 < n
 power_of_two-positive n power = omega (arith, power.1, pow_pos power.0)
-
--- a number that isn't 0 and shares no bit with the number below it is a power of two, by halves: an
--- odd one is 1
-apart_from_below : (limit n : ℕ) → n ≤ limit → 0 < n → bit_and n (n - 1) ≡ 0 → IsPowerOfTwo n
-apart_from_below zero n small positive apart = absurd (omega (arith, small, positive))
-apart_from_below (suc limit) n small positive apart =
-    let step = and_step n (n - 1) in
-    elim (cases_lt 0 (n % 2)) [
-      | inl odd ↦
-          let same : (n - 1) / 2 ≡ n / 2 = omega arith in
-          let whole = ap (bit_and (n / 2)) same ∙ and_self (n / 2) in
-          (0, omega (arith, step, whole, apart))
-      | inr even ↦
-          let lower : (n - 1) / 2 ≡ n / 2 - 1 = omega arith in
-          let none : bit_and (n / 2) (n / 2 - 1) ≡ 0 = omega (arith, step, ap (bit_and (n / 2)) lower, apart) in
-          let half = apart_from_below limit (n / 2) (omega arith) (omega arith) none in
-          (suc half.0, omega (arith, pow-suc 2 half.0, half.1))
-    ]
-
--- a number that isn't 0 is a power of two exactly if it shares no bit with the number below it
-pub power_of_two-apart : (n : ℕ) → 0 < n → (bit_and n (n - 1) ≡ 0) ↔ IsPowerOfTwo n
-power_of_two-apart n positive = (
-  apart_from_below n n (omega arith) positive,
-  λ power. subst (λ (m : ℕ). bit_and m (m - 1) ≡ 0) (sym power.1)
-      (and_mask (2 ^ power.0) power.0 ∙ mod_self (2 ^ power.0)),
-)
 
 -- a power of two below 2 ^ 64 divides 2 ^ 64
 pub power_of_two-divides : (n : ℕ) → IsPowerOfTwo n → n < 2 ^ 64 → (k : ℕ) × (2 ^ 64 ≡ k * n)

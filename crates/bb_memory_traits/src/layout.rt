@@ -55,15 +55,12 @@ impl Layout {
             ↔ ((size ≤ self.size) × (align ≤ self.align) × IsPowerOfTwo align) }
         ensures value { IfSome result (λ layout. (layout.size ≡ size) × (layout.align ≡ align)) }
     {
-        // A number that isn't 0 is a power of two only if it shares no bit with the number below it. For 0
-        // that is the greatest number, which no alignment exceeds. On processors that can't count bits,
-        // this takes fewer instructions than `is_power_of_two`. In this order, each test compiles to a
-        // jump of its own, which is shorter than combining the results.
-        let below = align.wrapping_sub(1);
-        if align & below != 0 {
+        // In this order, each test compiles to a jump of its own, which takes fewer instructions than
+        // combining the results.
+        if !align.is_power_of_two() {
             return None;
         }
-        if size > self.size || below >= self.align() {
+        if size > self.size || align > self.align {
             return None;
         }
         Some(Layout { size, align })
