@@ -6,7 +6,6 @@ right only where pages have 4 KiB. `cases` has to refuse each of them on each of
 
 import os
 import re
-import subprocess
 import tempfile
 from collections.abc import Iterator, Mapping, Sequence
 from concurrent.futures import ThreadPoolExecutor
@@ -14,9 +13,10 @@ from contextlib import contextmanager
 from dataclasses import dataclass
 from pathlib import Path
 
-from gate import edits
+from gate import edits, verdicts
 from gate.pool_file import CRATE, ROOM
-from gate.process import Failed, must_run, say
+from gate.process import Failed, must_run, run_within, say
+from gate.verdicts import Control
 
 SIZES = (16384, 65536)
 # Runs of `kills`: the arguments, except the second, the folder.
@@ -30,8 +30,7 @@ KILLS = (
 LONGEST = 600
 # A line of `cases` or `kills` that sums up a run.
 SUM = re.compile(r" expectations hold$|: 0 wrong, 0 lost|: each file was whole")
-# How `cases` ends if something isn't as expected, and what it says then.
-REFUSED = 1
+# What `cases` says if something isn't as expected.
 NOT_SO = "not so: "
 
 
@@ -118,7 +117,17 @@ class Pages:
         if expected not in shown.replace(str(path), "FILE"):
             raise Failed(f"pages of {self.size} bytes: bb-pool doesn't print shown.txt:\n{shown}")
 
-    def check_mutant(self, file: Path, folder: Path) -> None:
+    def run_cases(self, cases: Path, folder: Path) -> tuple[str, Control]:
+        """Runs `cases`. Returns what it prints, and the control of the mutants.
+
+        Raises Failed if it fails.
+        """
+        ran = run_within(LONGEST, [cases, folder], self.work)
+        passed = verdicts.control(f"cases, with pages of {self.size} bytes", ran, LONGEST)
+        assert ran is not None
+        return ran.output, passed
+
+    def check_mutant(self, file: Path, folder: Path, passed: Control) -> None:
         """Raises Failed unless `cases` refuses a mutant: at an expectation that doesn't hold."""
         edit = edits.read_edit(file)
         changed = edits.apply(edit, lambda name: (self.crate / name).read_text(encoding="utf-8"))
@@ -127,30 +136,26 @@ class Pages:
         mutant = self.link(
             f"{file.stem}.mutant", [self.work / "cases.o", self.simulated(source, file.stem)]
         )
-        words: list[str | Path] = [mutant, folder]
-        ran = subprocess.run(
-            words, cwd=self.work, capture_output=True, text=True, timeout=LONGEST, check=False
-        )
-        if ran.returncode != REFUSED or NOT_SO not in ran.stderr:
-            raise Failed(
-                f"{file.name}: `cases` doesn't refuse it with pages of {self.size} bytes: status "
-                f"{ran.returncode}\n{ran.stderr}"
-            )
+        ran = run_within(passed.most, [mutant, folder], self.work)
+        verdicts.must_refuse(file.name, ran, passed)
+        if ran is None or NOT_SO not in ran.errors:
+            raise Failed(f"{file.name}: refused by `{passed.command}`, but by no expectation")
 
     def check(self) -> str:
         """Runs all tests. Returns the text to print. Raises Failed if one fails."""
         cases, kills = self.build()
         mutants = sorted((self.crate / "tests/pool_file/pages").glob("*.mutant"))
         with folder_for_pools() as folder:
-            printed = [self.run(cases, [folder])]
+            said, passed = self.run_cases(cases, folder)
+            printed = [said]
             printed += [self.run(kills, [words[0], folder, *words[1:]]) for words in KILLS]
             self.run_command(folder)
             for file in mutants:
-                self.check_mutant(file, folder)
+                self.check_mutant(file, folder, passed)
         lines = [line for line in "\n".join(printed).splitlines() if SUM.search(line)]
-        said = [f"pages of {self.size} bytes: {line}" for line in lines]
-        said.append(f"pages of {self.size} bytes: `cases` refuses {len(mutants)} mutants")
-        return "\n".join(said)
+        told = [f"pages of {self.size} bytes: {line}" for line in lines]
+        told.append(f"pages of {self.size} bytes: `cases` refuses {len(mutants)} mutants")
+        return "\n".join(told)
 
 
 def check(top: Path, prefix: Path, work: Path, environment: Mapping[str, str]) -> None:

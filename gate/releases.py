@@ -12,6 +12,8 @@ from pathlib import Path
 from gate.process import Failed, has, must_run, say
 
 CRATE = "crates/bb_memory_c"
+# The list of the archives' sums.
+SUMS = "SHA256SUMS"
 HOW = "to make them again: make -C crates/bb_memory_c release"
 
 
@@ -92,8 +94,28 @@ def compare_one(stored: Path, made: Path, processor: str) -> None:
         raise Failed(f"dist has the release of another library: {' '.join(different)}\n{HOW}")
 
 
+def check_names(stored: Path) -> None:
+    """Raises Failed unless each file in a `dist` is of a release, or is the list of their sums.
+
+    That list has to name the archive of each release, and no other one.
+    """
+    names = {file.name for file in stored.iterdir()}
+    of_releases = {name for each in RELEASES for name in files_of(stored, each.processor)}
+    strays = sorted(names - of_releases - {SUMS})
+    if strays:
+        raise Failed(f"dist has files of no release: {' '.join(strays)}\n{HOW}")
+    archives = sorted(name for name in of_releases if name.endswith(".tar.gz"))
+    sums = (stored / SUMS).read_text(encoding="utf-8").splitlines()
+    if sorted(line.rpartition(" ")[2] for line in sums) != archives:
+        raise Failed(f"{SUMS} of dist has to name these files: {' '.join(archives)}\n{HOW}")
+
+
 def compare(stored: Path, made: Path) -> None:
-    """Compares each release that was made with the stored one. Raises Failed if one differs."""
+    """Compares each release that was made with the stored one.
+
+    Raises Failed if one differs, or if a file is stored that is of no release.
+    """
+    check_names(stored)
     for release in RELEASES:
         if (made / f"MADE_BY.{release.processor}").exists():
             compare_one(stored, made, release.processor)

@@ -24,7 +24,7 @@ class Printed(unittest.TestCase):
 
     def test_a_machine_that_ended_too_soon(self) -> None:
         self.assertEqual(kernels.missing("Kernel panic\n"), list(kernels.COMMANDS))
-        self.assertEqual(kernels.page_of("Kernel panic\n"), "unknown")
+        self.assertIsNone(kernels.page_of("Kernel panic\n"))
 
     def test_arguments(self) -> None:
         with self.assertRaisesRegex(Failed, "usage: "):

@@ -14,9 +14,10 @@ FILES = {
     "bb_memory-1.2.3-x86_64-linux.tar.gz": "archive",
     "MADE_BY.x86_64": "kit 1\ncc 1\n",
     "INSTRUCTION_COUNTS.x86_64": "9 bb_f\n",
-    "SHA256SUMS": "sums",
+    "SHA256SUMS": "0  bb_memory-1.2.3-x86_64-linux.tar.gz\n",
 }
 OF_ARM64 = {name.replace("x86_64", "aarch64"): text for name, text in FILES.items()}
+OF_ARM64["SHA256SUMS"] = FILES["SHA256SUMS"] + FILES["SHA256SUMS"].replace("x86_64", "aarch64")
 
 
 class Compared(unittest.TestCase):
@@ -52,6 +53,15 @@ class Compared(unittest.TestCase):
             self.compare(FILES, more)
         with self.assertRaisesRegex(Failed, "bb_memory-1.2.4"):
             self.compare(more, FILES)
+
+    def test_a_file_of_no_release(self) -> None:
+        with self.assertRaisesRegex(Failed, "files of no release: MADE_BY"):
+            self.compare({**FILES, "MADE_BY": "kit 1\n"}, FILES)
+
+    def test_an_archive_without_a_sum(self) -> None:
+        stored = {**FILES, **OF_ARM64, "SHA256SUMS": FILES["SHA256SUMS"]}
+        with self.assertRaisesRegex(Failed, "SHA256SUMS of dist has to name these files"):
+            self.compare(stored, FILES)
 
     def test_no_stored_release(self) -> None:
         with self.assertRaisesRegex(Failed, "dist has no release for aarch64"):
