@@ -30,7 +30,7 @@ enum {
     PAGE = 4096,
     // The first slot's word, in the file of OPTIONS: after the header, a page of words, and the
     // line of events.
-    FIRST_SLOT = 2 * PAGE + 64,
+    FIRST_SLOT = 2 * PAGE + 128,
     // The greatest number of bytes that one `open` here may request.
     MOST_BYTES = 1 << 27,
     // The seconds after which a child ends by itself, since its test has failed.
@@ -84,16 +84,15 @@ ssize_t pwrite(int fd, const void *bytes, size_t size, off_t at) {
 }
 
 // How many files were written to the disk, and the error if that fails, or 0. It has to come when a
-// file has its header, and no more. And the format that the header has to have.
+// file has its header, and no more.
 static uint32_t synced;
 static int syncing_error;
-static char format = 2;
 
 int fdatasync(int fd) {
     char header[PAGE] = "";
     const ssize_t length = pread(fd, header, sizeof header, 0);
     EXPECT(length > 16 && length < PAGE && memcmp(header, "bbpool\r\n", 8) == 0);
-    EXPECT(header[8] == format && memcmp(header + 9, "\0\0\0\1", 4) == 0);
+    EXPECT(header[8] == 4 && memcmp(header + 9, "\0\0\0\1", 4) == 0);
     synced++;
     errno = syncing_error;
     return syncing_error == 0 ? 0 : -1;
@@ -373,11 +372,14 @@ static void wrong_files(void) {
     foreign_file(bytes, sizeof bytes, BB_FILE_FOREIGN);
     memcpy(bytes, "bbpool\n\n", 8);
     foreign_file(bytes, sizeof bytes, BB_FILE_FOREIGN);
-    memcpy(bytes, "bbpool\r\n\1", 9);  // the format of 3.0.0
-    foreign_file(bytes, sizeof bytes, BB_FILE_VERSION);
-    memcpy(bytes, "bbpool\r\n\2\0\0\0\3", 13);  // state 3
+    for (char older = 1; older < 4; older++) {  // the formats of 3.0.0, and of 3.1.0 and 3.2.0
+        memcpy(bytes, "bbpool\r\n", 8);
+        bytes[8] = older;
+        foreign_file(bytes, sizeof bytes, BB_FILE_VERSION);
+    }
+    memcpy(bytes, "bbpool\r\n\4\0\0\0\3", 13);  // state 3
     foreign_file(bytes, sizeof bytes, BB_FILE_FOREIGN);
-    memcpy(bytes, "bbpool\r\n\2\0\0\0\2", 13);  // ready, with no buckets
+    memcpy(bytes, "bbpool\r\n\4\0\0\0\2", 13);  // ready, with no buckets
     write_file(path, bytes, sizeof bytes, 0);
     EXPECT(code_of(path, NULL) == BB_FILE_DAMAGED && code_of(path, &OPTIONS) == BB_FILE_MISMATCH);
     remove_it();
@@ -386,16 +388,8 @@ static void wrong_files(void) {
     write_file(path, "\1", 1, 12);
     EXPECT(code_of(path, NULL) == BB_FILE_STALE && code_of(path, &OPTIONS) == BB_OK);
     EXPECT(code_of(path, NULL) == BB_OK);
-    write_file(path, "\3", 1, 8);  // a format for buckets that are aligned to more than a page
-    EXPECT(code_of(path, NULL) == BB_FILE_VERSION);
-    remove_it();
-    bb_pool_file_options coarse = OPTIONS;
-    coarse.bucket_align = 2 * PAGE;
-    format = 3;
-    EXPECT(code_of(path, &coarse) == BB_OK && code_of(path, NULL) == BB_OK);
-    write_file(path, "\2", 1, 8);
-    EXPECT(code_of(path, NULL) == BB_FILE_VERSION && code_of(path, &coarse) == BB_FILE_VERSION);
-    format = 2;
+    write_file(path, "\5", 1, 8);  // a later format
+    EXPECT(code_of(path, NULL) == BB_FILE_VERSION && code_of(path, &OPTIONS) == BB_FILE_VERSION);
     remove_it();
     impossible_options();
     EXPECT(mkdir(path, 0700) == 0 && fails_with(EISDIR, path, &OPTIONS) && rmdir(path) == 0);
@@ -587,10 +581,8 @@ static void aligned(size_t align, uint32_t slots) {
     bb_pool_file *one;
     bb_pool_file *two;
     requested = 0;
-    format = align > PAGE ? 3 : 2;
     EXPECT(bb_pool_file_open(&one, path, &options) == BB_OK);
     EXPECT(bb_pool_file_open(&two, path, NULL) == BB_OK);
-    format = 2;
     bb_pool_party *party = join_it(one);
     EXPECT(info_of(one).start != info_of(two).start);
     EXPECT((uintptr_t)info_of(two).start % align == 0);

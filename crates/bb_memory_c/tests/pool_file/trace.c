@@ -56,8 +56,8 @@ enum {
     SIZE = 64,
     PAGE = 4096,
     FIRST_FLAG = 16,
-    FIRST_SLOT = (PAGE + 64) / 8,
-    WORDS_IN_SLOT = 8,
+    FIRST_SLOT = (PAGE + 128) / 8,
+    WORDS_IN_SLOT = 16,
     // The byte of the file whose lock is that of number 0.
     FIRST_LOCK = 2
 };
