@@ -37,7 +37,7 @@ from gate.verdicts import Control
 CRATE = "crates/bb_memory_c"
 FLAGS = ("-O2", "-Wall", "-Wextra", "-Werror", "-pedantic", "-Wshadow", "-Wconversion")
 CHECKERS = ("-fsanitize=address,undefined", "-fno-sanitize-recover=all")
-PROGRAMS = ("cases", "kills", "shown", "trace")
+PROGRAMS = ("cases", "kills", "leaks", "shown", "trace")
 # The seconds after which a program is killed, since it hangs.
 LONGEST = 600
 # The bytes that a folder has to have room for. `cases` has the largest files, of 36 MB.

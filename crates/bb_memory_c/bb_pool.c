@@ -72,9 +72,12 @@ static void show_figures(const char *path, const bb_pool_file_figures *figures) 
     const bb_pool_file_options *options = &figures->options;
     const uint32_t used = figures->held + figures->detached + figures->wrong;
     const uint32_t free = used < options->buckets ? options->buckets - used : 0;
-    printf("%s: %u buckets of %zu bytes at multiples of %zu, %u parties, %u slots\n", path,
+    printf("%s: %u buckets of %zu bytes at multiples of %zu, %u parties, %u slots", path,
            options->buckets, options->bucket_size, options->bucket_align, options->parties,
            options->slots);
+    if (options->user_bytes > 0)
+        printf(", %zu bytes of the host", options->user_bytes);
+    printf("\n");
     printf("buckets: %u free, %u held (%u of them by dead parties), %u detached, %u wrong\n", free,
            figures->held, figures->lost, figures->detached, figures->wrong);
     printf("parties: %u alive\n", figures->alive);

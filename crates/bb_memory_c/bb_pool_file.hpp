@@ -6,7 +6,7 @@
 //     struct order { int number; double price; };
 //
 //     bb::pool_file file;
-//     if (file.open("/dev/shm/orders", {sizeof(order), alignof(order), 1000, 16, 8, 0}) != BB_OK)
+//     if (file.open("/dev/shm/orders", {sizeof(order), alignof(order), 1000, 16, 8, 0, 0}) != BB_OK)
 //         return;
 //     // Each thread has a party. The file outlives its parties, and a party its messages and
 //     // buckets.
@@ -72,10 +72,11 @@ public:
                                 : std::uint32_t{BB_ALREADY_INITIALIZED};
     }
 
-    // Closes the file, if there is one. Its parties have to leave before that.
-    void close() noexcept {
-        if (file_ != nullptr)
-            bb_pool_file_close(std::exchange(file_, nullptr));
+    // Closes the file, if there is one. Its parties have to leave before that. BB_FILE_SYSTEM if
+    // the system fails to unmap or to unlock it, as `bb_pool_file_close` says.
+    std::uint32_t close() noexcept {
+        return file_ != nullptr ? bb_pool_file_close(std::exchange(file_, nullptr))
+                                : std::uint32_t{BB_OK};
     }
 
     // Returns the figures of the file, or nothing if there are none.
@@ -84,6 +85,23 @@ public:
         if (file_ == nullptr || bb_pool_file_info(file_, &figures) != BB_OK)
             return std::nullopt;
         return figures;
+    }
+
+    // Returns where the file has bytes for the host itself, at a multiple of 128, or null if it has
+    // none. All processes share them, and all are 0 when the file is made.
+    void *user() const noexcept { return file_ != nullptr ? bb_pool_file_user(file_) : nullptr; }
+
+    // Returns these bytes as a T, whose members other processes may change at any time: so they are
+    // atomics, or are used under a lock of the host. Returns null if there are fewer bytes than a T
+    // has. Call this once, since it looks up the figures of the file, as `info` does.
+    template<class T>
+    T *user() const noexcept {
+        static_assert(std::is_trivially_destructible_v<T> && std::is_standard_layout_v<T>);
+        static_assert(alignof(T) <= 128);
+        const std::optional<bb_pool_file_figures> figures = info();
+        if (!figures || figures->options.user_bytes < sizeof(T))
+            return nullptr;
+        return static_cast<T *>(user());
     }
 
     // Waits until a message can be taken from the slot (with BB_ANY_SLOT, from any slot), for at
@@ -299,6 +317,8 @@ public:
         if (party_ == nullptr)
             return BB_UNINITIALIZED;
         const bb_chunk chunk = bb_pool_party_allocate(party_, size, 1);
+        if (chunk.code == BB_INVALID_LAYOUT)  // no memory at all has so many bytes
+            return BB_SIZE_TOO_LARGE;
         if (chunk.code != BB_OK)
             return chunk.code;
         std::memcpy(chunk.place, bytes, size);

@@ -5,7 +5,7 @@
 
 #include "bb_pool_file.h"
 
-static const bb_pool_file_options OPTIONS = {256, 64, 1000, 16, 8, 0600};
+static const bb_pool_file_options OPTIONS = {256, 64, 1000, 16, 8, 0600, 0};
 
 // Receives the message in the slot, if there is one that no other consumer has taken.
 static uint32_t receive(bb_pool_file *file, bb_pool_party *mine, uint32_t slot) {

@@ -7,7 +7,7 @@
 
 #include "bb_pool_file.hpp"
 
-static const bb_pool_file_options options = {256, 64, 1000, 16, 8, 0600};
+static const bb_pool_file_options options = {256, 64, 1000, 16, 8, 0600, 0};
 
 // Posts the text. Waits for an empty slot and a free bucket. Frees what dead processes hold if a
 // wait times out.

@@ -8,6 +8,7 @@ use core::marker::PhantomData;
 use core::ops::Deref;
 use core::ptr::{self, NonNull};
 use core::slice;
+use core::sync::atomic::AtomicU8;
 use core::time::Duration;
 use std::error::Error;
 use std::ffi::CString;
@@ -50,6 +51,7 @@ unsafe extern "C" {
     ) -> u32;
     fn bb_pool_file_open_fd(to: *mut *mut File, fd: c_int, options: *const PoolFileOptions) -> u32;
     fn bb_pool_file_close(file: *mut File) -> u32;
+    fn bb_pool_file_user(file: *mut File) -> *mut c_void;
     fn bb_pool_file_join(file: *mut File, to: *mut *mut Handle) -> u32;
     fn bb_pool_file_leave(file: *mut File, party: *mut Handle) -> u32;
     fn bb_pool_file_deallocate(file: *mut File, party: *mut Handle, place: *const c_void) -> u32;
@@ -88,6 +90,8 @@ pub struct PoolFileOptions {
     pub slots: u32,
     /// The permissions of a new file, less the umask; 0 stands for 0o600.
     pub mode: u32,
+    /// How many bytes the file has for the program itself ([`PoolFile::user`]).
+    pub user_bytes: usize,
 }
 
 /// The figures of a file. Each flag, slot and lock was looked at once.
@@ -127,11 +131,12 @@ pub enum PoolFileError {
     Version,
     /// The file's figures aren't those of the options.
     Mismatch,
-    /// The file's length and figures don't match.
+    /// The file's length, pages and figures don't match.
     Damaged,
-    /// The file isn't regular, or others may write it.
+    /// The file isn't regular, or others than those whom `mode` lets may write it.
     Unsafe,
-    /// The file is unfinished, or from before the machine's last boot.
+    /// The file is unfinished, or from before the machine's last boot. No options say how to make it
+    /// again, or another process has locked it.
     Stale,
     /// Every party is in use.
     NoParty,
@@ -181,7 +186,7 @@ impl fmt::Display for PoolFileError {
             PoolFileError::Foreign => "the file does not hold a pool",
             PoolFileError::Version => "the file is in the format of another version",
             PoolFileError::Mismatch => "the file's figures are not those of the options",
-            PoolFileError::Damaged => "the file's length and figures do not match",
+            PoolFileError::Damaged => "the file's length, pages and figures do not match",
             PoolFileError::Unsafe => "the file is not regular, or others may write it",
             PoolFileError::Stale => "the file is unfinished or from before the last boot",
             PoolFileError::NoParty => "every party is in use",
@@ -253,6 +258,33 @@ impl PoolFile {
     fn opened(code: u32, file: *mut File) -> Result<PoolFile, PoolFileError> {
         PoolFileError::unless_ok(code)?;
         Ok(PoolFile { file: NonNull::new(file).expect("an opened file") })
+    }
+
+    /// Returns the bytes that the file has for the program itself, as many as
+    /// [`user_bytes`](PoolFileOptions::user_bytes) says, at a multiple of 128. They are 0 when the
+    /// file is made. All processes share them, so they are atomics; for larger ones, cast the
+    /// slice's pointer.
+    ///
+    /// ```no_run
+    /// use bb_memory::{PoolFile, PoolFileError, PoolFileOptions};
+    /// use core::sync::atomic::{AtomicU64, Ordering};
+    ///
+    /// fn count(options: &PoolFileOptions) -> Result<u64, PoolFileError> {
+    ///     let file = PoolFile::open("/dev/shm/orders", options)?;
+    ///     let bytes = file.user()?;
+    ///     assert!(bytes.len() >= size_of::<AtomicU64>());
+    ///     // SAFETY: the bytes are at a multiple of 128, and every process uses these as one atomic.
+    ///     let orders = unsafe { &*bytes.as_ptr().cast::<AtomicU64>() };
+    ///     Ok(orders.fetch_add(1, Ordering::Relaxed))
+    /// }
+    /// ```
+    pub fn user(&self) -> Result<&[AtomicU8], PoolFileError> {
+        let len = self.info()?.options.user_bytes;
+        // SAFETY: the file is open.
+        let place = unsafe { bb_pool_file_user(self.file.as_ptr()) };
+        // SAFETY: the file has so many bytes there as long as it is open, and no call uses them.
+        Ok(NonNull::new(place.cast::<AtomicU8>())
+            .map_or(&[], |place| unsafe { slice::from_raw_parts(place.as_ptr(), len) }))
     }
 
     /// Joins as a party that no living process uses.

@@ -5,6 +5,7 @@
 #include <dlfcn.h>
 #include <errno.h>
 #include <fcntl.h>
+#include <grp.h>
 #include <pthread.h>
 #include <sched.h>
 #include <signal.h>
@@ -18,9 +19,12 @@
 #include <sys/resource.h>
 #include <sys/socket.h>
 #include <sys/stat.h>
+#include <sys/statvfs.h>
 #include <sys/syscall.h>
 #include <sys/time.h>
+#include <sys/vfs.h>
 #include <sys/wait.h>
+#include <sys/xattr.h>
 #include <time.h>
 #include <unistd.h>
 
@@ -31,6 +35,9 @@ enum {
     // The first slot's word, in the file of OPTIONS: after the header, a page of words, and the
     // line of events.
     FIRST_SLOT = 2 * PAGE + 128,
+    // The file's state, and the machine's boot when it was made.
+    STATE = 12,
+    BOOT = 48,
     // The greatest number of bytes that one `open` here may request.
     MOST_BYTES = 1 << 27,
     // The seconds after which a child ends by itself, since its test has failed.
@@ -58,7 +65,29 @@ static void expect(bool holds, const char *what, int line) {
 static size_t requested;
 static size_t most = MOST_BYTES;
 
+// Whether the file system allocates pages, or only says so.
+static bool allocates = true;
+
+int fstatfs(int fd, struct statfs *to) {
+    const int result = (int)syscall(SYS_fstatfs, fd, to);
+    if (!allocates)
+        to->f_type = 0;  // of a file that is not in memory
+    return result;
+}
+
+int fstatvfs(int fd, struct statvfs *to) {
+    struct statfs space;
+    const int result = fstatfs(fd, &space);
+    memset(to, 0, sizeof *to);
+    to->f_frsize = (unsigned long)space.f_bsize;
+    to->f_blocks = allocates ? space.f_blocks : 0;
+    to->f_bavail = space.f_bavail;
+    return result;
+}
+
 int posix_fallocate(int fd, off_t at, off_t length) {
+    if (!allocates)
+        return 0;
     requested += (size_t)length;
     if (requested > most)
         return ENOSPC;
@@ -124,56 +153,72 @@ int __wrap_pthread_atfork(void (*prepare)(void), void (*parent)(void), void (*ch
 }
 #endif
 
-// Whether the system maps pages a second time.
-static bool maps_again = true;
+// Which call of `mmap` that maps where nothing is mapped finds another thread's mapping there,
+// counted from 1, or 0 for none, and whether each later one does, too. The other thread's mapping has
+// one page of the system, in the midst of the place. `others_count` counts them.
+static uint32_t intruded_mmap;
+static bool intrudes_on;
+static unsigned char *others[200];
+static uint32_t others_count;
 
-// Which call of `mremap` or `mmap` that maps over something fails, counted from 1, or 0 for none,
-// and the error. What another thread has mapped by then at the addresses that the call unmapped
-// before it failed: nobody may touch it during the call.
-static uint32_t failing_mremap;
-static uint32_t failing_mmap;
-static int mapping_error;
-static unsigned char *others;
-static size_t others_size;
+// Whether the system knows the flag MAP_FIXED_NOREPLACE. Before Linux 4.17 it doesn't.
+static bool knows_the_flag = true;
+
+// Which files in memory the system refuses to make, for the error, or 0.
+static int memfd_error;
+
+// Returns the bytes of the system's page, which may be larger than one of the file.
+static size_t system_page(void) {
+    return (size_t)sysconf(_SC_PAGESIZE);
+}
 
 // A pointer is as long as the result of a call of the system.
 static void *system_mmap(void *at, size_t size, int protection, int flags, int fd, off_t offset) {
     return (void *)syscall(SYS_mmap, at, size, protection, flags, fd, offset);
 }
 
-// Fails. The system says EAGAIN before it unmaps anything, and other errors after that. In both
-// cases nobody may touch these addresses until they are mapped again.
-static void *fail_over(void *to, size_t size) {
-    if (mapping_error != EAGAIN) {
-        const int private = MAP_PRIVATE | MAP_ANONYMOUS | MAP_FIXED;
-        others = system_mmap(to, size, PROT_READ | PROT_WRITE, private, -1, 0);
-        EXPECT(others == to);
-        others_size = size;
-        memset(others, 'x', size);
-    }
-    EXPECT(mprotect(to, size, PROT_NONE) == 0);
-    errno = mapping_error;
-    return MAP_FAILED;
-}
-
-void *mremap(void *old, size_t old_size, size_t size, int flags, ...) {
-    va_list more;
-    va_start(more, flags);
-    void *to = va_arg(more, void *);
-    va_end(more);
-    if (!maps_again) {
-        errno = EINVAL;
-        return MAP_FAILED;
-    }
-    if ((flags & MREMAP_FIXED) != 0 && failing_mremap > 0 && --failing_mremap == 0)
-        return fail_over(to, size);
-    return (void *)syscall(SYS_mremap, old, old_size, size, flags, to);
+// Another thread maps a page in the midst of these addresses, where nothing is mapped.
+static void intrude(char *at, size_t size) {
+    const size_t page = system_page();
+    char *midst = at + size / page / 2 * page;
+    const int private = MAP_PRIVATE | MAP_ANONYMOUS | MAP_FIXED_NOREPLACE;
+    EXPECT(others_count < sizeof others / sizeof *others);
+    others[others_count] = system_mmap(midst, page, PROT_READ | PROT_WRITE, private, -1, 0);
+    EXPECT(others[others_count] == (unsigned char *)midst);
+    memset(midst, 'x', page);
+    EXPECT(mprotect(midst, page, PROT_NONE) == 0);
+    others_count++;
 }
 
 void *mmap(void *at, size_t size, int protection, int flags, int fd, off_t offset) {
-    if ((flags & MAP_FIXED) != 0 && failing_mmap > 0 && --failing_mmap == 0)
-        return fail_over(at, size);
+    if ((flags & (MAP_FIXED | MAP_FIXED_NOREPLACE)) == 0)
+        return system_mmap(at, size, protection, flags, fd, offset);
+    if (intruded_mmap > 0 && --intruded_mmap == 0) {
+        intrude(at, size);
+        intruded_mmap = intrudes_on;
+    }
+    if (!knows_the_flag)
+        flags &= ~MAP_FIXED_NOREPLACE;
     return system_mmap(at, size, protection, flags, fd, offset);
+}
+
+int memfd_create(const char *name, unsigned flags) {
+    errno = memfd_error;
+    return memfd_error == 0 ? (int)syscall(SYS_memfd_create, name, flags) : -1;
+}
+
+// What the system says of a file: as it is, without pages, or with all pages.
+static enum {
+    AS_IT_IS,
+    NO_PAGES,
+    ALL_PAGES
+} said_pages;
+
+int fstat(int fd, struct stat *to) {
+    const int result = (int)syscall(SYS_fstat, fd, to);
+    if (said_pages != AS_IT_IS)
+        to->st_blocks = said_pages == NO_PAGES ? 0 : to->st_size / 512;
+    return result;
 }
 
 static bb_pool_file *open_it(void) {
@@ -229,11 +274,6 @@ static uint32_t code_of(const char *name, const bb_pool_file_options *options) {
         close_it(file);
     errno = error;
     return code;
-}
-
-// Returns the bytes of the system's page, which may be larger than one of the file.
-static size_t system_page(void) {
-    return (size_t)sysconf(_SC_PAGESIZE);
 }
 
 static bool fails_with(int error, const char *name, const bb_pool_file_options *options) {
@@ -312,19 +352,24 @@ static void others_options(void) {
     other = OPTIONS;
     other.slots = 5;
     EXPECT(code_of(path, &other) == BB_FILE_MISMATCH);
+    other = OPTIONS;
+    other.user_bytes = 1;
+    EXPECT(code_of(path, &other) == BB_FILE_MISMATCH);
 }
 
 static void impossible_options(void) {
     const bb_pool_file_options impossible[] = {
-        {0, 8, 20, 6, 4, 0},
-        {100, 12, 20, 6, 4, 0},
-        {100, 0, 20, 6, 4, 0},
-        {100, 8, 20, 0, 4, 0},
-        {100, 8, 20, 65536, 4, 0},
-        {100, 8, UINT32_MAX, 6, 4, 0},
-        {SIZE_MAX / 2, 8, 20, 6, 4, 0},
-        {(size_t)1 << 50, 8, 1u << 31, 6, 4, 0},
-        {8, (size_t)1 << 62, 1, 6, 4, 0},
+        {0, 8, 20, 6, 4, 0, 0},
+        {100, 12, 20, 6, 4, 0, 0},
+        {100, 0, 20, 6, 4, 0, 0},
+        {100, 8, 20, 0, 4, 0, 0},
+        {100, 8, 20, 65536, 4, 0, 0},
+        {100, 8, UINT32_MAX, 6, 4, 0, 0},
+        {SIZE_MAX / 2, 8, 20, 6, 4, 0, 0},
+        {(size_t)1 << 50, 8, 1u << 31, 6, 4, 0, 0},
+        {8, (size_t)1 << 62, 1, 6, 4, 0, 0},
+        {100, 8, 20, 6, 4, 0, SIZE_MAX},
+        {100, 8, 20, 6, 4, 0, SIZE_MAX / 8 + 1},
     };
     for (size_t at = 0; at < sizeof impossible / sizeof *impossible; at++) {
         EXPECT(code_of(path, &impossible[at]) == BB_INVALID_ARGUMENT);
@@ -376,6 +421,12 @@ static void wrong_files(void) {
         memcpy(bytes, "bbpool\r\n", 8);
         bytes[8] = older;
         foreign_file(bytes, sizeof bytes, BB_FILE_VERSION);
+        // The maker was killed: the file has the header of that format, and no more.
+        bytes[STATE] = 1;
+        foreign_file(bytes, 88, BB_FILE_VERSION);
+        foreign_file(bytes, 16, BB_FILE_VERSION);
+        foreign_file(bytes, 15, BB_FILE_FOREIGN);
+        bytes[STATE] = 0;
     }
     memcpy(bytes, "bbpool\r\n\4\0\0\0\3", 13);  // state 3
     foreign_file(bytes, sizeof bytes, BB_FILE_FOREIGN);
@@ -383,11 +434,15 @@ static void wrong_files(void) {
     write_file(path, bytes, sizeof bytes, 0);
     EXPECT(code_of(path, NULL) == BB_FILE_DAMAGED && code_of(path, &OPTIONS) == BB_FILE_MISMATCH);
     remove_it();
-    // A file whose maker was killed is made again, if options say what to make.
+    // A file whose maker was killed is made again, if options say what to make. The file system may
+    // have taken only a part of the header.
     EXPECT(code_of(path, &OPTIONS) == BB_OK);
-    write_file(path, "\1", 1, 12);
+    write_file(path, "\1", 1, STATE);
     EXPECT(code_of(path, NULL) == BB_FILE_STALE && code_of(path, &OPTIONS) == BB_OK);
     EXPECT(code_of(path, NULL) == BB_OK);
+    write_file(path, "\1", 1, STATE);
+    EXPECT(truncate(path, 16) == 0 && code_of(path, NULL) == BB_FILE_STALE);
+    EXPECT(code_of(path, &OPTIONS) == BB_OK && code_of(path, NULL) == BB_OK);
     write_file(path, "\5", 1, 8);  // a later format
     EXPECT(code_of(path, NULL) == BB_FILE_VERSION && code_of(path, &OPTIONS) == BB_FILE_VERSION);
     remove_it();
@@ -440,8 +495,139 @@ static void full(void) {
     remove_it();
 }
 
+// A file without some of its pages is refused, by a path and as a file in memory: whoever opens it
+// would have to allocate them.
+static void sparse(void) {
+    struct stat stat_of;
+    bb_pool_file *file;
+    EXPECT(code_of(path, &OPTIONS) == BB_OK && stat(path, &stat_of) == 0);
+    const int fd = open(path, O_RDWR | O_CLOEXEC);
+    const int page = (int)system_page();
+    if (fd >= 0 && fallocate(fd, FALLOC_FL_PUNCH_HOLE | FALLOC_FL_KEEP_SIZE, page, page) == 0) {
+        EXPECT(code_of(path, NULL) == BB_FILE_DAMAGED);
+        EXPECT(code_of(path, &OPTIONS) == BB_FILE_DAMAGED);
+        EXPECT(fallocate(fd, 0, 0, stat_of.st_size) == 0 && code_of(path, NULL) == BB_OK);
+    }
+    char header[PAGE];
+    EXPECT(fd >= 0 && pread(fd, header, PAGE, 0) == PAGE && close(fd) == 0);
+    const int peers = memfd_create("pool", MFD_CLOEXEC);
+    EXPECT(peers >= 0 && write(peers, header, PAGE) == PAGE);
+    EXPECT(ftruncate(peers, stat_of.st_size) == 0);
+    EXPECT(bb_pool_file_open_fd(&file, peers, NULL) == BB_FILE_DAMAGED);
+    EXPECT(fallocate(peers, 0, 0, stat_of.st_size) == 0);
+    EXPECT(bb_pool_file_open_fd(&file, peers, NULL) == BB_OK);
+    close_it(file);
+    EXPECT(close(peers) == 0);
+    remove_it();
+    // A file system that allocates no pages, though it says that it has.
+    said_pages = NO_PAGES;
+    EXPECT(fails_with(EOPNOTSUPP, path, &OPTIONS));
+    said_pages = AS_IT_IS;
+    EXPECT(stat(path, &stat_of) == 0 && stat_of.st_size == 0);
+    remove_it();
+}
+
+// An empty file with two names isn't made into a pool. One with one name is.
+static void linked(void) {
+    char other[sizeof path + 8];
+    struct stat stat_of;
+    snprintf(other, sizeof other, "%s.other", path);
+    write_file(other, "", 0, 0);
+    EXPECT(link(other, path) == 0);
+    EXPECT(code_of(path, &OPTIONS) == BB_FILE_UNSAFE && code_of(path, NULL) == BB_FILE_UNSAFE);
+    EXPECT(stat(other, &stat_of) == 0 && stat_of.st_size == 0 && unlink(other) == 0);
+    EXPECT(code_of(path, &OPTIONS) == BB_OK && link(path, other) == 0);
+    EXPECT(code_of(path, &OPTIONS) == BB_OK && unlink(other) == 0);  // it is a pool already
+    remove_it();
+}
+
 static void become_nobody(void) {
     EXPECT(setgid(65534) == 0 && setuid(65534) == 0);
+}
+
+// What a child returns that opens the file as this user, with this group as its own, and another
+// one as a further group.
+static uint32_t code_as(uid_t user, gid_t group, gid_t further, mode_t mode) {
+    bb_pool_file_options options = OPTIONS;
+    int status;
+    options.mode = mode;
+    const pid_t child = child_of();
+    if (child == 0) {
+        umask(0);
+        EXPECT(setgroups(1, &further) == 0 && setgid(group) == 0 && setuid(user) == 0);
+        _exit((int)code_of(path, &options));
+    }
+    EXPECT(waitpid(child, &status, 0) == child && WIFEXITED(status));
+    return (uint32_t)WEXITSTATUS(status);
+}
+
+// Gives a user read and write permission for the file by an access control list, in which the
+// file's own group has none: the file's mode then shows 0660. Returns false if the file system has
+// no such lists.
+static bool lets_by_list(uint32_t user) {
+    const struct {
+        uint32_t version;
+
+        struct {
+            uint16_t tag;
+            uint16_t permissions;
+            uint32_t id;
+        } entries[5];
+    } list = {2,
+              {{1, 6, UINT32_MAX},
+               {2, 6, user},
+               {4, 0, UINT32_MAX},
+               {16, 6, UINT32_MAX},
+               {32, 0, UINT32_MAX}}};
+
+    return setxattr(path, "system.posix_acl_access", &list, sizeof list, 0) == 0;
+}
+
+// A file is trusted with a mode that lets only a group write: if another user made it, it has to be
+// of a group of this process, and let that group write.
+static void trusted_groups(void) {
+    if (geteuid() != 0) {
+        puts("cases: files of other users need root, skipped");
+        return;
+    }
+
+    enum {
+        FRIEND = 1001,
+        OTHER = 1002,
+        OURS = 2000,
+        THEIRS = 2001
+    };
+
+    char folder[sizeof path];
+    struct stat stat_of;
+    memcpy(folder, path, sizeof folder);
+    *strrchr(folder, '/') = 0;
+    EXPECT(stat(folder, &stat_of) == 0 && chmod(folder, 01777) == 0);
+    // A friend of the group makes the file: those of the group open it, by either of their groups.
+    EXPECT(code_as(FRIEND, OURS, THEIRS, 0660) == BB_OK);
+    EXPECT(code_as(OTHER, OURS, THEIRS, 0660) == BB_OK);
+    EXPECT(code_as(OTHER, THEIRS, OURS, 0660) == BB_OK);
+    EXPECT(code_as(FRIEND, THEIRS, THEIRS, 0660) == BB_OK);  // it is his own
+    EXPECT(code_as(OTHER, OURS, THEIRS, 0600) == BB_FILE_UNSAFE);
+    // Root is in no group here: it could open any file of anybody.
+    EXPECT(code_as(0, 0, 0, 0660) == BB_FILE_UNSAFE && code_as(0, 0, OURS, 0660) == BB_OK);
+    EXPECT(code_as(0, 0, 0, 0666) == BB_OK);
+    // The group doesn't write the file.
+    EXPECT(chmod(path, 0600) == 0 && code_as(0, OURS, OURS, 0660) == BB_FILE_UNSAFE);
+    // Another group writes it, and a list lets this user do so.
+    EXPECT(chown(path, FRIEND, THEIRS) == 0);
+    if (lets_by_list(OTHER)) {
+        EXPECT(stat(path, &stat_of) == 0 && (stat_of.st_mode & 0777) == 0660);
+        EXPECT(code_as(OTHER, OURS, OURS, 0660) == BB_FILE_UNSAFE);
+        EXPECT(code_as(OTHER, OURS, OURS, 0666) == BB_OK);
+    } else {
+        puts("cases: the file system has no access control lists, skipped");
+    }
+    // Root's file is trusted, whatever its group.
+    EXPECT(chown(path, 0, THEIRS) == 0 && chmod(path, 0660) == 0);
+    EXPECT(code_as(0, OURS, OURS, 0660) == BB_OK);
+    remove_it();
+    EXPECT(chmod(folder, 0755) == 0);
 }
 
 // Files that others may write, and files of others: those need root, and a child that is another
@@ -546,9 +732,18 @@ static void signals(void) {
     remove_it();
 }
 
-// A file from before the machine's start is made anew, but not while it is used, nor without
-// options. So that this works after a power failure, too, the header is on the disk before the file
-// has its length.
+// Makes the file one of another boot, or of this one again.
+static void change_boot(void) {
+    char letter;
+    const int fd = open(path, O_RDONLY | O_CLOEXEC);
+    EXPECT(fd >= 0 && pread(fd, &letter, 1, BOOT) == 1 && close(fd) == 0);
+    letter ^= 1;
+    write_file(path, &letter, 1, BOOT);
+}
+
+// A file from before the machine's start is made anew, but not without options. Nor is it made anew
+// while somebody has a lock on it, as whoever may read it can: but nobody uses it either. So that
+// this works after a power failure, too, the header is on the disk before the file has its length.
 static void stale(void) {
     const uint32_t synced_before = synced;
     syncing_error = EIO;
@@ -557,16 +752,68 @@ static void stale(void) {
     bb_pool_file *file = open_it();
     EXPECT(synced == synced_before + 2);
     take_one(join_it(file));
-    write_file(path, "x", 1, 48);
-    EXPECT(code_of(path, NULL) == BB_OK && info_of(file).held == 1);
+    change_boot();
+    EXPECT(code_of(path, NULL) == BB_FILE_STALE && code_of(path, &OPTIONS) == BB_FILE_STALE);
+    EXPECT(info_of(file).held == 1);
+    change_boot();
     const pid_t child = holder(3);
     close_it(file);
     end_killed(child);
-    write_file(path, "x", 1, 48);
-    EXPECT(code_of(path, NULL) == BB_FILE_STALE);
+    change_boot();
+    const int reader = open(path, O_RDONLY | O_CLOEXEC);
+    EXPECT(reader >= 0 && lock_byte(reader, F_RDLCK, 1) == 0);
+    EXPECT(code_of(path, NULL) == BB_FILE_STALE && code_of(path, &OPTIONS) == BB_FILE_STALE);
+    EXPECT(close(reader) == 0 && code_of(path, NULL) == BB_FILE_STALE);
     file = open_it();
     EXPECT(info_of(file).held == 0);  // it was made anew: nobody reaped
     close_it(file);
+    // An unfinished file that somebody has locked.
+    write_file(path, "\1", 1, STATE);
+    const int other = open(path, O_RDONLY | O_CLOEXEC);
+    EXPECT(other >= 0 && lock_byte(other, F_RDLCK, 1) == 0);
+    EXPECT(code_of(path, &OPTIONS) == BB_FILE_STALE);
+    EXPECT(close(other) == 0 && code_of(path, &OPTIONS) == BB_OK);
+    remove_it();
+}
+
+// If the machine's boot can't be looked up, no file is opened or made. But a machine without /proc
+// has no boot: its files are never from before the last one.
+static void unknown_boots(void) {
+    close_it(open_it());
+    pid_t child = child_of();
+    if (child == 0) {
+        const int next = dup(0);
+        const struct rlimit few = {(rlim_t)next + 1, (rlim_t)next + 1};
+        EXPECT(next > 0 && close(next) == 0 && setrlimit(RLIMIT_NOFILE, &few) == 0);
+        EXPECT(fails_with(EMFILE, path, NULL) && fails_with(EMFILE, path, &OPTIONS));
+        EXPECT(unlink(path) == 0 && fails_with(EMFILE, path, &OPTIONS));
+        _exit(0);
+    }
+    end(child);
+    remove_it();
+    child = child_of();
+    if (child == 0) {
+        char folder[sizeof path];
+        char boot = 'x';
+        memcpy(folder, path, sizeof folder);
+        *strrchr(folder, '/') = 0;
+        if (chroot(folder) != 0)
+            _exit(2);
+        const char *name = path + strlen(folder);
+        EXPECT(code_of(name, &OPTIONS) == BB_OK);
+        const int fd = open(name, O_RDWR | O_CLOEXEC);
+        EXPECT(fd >= 0 && pread(fd, &boot, 1, BOOT) == 1 && boot == 0);
+        EXPECT(pwrite(fd, "x", 1, BOOT) == 1 && code_of(name, NULL) == BB_OK);
+        _exit(0);
+    }
+    int status;
+    EXPECT(waitpid(child, &status, 0) == child && WIFEXITED(status));
+    if (WEXITSTATUS(status) == 2) {
+        puts("cases: no other root is allowed, skipped");
+        return;
+    }
+    // Here the machine's boot is known, and it isn't this one.
+    EXPECT(WEXITSTATUS(status) == 0 && code_of(path, NULL) == BB_FILE_STALE);
     remove_it();
 }
 
@@ -701,23 +948,24 @@ static size_t mapped_pages(void) {
     return (size_t)strtoull(text, NULL, 10);
 }
 
-// Unmaps what another thread has mapped, which is as it was, and returns how many bytes that were.
-static size_t unmap_others(void) {
-    const size_t size = others_size;
-    if (size > 0) {
-        EXPECT(mprotect(others, size, PROT_READ | PROT_WRITE) == 0);
-        for (size_t at = 0; at < size; at++)
-            if (others[at] != 'x')
+// Unmaps what another thread has mapped, which is as it was, and returns how many pages that were.
+static uint32_t unmap_others(void) {
+    const uint32_t unmapped = others_count;
+    const size_t page = system_page();
+    for (; others_count > 0; others_count--) {
+        unsigned char *other = others[others_count - 1];
+        EXPECT(mprotect(other, page, PROT_READ | PROT_WRITE) == 0);
+        for (size_t at = 0; at < page; at++)
+            if (other[at] != 'x')
                 EXPECT(false);
-        EXPECT(munmap(others, size) == 0);
+        EXPECT(munmap(other, page) == 0);
     }
-    others_size = 0;
-    return size;
+    return unmapped;
 }
 
-// Opens a file of many buckets, uses it, and closes it. Returns how many bytes another thread has
-// mapped meanwhile. All other addresses are given back.
-static size_t opened_beside_others(const bb_pool_file_options *options) {
+// Opens a file, uses it, and closes it. Returns how many pages another thread has mapped meanwhile.
+// All other addresses are given back.
+static uint32_t opened_beside_others(const bb_pool_file_options *options) {
     const size_t before = mapped_pages();
     bb_pool_file *file;
     requested = 0;
@@ -726,71 +974,42 @@ static size_t opened_beside_others(const bb_pool_file_options *options) {
     EXPECT(info_of(file).held == 1 && info_of(file).wrong == 0);
     close_it(file);
     remove_it();
-    const size_t size = unmap_others();
+    const uint32_t mapped = unmap_others();
     EXPECT(mapped_pages() == before);
-    return size;
+    return mapped;
 }
 
-static const int MAPPING_ERRORS[] = {ENOMEM, EPERM, EAGAIN};
-
-// The system fails to map memory over the words of a file that is closed. All else is freed, and
-// the file stays as it is.
-static void refused_closes(void) {
-    bb_pool_file *other = open_it();
-    bb_pool_party *party = join_it(other);
-    const bb_number detached = bb_pool_file_detach(other, party, take_one(party));
-    EXPECT(detached.code == BB_OK);
-    take_one(party);
-    const size_t blocks_before = blocks;
-    for (int at = 0; at < 3; at++) {
-        const size_t before = mapped_pages();
-        bb_pool_file *file = open_it();
-        take_one(join_it(file));
-        EXPECT(info_of(other).held == 2);
-        mapping_error = MAPPING_ERRORS[at];
-        failing_mmap = 1;
-        close_it(file);
-        EXPECT(failing_mmap == 0 && (unmap_others() > 0) == (mapping_error != EAGAIN));
-        EXPECT(mapped_pages() == before && blocks == blocks_before);
-        EXPECT(info_of(other).held == 1 && info_of(other).detached == 1);
-        EXPECT(info_of(other).wrong == 0);
-    }
-    close_it(other);
-}
-
-// The system fails to map over the reserved addresses, having unmapped them, and another thread
-// takes them: they stay that thread's. With `mremap` the open goes on elsewhere. Without it the open
-// fails, and frees all else.
+// Another thread maps something where the file or its stand-ins were to be mapped. It stays that
+// thread's, and the open goes on elsewhere. If that happens again and again, the open fails, and
+// frees all that it had.
 static void addresses(void) {
-    const bb_pool_file_options options = {
+    const bb_pool_file_options many_buckets = {
         .bucket_size = 1, .bucket_align = 1, .buckets = 100000, .parties = 3, .slots = 1};
     bb_pool_file *file;
     bb_use_memory(allocate, release, &blocks);
-    opened_beside_others(&options);
-    maps_again = false;
-    EXPECT(opened_beside_others(&options) == 0);
-    maps_again = true;
-    mapping_error = ENOMEM;
-    for (uint32_t at = 1; at <= 4; at++) {
-        failing_mremap = at;
-        EXPECT(opened_beside_others(&options) > 0 && failing_mremap == 0);
-    }
-    close_it(open_it());
-    for (int at = 0; at < 3; at++) {
-        mapping_error = MAPPING_ERRORS[at];
-        for (uint32_t call = 1; call <= 2; call++) {
-            const size_t before = mapped_pages();
-            failing_mmap = call;
-            EXPECT(bb_pool_file_open(&file, path, &OPTIONS) == BB_FILE_SYSTEM);
-            EXPECT(errno == mapping_error && failing_mmap == 0);
-            EXPECT((unmap_others() > 0) == (mapping_error != EAGAIN));
-            EXPECT(mapped_pages() == before && blocks == 0);
+    EXPECT(opened_beside_others(&OPTIONS) == 0 && opened_beside_others(&many_buckets) == 0);
+    for (int at = 0; at < 2; at++) {
+        knows_the_flag = at == 0;
+        intruded_mmap = 1;
+        EXPECT(opened_beside_others(&OPTIONS) == 1);
+        // The words have four stand-ins here, and the file comes after them.
+        for (uint32_t call = 1; call <= 5; call++) {
+            intruded_mmap = call;
+            EXPECT(opened_beside_others(&many_buckets) == 1);
         }
+        EXPECT(blocks == 0);
+        close_it(open_it());
+        const size_t before = mapped_pages();
+        intruded_mmap = 1;
+        intrudes_on = true;
+        EXPECT(bb_pool_file_open(&file, path, NULL) == BB_FILE_SYSTEM && errno == EAGAIN);
+        intruded_mmap = 0;
+        intrudes_on = false;
+        EXPECT(unmap_others() == 100 && mapped_pages() == before && blocks == 0);
+        remove_it();
     }
-    refused_closes();
-    EXPECT(blocks == 0);
+    knows_the_flag = true;
     bb_use_memory(allocate_plainly, release_plainly, NULL);
-    remove_it();
 }
 
 static size_t page_faults(void) {
@@ -809,11 +1028,11 @@ static bool maps_at_once(void) {
 }
 
 // Many buckets: opening a file again changes no flag, and requests as much memory as if there were
-// few. It has fewer page faults than half of the flags' pages, if the system maps pages again.
+// few. It has fewer page faults than half of the flags' pages, if the system makes a file in memory.
 static void many(bool again) {
     const uint32_t numbers[] = {1000, 32760, 32761, 100000, 2200000};
     size_t few = 0;
-    maps_again = again;
+    memfd_error = again ? 0 : EMFILE;
     bb_use_memory(allocate, release, &blocks);
     for (int at = 0; at < 5; at++) {
         const bb_pool_file_options options = {
@@ -846,7 +1065,7 @@ static void many(bool again) {
     }
     EXPECT(blocks == 0);
     bb_use_memory(allocate_plainly, release_plainly, NULL);
-    maps_again = true;
+    memfd_error = 0;
 }
 
 // Two opens by one process behave like those of two processes.
@@ -1342,17 +1561,20 @@ static void forked(void) {
     bb_pool_file *file = open_it();
     bb_pool_party *party = join_it(file);
     const bb_place place = take_one(party);
-    // The pages of words, slots and region, and one more of the system that is reserved.
+    // The pages of words, tables and region.
     const size_t page = system_page();
     char *first = (char *)info_of(file).start - 2 * PAGE;
     first -= (uintptr_t)first % page;
-    const size_t size = (3 * PAGE + page - 1) / page * page + page;
+    const size_t size = (3 * PAGE + page - 1) / page * page;
     unsigned char pages[4];
     EXPECT(mincore(first, size, pages) == 0);
     const pid_t child = child_of();
     if (child == 0) {
         for (size_t at = 0; at < size; at += page)
             EXPECT(mincore(first + at, page, pages) != 0 && errno == ENOMEM);
+        // What the child maps there stays its own when it closes the file.
+        EXPECT(system_mmap(first, page, PROT_READ | PROT_WRITE,
+                           MAP_PRIVATE | MAP_ANONYMOUS | MAP_FIXED_NOREPLACE, -1, 0) == first);
         bb_pool_file_figures figures;
         bb_pool_party *more;
         bb_holder flag;
@@ -1373,7 +1595,9 @@ static void forked(void) {
         EXPECT(bb_pool_file_wait_full(file, 0, 0) == BB_UNINITIALIZED);
         EXPECT(bb_pool_file_wait_empty(file, 0, 0) == BB_UNINITIALIZED);
         EXPECT(bb_pool_file_wait_bucket(file, 0) == BB_UNINITIALIZED);
+        EXPECT(bb_pool_file_user(file) == NULL);
         close_it(file);
+        *first = 'x';
         bb_pool_file *own = open_it();
         EXPECT(info_of(own).held == 1 && number_of(join_it(own)) == 1);
         _exit(0);
@@ -1662,6 +1886,104 @@ static void garbage(void) {
     remove_it();
 }
 
+static size_t sum_of(const unsigned char *bytes, size_t size) {
+    size_t sum = 0;
+    for (size_t at = 0; at < size; at++)
+        sum += bytes[at];
+    return sum;
+}
+
+// The bytes of the host: zeros at first, at a multiple of 128, the same in each process, and kept
+// while no process has the file. No call changes them, and they overlap nothing.
+static void user_bytes(void) {
+    const size_t sizes[] = {1, 127, 128, 129, 5000};
+    bb_pool_file *file = open_it();
+    EXPECT(bb_pool_file_user(file) == NULL && info_of(file).options.user_bytes == 0);
+    close_it(file);
+    remove_it();
+    for (int at = 0; at < 5; at++) {
+        const size_t size = sizes[at];
+        bb_pool_file_options options = OPTIONS;
+        bb_pool_file *other;
+        options.user_bytes = size;
+        requested = 0;
+        EXPECT(bb_pool_file_open(&file, path, &options) == BB_OK);
+        EXPECT(bb_pool_file_open(&other, path, NULL) == BB_OK);
+        EXPECT(info_of(other).options.user_bytes == size);
+        unsigned char *bytes = bb_pool_file_user(file);
+        unsigned char *same = bb_pool_file_user(other);
+        EXPECT(bytes != NULL && (uintptr_t)bytes % 128 == 0 && (uintptr_t)same % 128 == 0);
+        EXPECT(bytes != same && sum_of(bytes, size) == 0);
+        memset(bytes, 0xff, size);
+        EXPECT(sum_of(same, size) == size * 0xff);
+        EXPECT(info_of(file).wrong == 0 && info_of(file).full_slots == 0);
+        // Each slot, each bucket and the life of each party is used.
+        bb_pool_party *joined[6];
+        for (int party = 0; party < 6; party++)
+            joined[party] = join_it(file);
+        bb_place place = NULL;
+        for (int bucket = 0; bucket < 20; bucket++) {
+            place = take_one(joined[bucket % 6]);
+            memset(place, 0, 100);
+            if (bucket < 4) {
+                const uint32_t slot = (uint32_t)bucket;
+                EXPECT(bb_pool_file_post(file, joined[bucket], slot, place, 100) == BB_OK);
+            }
+        }
+        EXPECT(sum_of(same, size) == size * 0xff && info_of(other).full_slots == 4);
+        memset(same, 0xee, size);
+        EXPECT(sum_of(place, 100) == 0 && info_of(file).wrong == 0);
+        const pid_t child = child_of();
+        if (child == 0) {
+            EXPECT(bb_pool_file_user(file) == NULL);
+            EXPECT(bb_pool_file_open(&other, path, &options) == BB_OK);
+            EXPECT(sum_of(bb_pool_file_user(other), size) == size * 0xee);
+            memset(bb_pool_file_user(other), 0xdd, size);
+            _exit(0);
+        }
+        end(child);
+        EXPECT(sum_of(bytes, size) == size * 0xdd);
+        close_it(file);
+        close_it(other);
+        EXPECT(bb_pool_file_open(&file, path, NULL) == BB_OK);
+        EXPECT(sum_of(bb_pool_file_user(file), size) == size * 0xdd);
+        close_it(file);
+        options.user_bytes = size + 1;
+        EXPECT(code_of(path, &options) == BB_FILE_MISMATCH);
+        EXPECT(code_of(path, &OPTIONS) == BB_FILE_MISMATCH);
+        // The file is made again, and has zeros again.
+        options.user_bytes = size;
+        change_boot();
+        EXPECT(bb_pool_file_open(&file, path, &options) == BB_OK);
+        EXPECT(sum_of(bb_pool_file_user(file), size) == 0);
+        close_it(file);
+        remove_it();
+    }
+}
+
+// In a bucket of 8 GiB, a message has less than 4 GiB. The file has no pages here.
+static void long_messages(void) {
+    const bb_pool_file_options large = {
+        .bucket_size = (size_t)1 << 33, .bucket_align = 8, .buckets = 1, .parties = 2, .slots = 1};
+    const size_t most_len = UINT32_MAX;
+    bb_pool_file *file;
+    said_pages = ALL_PAGES;
+    allocates = false;
+    const uint32_t code = bb_pool_file_open(&file, path, &large);
+    said_pages = AS_IT_IS;
+    allocates = true;
+    EXPECT(code == BB_OK);
+    bb_pool_party *party = join_it(file);
+    bb_place place = take_one(party);
+    EXPECT(bb_pool_file_post(file, party, 0, place, most_len + 1) == BB_SIZE_TOO_LARGE);
+    EXPECT(bb_pool_file_post(file, party, 0, place, (size_t)1 << 33) == BB_SIZE_TOO_LARGE);
+    EXPECT(bb_pool_file_post(file, party, 0, place, SIZE_MAX) == BB_SIZE_TOO_LARGE);
+    EXPECT(bb_pool_file_post(file, party, 0, place, most_len) == BB_OK);
+    EXPECT(bb_pool_file_take(file, party, 0).len == most_len);
+    close_it(file);
+    remove_it();
+}
+
 static void texts(void) {
     for (uint32_t code = BB_FILE_SYSTEM; code <= BB_FILE_LAST_CODE; code++)
         EXPECT(strcmp(bb_pool_file_text(code), bb_text(code)) != 0);
@@ -1681,9 +2003,13 @@ int main(int argc, char **argv) {
         wrong_files();
         full();
         permissions();
+        trusted_groups();
+        sparse();
+        linked();
         replaced();
         signals();
         stale();
+        unknown_boots();
         layouts();
         refused_memory();
         many(true);
@@ -1705,6 +2031,8 @@ int main(int argc, char **argv) {
         closed();
         namespaces();
         garbage();
+        user_bytes();
+        long_messages();
     }
     printf("cases: %u expectations hold\n", count);
     return 0;

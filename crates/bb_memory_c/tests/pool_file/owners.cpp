@@ -1,5 +1,7 @@
 // `owners FILE` tests that objects of C++ give back what they own when they end, that messages and
 // buckets are values, and that waits and reaps are those of the file.
+#include <atomic>
+#include <cstdint>
 #include <cstdio>
 #include <cstdlib>
 #include <cstring>
@@ -15,7 +17,13 @@ struct order {
     double price;
 };
 
-const bb_pool_file_options OPTIONS = {64, 8, 20, 4, 3, 0};
+// What the processes of this host share.
+struct shared {
+    std::atomic<std::uint64_t> orders;
+    std::atomic<std::uint32_t> clerks;
+};
+
+const bb_pool_file_options OPTIONS = {64, 8, 20, 4, 3, 0, sizeof(shared)};
 
 void expect(bool holds, int line) {
     if (!holds) {
@@ -67,6 +75,19 @@ void run_waits(const char *path) {
     EXPECT(file.reap(true, &freed) == BB_OK && freed == 1 && file.info()->detached == 0);
     die(path);
     EXPECT(file.reap(true) == BB_OK && file.info()->held == 0 && file.info()->detached == 0);
+}
+
+// The bytes that the file has for the host.
+void run_user(const bb::pool_file &file, const char *path) {
+    bb::pool_file none;
+    bb::pool_file other;
+    EXPECT(none.user() == nullptr && none.user<shared>() == nullptr && none.close() == BB_OK);
+    EXPECT(other.open(path) == BB_OK && file.user() != nullptr && file.user() != other.user());
+    shared *mine = file.user<shared>();
+    EXPECT(mine == file.user() && mine->orders == 0 && mine->clerks == 0);
+    mine->clerks = 3;
+    EXPECT(other.user<shared>()->clerks == 3 && other.user<shared>()->orders == 0);
+    EXPECT(file.user<shared[2]>() == nullptr && other.close() == BB_OK);
 }
 
 // Buckets that are filled where they are, and go in slots and by numbers.
@@ -126,6 +147,8 @@ void run(const char *path) {
         EXPECT(sender.post(9, order{8, 2.5}) == BB_INVALID_ARGUMENT);
         char large[65] = "";
         EXPECT(sender.post(1, large) == BB_SIZE_TOO_LARGE && file.info()->held == 0);
+        volatile std::size_t all = SIZE_MAX;  // which no compiler knows
+        EXPECT(sender.post(1, large, all) == BB_SIZE_TOO_LARGE && file.info()->held == 0);
         EXPECT(!receiver.take(1) && receiver.take(1).code() == BB_DETACHED_EMPTY);
         EXPECT(receiver.take(1).done() == BB_DETACHED_EMPTY);
         {
@@ -146,6 +169,7 @@ void run(const char *path) {
         }
         EXPECT(file.info()->held == 0 && file.info()->detached == 0);
         run_buckets(file, sender, receiver);
+        run_user(file, path);
         EXPECT(bb_pool_party_take(sender.get()).code == BB_OK);
         bb::pool_file_party moved = std::move(sender);
         EXPECT(sender.get() == nullptr && moved.get() != nullptr && file.info()->held == 1);
@@ -155,8 +179,7 @@ void run(const char *path) {
     EXPECT(file.info()->alive == 0);
     bb::pool_file moved = std::move(file);
     EXPECT(file.get() == nullptr && moved.info()->options.buckets == 20);
-    moved.close();
-    EXPECT(moved.open(path) == BB_OK);
+    EXPECT(moved.close() == BB_OK && moved.close() == BB_OK && moved.open(path) == BB_OK);
 }
 
 }  // namespace

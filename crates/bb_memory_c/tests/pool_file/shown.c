@@ -12,8 +12,12 @@
 
 // Seven numbers with four buckets each: those of the parties, and the one after them. Each party's
 // first request finds the first of its own buckets.
-static const bb_pool_file_options OPTIONS = {
-    .bucket_size = 100, .bucket_align = 8, .buckets = 28, .parties = 6, .slots = 4, .mode = 0};
+static const bb_pool_file_options OPTIONS = {.bucket_size = 100,
+                                             .bucket_align = 8,
+                                             .buckets = 28,
+                                             .parties = 6,
+                                             .slots = 4,
+                                             .user_bytes = 40};
 
 static void expect(bool holds, int line) {
     if (!holds) {

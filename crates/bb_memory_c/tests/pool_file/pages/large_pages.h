@@ -8,11 +8,9 @@
 #define _GNU_SOURCE
 #endif
 #include <errno.h>
-#include <stdarg.h>
 #include <stdbool.h>
 #include <stdint.h>
 #include <sys/mman.h>
-#include <sys/syscall.h>
 #include <unistd.h>
 
 static inline bool is_simulated_multiple(const void *address) {
@@ -26,7 +24,7 @@ static inline size_t simulated_length(size_t size) {
 static inline void *simulated_mmap(void *at, size_t size, int protection, int flags, int fd,
                                    off_t offset) {
     const size_t length = simulated_length(size);
-    const bool is_fixed = (flags & MAP_FIXED) != 0;
+    const bool is_fixed = (flags & (MAP_FIXED | MAP_FIXED_NOREPLACE)) != 0;
     if (offset % SIMULATED_PAGE != 0 || (is_fixed && !is_simulated_multiple(at))) {
         errno = EINVAL;
         return MAP_FAILED;
@@ -51,24 +49,12 @@ static inline int simulated_munmap(void *at, size_t size) {
     return munmap(at, simulated_length(size));
 }
 
-static inline void *simulated_mremap(void *old, size_t old_size, size_t size, int flags, ...) {
-    va_list more;
-    va_start(more, flags);
-    void *to = (flags & MREMAP_FIXED) != 0 ? va_arg(more, void *) : NULL;
-    va_end(more);
-    const size_t length = simulated_length(size);
-    if (!is_simulated_multiple(old) || !is_simulated_multiple(to)) {
+static inline int simulated_mprotect(void *at, size_t size, int protection) {
+    if (!is_simulated_multiple(at)) {
         errno = EINVAL;
-        return MAP_FAILED;
+        return -1;
     }
-    void *mapped = mremap(old, simulated_length(old_size), length, flags, to);
-    if (mapped == MAP_FAILED || is_simulated_multiple(mapped))
-        return mapped;
-    // Moves it to a multiple of the page, by the system itself: a program may have a `mremap` of its
-    // own, to which this is not a call of the library.
-    to = simulated_mmap(NULL, length, PROT_NONE, MAP_PRIVATE | MAP_ANONYMOUS, -1, 0);
-    const int fixed = MREMAP_MAYMOVE | MREMAP_FIXED;
-    return (void *)syscall(SYS_mremap, mapped, length, length, fixed, to);
+    return mprotect(at, simulated_length(size), protection);
 }
 
 static inline int simulated_madvise(void *at, size_t size, int advice) {
@@ -85,7 +71,7 @@ static inline long simulated_sysconf(int name) {
 
 #define mmap simulated_mmap
 #define munmap simulated_munmap
-#define mremap simulated_mremap
+#define mprotect simulated_mprotect
 #define madvise simulated_madvise
 #define sysconf simulated_sysconf
 
