@@ -1592,6 +1592,155 @@ static void looks_once(void) {
     EXPECT(least < 2500);
 }
 
+static int watch_it(bb_pool_file *file) {
+    int fd = -1;
+    EXPECT(bb_pool_file_watch(file, &fd) == BB_OK && fd >= 0);
+    return fd;
+}
+
+static void arm(bb_pool_file *file, int fd, uint32_t slot) {
+    EXPECT(bb_pool_file_arm(file, fd, slot) == BB_OK);
+}
+
+// Returns whether the descriptor is readable within that many milliseconds.
+static bool is_readable(int fd, int timeout) {
+    struct pollfd watched = {.fd = fd, .events = POLLIN};
+    EXPECT(poll(&watched, 1, timeout) >= 0);
+    return (watched.revents & POLLIN) != 0;
+}
+
+// The codes of watches, and what makes a descriptor readable.
+static void watched(void) {
+    bb_pool_file *file = open_it();
+    bb_pool_party *party = join_it(file);
+    const int fd = watch_it(file);
+    const int other = watch_it(file);
+    EXPECT((fcntl(fd, F_GETFD) & FD_CLOEXEC) != 0 && other != fd);
+    EXPECT(bb_pool_file_arm(file, fd, 4) == BB_INVALID_ARGUMENT);
+    EXPECT(bb_pool_file_arm(file, -1, 0) == BB_FILE_SYSTEM && errno == EBADF);
+    // It is readable for the armed slot, and not for others, until it is armed again.
+    post_into(file, party, 0);
+    EXPECT(!is_readable(fd, 0));
+    arm(file, fd, 1);
+    free_message(file, party, 0);
+    post_into(file, party, 0);
+    EXPECT(!is_readable(fd, 0));
+    post_into(file, party, 1);
+    EXPECT(is_readable(fd, 0) && is_readable(fd, 0) && is_readable(other, 0));
+    arm(file, fd, 1);
+    EXPECT(!is_readable(fd, 0));
+    // A message that is put back is one of the slot.
+    bb_message message = bb_pool_file_take(file, party, 1);
+    EXPECT(bb_pool_file_detach(file, party, message.place).code == BB_OK);
+    EXPECT(is_readable(fd, 0));
+    // Two slots, and any slot.
+    arm(file, fd, 2);
+    arm(file, fd, 3);
+    EXPECT(!is_readable(fd, 0));
+    post_into(file, party, 2);
+    EXPECT(is_readable(fd, 0));
+    arm(file, fd, BB_ANY_SLOT);
+    free_message(file, party, 2);
+    EXPECT(!is_readable(fd, 0));
+    post_into(file, party, 2);
+    EXPECT(is_readable(fd, 0));
+    // Both that watch a slot hear of the message.
+    arm(file, fd, 3);
+    arm(file, other, 3);
+    post_into(file, party, 3);
+    EXPECT(is_readable(fd, 0) && is_readable(other, 0));
+    // A message of a dead party, which a reap sends again.
+    for (uint32_t slot = 0; slot < 4; slot++)
+        free_message(file, party, slot);
+    take_by_the_dead(file, party);
+    arm(file, fd, 0);
+    reap_all(file, party);
+    EXPECT(is_readable(fd, 0));
+    // A descriptor outlives the `bb_pool_file`.
+    close_it(file);
+    EXPECT(close(fd) == 0 && close(other) == 0);
+    remove_it();
+}
+
+// The user has no more of these descriptors, and a refused call stores nothing.
+static void watched_too_often(void) {
+    bb_pool_file *file = open_it();
+    int fd = -7;
+    const pid_t child = child_of();
+    if (child == 0) {
+        file = open_it();
+        const struct rlimit none = {0, 0};
+        EXPECT(setrlimit(RLIMIT_NOFILE, &none) == 0);
+        EXPECT(bb_pool_file_watch(file, &fd) == BB_FILE_SYSTEM && errno == EMFILE && fd == -7);
+        _exit(0);
+    }
+    end(child);
+    close_it(file);
+    remove_it();
+}
+
+// An event loop takes each message. It looks only when the descriptor is readable: if a message
+// didn't make it readable, the loop would hang.
+static void event_loop(void) {
+    enum {
+        MESSAGES = 2000,
+        LOOPS = 2
+    };
+
+    bb_pool_file *file = open_it();
+    bb_pool_party *party = join_it(file);
+    pid_t children[LOOPS];
+    for (uint32_t at = 0; at < LOOPS; at++) {
+        children[at] = child_of();
+        if (children[at] != 0)
+            continue;
+        bb_pool_file *own = open_it();
+        bb_pool_party *mine = join_it(own);
+        const int fd = watch_it(own);
+        for (uint32_t taken = 0; taken < MESSAGES;) {
+            arm(own, fd, 2 * at);
+            arm(own, fd, 2 * at + 1);
+            const uint32_t before = taken;
+            for (uint32_t slot = 2 * at; slot < 2 * at + 2; slot++) {
+                const bb_message message = bb_pool_file_take(own, mine, slot);
+                if (message.code != BB_OK)
+                    continue;
+                taken++;
+                EXPECT(bb_pool_file_done(own, mine, slot) == BB_OK);
+                EXPECT(bb_pool_file_deallocate(own, mine, message.place) == BB_OK);
+            }
+            if (taken == before)
+                EXPECT(is_readable(fd, -1));
+        }
+        _exit(0);
+    }
+    for (uint32_t at = 0; at < LOOPS * MESSAGES; at++) {
+        EXPECT(bb_pool_file_wait_empty(file, at % 4, BB_NO_TIMEOUT) == BB_OK);
+        post_into(file, party, at % 4);
+        if (at % 100 == 0)
+            usleep(1000);  // both loops sleep meanwhile
+    }
+    for (int at = 0; at < LOOPS; at++)
+        end(children[at]);
+    close_it(file);
+    remove_it();
+}
+
+// A memfd, which has no path, is watched, too.
+static void watched_memfd(void) {
+    const int pool = memfd_create("pool", MFD_CLOEXEC);
+    bb_pool_file *file = NULL;
+    requested = 0;
+    EXPECT(pool >= 0 && bb_pool_file_open_fd(&file, pool, &OPTIONS) == BB_OK);
+    const int fd = watch_it(file);
+    arm(file, fd, 0);
+    EXPECT(!is_readable(fd, 0));
+    post_into(file, join_it(file), 0);
+    EXPECT(is_readable(fd, 0));
+    close_it(file);
+    EXPECT(close(fd) == 0 && close(pool) == 0);
+}
+
 static bb_pool_file *shared_file;
 static uint32_t reaped;
 
@@ -1788,6 +1937,9 @@ static void forked(void) {
         EXPECT(bb_pool_file_wait_full(file, 0, 0) == BB_UNINITIALIZED);
         EXPECT(bb_pool_file_wait_empty(file, 0, 0) == BB_UNINITIALIZED);
         EXPECT(bb_pool_file_wait_bucket(file, 0) == BB_UNINITIALIZED);
+        int fd = -7;
+        EXPECT(bb_pool_file_watch(file, &fd) == BB_UNINITIALIZED && fd == -7);
+        EXPECT(bb_pool_file_arm(file, -1, 0) == BB_UNINITIALIZED);
         close_it(file);
         bb_pool_file *own = open_it();
         EXPECT(info_of(own).held == 1 && number_of(join_it(own)) == 1);
@@ -2091,6 +2243,7 @@ int main(int argc, char **argv) {
     texts();
     unhandled_forks();
     passed();
+    watched_memfd();
     for (int at = 1; at < argc; at++) {
         snprintf(path, sizeof path, "%s/bb-cases-%d", argv[at], (int)getpid());
         wrong_files();
@@ -2117,6 +2270,9 @@ int main(int argc, char **argv) {
         unconcerned();
         crowds();
         looks_once();
+        watched();
+        watched_too_often();
+        event_loop();
         reaps();
         forked();
         freed_in_child();
