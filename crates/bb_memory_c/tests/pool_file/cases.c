@@ -1202,12 +1202,12 @@ static void post_into(bb_pool_file *file, bb_pool_party *party, uint32_t slot) {
     EXPECT(bb_pool_file_post(file, party, slot, take_one(party), 8) == BB_OK);
 }
 
-// The slots are empty but for slot 0, whose message is taken.
+// The slots are empty but for slot 1, whose message is taken.
 static void take_again(bb_pool_file *file, bb_pool_party *party) {
     for (uint32_t slot = 0; slot < 4; slot++)
         free_message(file, party, slot);
-    post_into(file, party, 0);
-    prepared = bb_pool_file_take(file, party, 0);
+    post_into(file, party, 1);
+    prepared = bb_pool_file_take(file, party, 1);
     EXPECT(prepared.code == BB_OK);
 }
 
@@ -1215,24 +1215,25 @@ static void put_back(bb_pool_file *file, bb_pool_party *party) {
     EXPECT(bb_pool_file_detach(file, party, prepared.place).code == BB_OK);
 }
 
-// All slots are full, and slot 0's message is taken.
+// All slots are full, and slot 1's message is taken.
 static void fill_all(bb_pool_file *file, bb_pool_party *party) {
     take_again(file, party);
-    for (uint32_t slot = 1; slot < 4; slot++)
-        post_into(file, party, slot);
+    for (uint32_t slot = 0; slot < 4; slot++)
+        if (slot != 1)
+            post_into(file, party, slot);
 }
 
 static void be_done(bb_pool_file *file, bb_pool_party *party) {
-    EXPECT(bb_pool_file_done(file, party, 0) == BB_OK);
+    EXPECT(bb_pool_file_done(file, party, 1) == BB_OK);
     EXPECT(bb_pool_file_deallocate(file, party, prepared.place) == BB_OK);
 }
 
-// Another party has taken slot 0's message, and holds all other buckets.
+// Another party has taken slot 1's message, and holds all other buckets.
 static void take_by_another(bb_pool_file *file, bb_pool_party *party) {
     leaving = join_it(file);
-    free_message(file, party, 0);
-    post_into(file, party, 0);
-    EXPECT(bb_pool_file_take(file, leaving, 0).code == BB_OK);
+    free_message(file, party, 1);
+    post_into(file, party, 1);
+    EXPECT(bb_pool_file_take(file, leaving, 1).code == BB_OK);
     for (int at = 0; at < 19; at++)
         take_one(leaving);
 }
@@ -1244,13 +1245,13 @@ static void leave_both(bb_pool_file *file, bb_pool_party *party) {
 
 // The same by a process that is dead by now.
 static void take_by_the_dead(bb_pool_file *file, bb_pool_party *party) {
-    free_message(file, party, 0);
-    post_into(file, party, 0);
+    free_message(file, party, 1);
+    post_into(file, party, 1);
     const pid_t child = child_of();
     if (child == 0) {
         bb_pool_file *own = open_it();
         bb_pool_party *mine = join_it(own);
-        EXPECT(bb_pool_file_take(own, mine, 0).code == BB_OK);
+        EXPECT(bb_pool_file_take(own, mine, 1).code == BB_OK);
         for (int at = 0; at < 19; at++)
             take_one(mine);
         _exit(0);
@@ -1312,14 +1313,14 @@ static void wakes(const struct waking *waking) {
 
 static void woken(void) {
     const struct waking all_of_them[] = {
-        {bb_pool_file_wait_full, 0, take_again, put_back},
+        {bb_pool_file_wait_full, 1, take_again, put_back},
         {bb_pool_file_wait_full, BB_ANY_SLOT, take_again, put_back},
-        {bb_pool_file_wait_empty, 0, fill_all, be_done},
+        {bb_pool_file_wait_empty, 1, fill_all, be_done},
         {bb_pool_file_wait_empty, BB_ANY_SLOT, fill_all, be_done},
-        {bb_pool_file_wait_full, 0, take_by_another, leave_both},
+        {bb_pool_file_wait_full, 1, take_by_another, leave_both},
         {bb_pool_file_wait_full, BB_ANY_SLOT, take_by_another, leave_both},
         {wait_bucket, 0, take_by_another, leave_both},
-        {bb_pool_file_wait_full, 0, take_by_the_dead, reap_all},
+        {bb_pool_file_wait_full, 1, take_by_the_dead, reap_all},
         {wait_bucket, 0, take_by_the_dead, reap_all},
     };
     for (size_t at = 0; at < sizeof all_of_them / sizeof *all_of_them; at++)
@@ -1627,6 +1628,10 @@ static void watched(void) {
     EXPECT(!is_readable(fd, 0));
     post_into(file, party, 1);
     EXPECT(is_readable(fd, 0) && is_readable(fd, 0) && is_readable(other, 0));
+    arm(file, fd, 2);
+    free_message(file, party, 1);
+    post_into(file, party, 1);
+    EXPECT(!is_readable(fd, 0));
     arm(file, fd, 1);
     EXPECT(!is_readable(fd, 0));
     // A message that is put back is one of the slot.
@@ -1653,7 +1658,7 @@ static void watched(void) {
     for (uint32_t slot = 0; slot < 4; slot++)
         free_message(file, party, slot);
     take_by_the_dead(file, party);
-    arm(file, fd, 0);
+    arm(file, fd, 1);
     reap_all(file, party);
     EXPECT(is_readable(fd, 0));
     // A descriptor outlives the `bb_pool_file`.
@@ -1679,8 +1684,8 @@ static void watched_too_often(void) {
     remove_it();
 }
 
-// An event loop takes each message. It looks only when the descriptor is readable: if a message
-// didn't make it readable, the loop would hang.
+// Two event loops take all messages. Each looks only when its descriptor is readable: if a message
+// didn't make it so, the loop would wait for nothing.
 static void event_loop(void) {
     enum {
         MESSAGES = 2000,
@@ -1710,7 +1715,7 @@ static void event_loop(void) {
                 EXPECT(bb_pool_file_deallocate(own, mine, message.place) == BB_OK);
             }
             if (taken == before)
-                EXPECT(is_readable(fd, -1));
+                EXPECT(is_readable(fd, 20000));
         }
         _exit(0);
     }
