@@ -351,7 +351,6 @@ fn waited(code: u32) -> Result<bool, PoolFileError> {
 ///
 /// A sender that is killed while it posts may not make it readable. So look from time to time, and
 /// [`reap`](PoolFile::reap) then.
-#[derive(Debug)]
 pub struct Watch<'a> {
     file: &'a PoolFile,
     fd: OwnedFd,
