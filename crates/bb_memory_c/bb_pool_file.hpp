@@ -1,7 +1,7 @@
 // Pools in files for C++17, over bb_pool_file.h, whose terms, rules and codes hold here, too.
 
-// When they go out of scope, a file is closed, a party leaves, a bucket is freed, and a message
-// frees its bucket or is put back.
+// When they go out of scope, a file and a watch are closed, a party leaves, a bucket is freed, and
+// a message frees its bucket or is put back.
 
 //     struct order { int number; double price; };
 //
@@ -22,7 +22,7 @@
 //         printf("order %d\n", got->number);
 //     message.done();
 
-// A refusal is a code. Files, parties, buckets and messages can be moved, but not copied.
+// A refusal is a code. Files, watches, parties, buckets and messages can be moved, but not copied.
 
 #ifndef BB_POOL_FILE_HPP
 #define BB_POOL_FILE_HPP
@@ -32,6 +32,7 @@
 #include <cstring>
 #include <optional>
 #include <type_traits>
+#include <unistd.h>
 #include <utility>
 
 #include "bb_pool_file.h"
@@ -141,6 +142,52 @@ public:
 
 private:
     bb_pool_file *file_ = nullptr;
+};
+
+// A descriptor that watches a file for messages, which is closed when this goes out of scope. The
+// file outlives it.
+class pool_file_watch {
+public:
+    pool_file_watch() = default;
+
+    pool_file_watch(pool_file_watch &&other) noexcept
+        : file_(std::exchange(other.file_, nullptr)), fd_(std::exchange(other.fd_, -1)) {}
+
+    pool_file_watch &operator=(pool_file_watch &&other) noexcept {
+        std::swap(file_, other.file_);
+        std::swap(fd_, other.fd_);
+        return *this;
+    }
+
+    ~pool_file_watch() {
+        if (fd_ >= 0)
+            ::close(fd_);
+    }
+
+    // Opens the descriptor. BB_ALREADY_INITIALIZED if this has one already, BB_UNINITIALIZED if
+    // `file` isn't open; then the codes of `bb_pool_file_watch`.
+    [[nodiscard]] std::uint32_t open(const pool_file &file) noexcept {
+        if (fd_ >= 0)
+            return BB_ALREADY_INITIALIZED;
+        if (file.get() == nullptr)
+            return BB_UNINITIALIZED;
+        file_ = file.get();
+        return bb_pool_file_watch(file_, &fd_);
+    }
+
+    // Makes the descriptor unreadable, and arms it for this slot (with BB_ANY_SLOT, for any slot),
+    // as `bb_pool_file_arm` does. BB_UNINITIALIZED if there is no descriptor; then the codes of
+    // that function.
+    [[nodiscard]] std::uint32_t arm(std::uint32_t slot) noexcept {
+        return fd_ >= 0 ? bb_pool_file_arm(file_, fd_, slot) : std::uint32_t{BB_UNINITIALIZED};
+    }
+
+    // Returns the descriptor for `poll` and `epoll`, or -1 if there is none.
+    int fd() const noexcept { return fd_; }
+
+private:
+    bb_pool_file *file_ = nullptr;
+    int fd_ = -1;
 };
 
 // A message that a party has taken, or the code of a refusal. When it goes out of scope after

@@ -13,7 +13,7 @@ use core::time::Duration;
 use std::error::Error;
 use std::ffi::CString;
 use std::io;
-use std::os::fd::{AsRawFd, BorrowedFd};
+use std::os::fd::{AsFd, AsRawFd, BorrowedFd, FromRawFd, OwnedFd, RawFd};
 use std::os::unix::ffi::OsStrExt;
 use std::path::Path;
 
@@ -67,6 +67,8 @@ unsafe extern "C" {
     fn bb_pool_file_wait_full(file: *mut File, slot: u32, milliseconds: u32) -> u32;
     fn bb_pool_file_wait_empty(file: *mut File, slot: u32, milliseconds: u32) -> u32;
     fn bb_pool_file_wait_bucket(file: *mut File, milliseconds: u32) -> u32;
+    fn bb_pool_file_watch(file: *mut File, fd: *mut c_int) -> u32;
+    fn bb_pool_file_arm(file: *mut File, fd: c_int, slot: u32) -> u32;
     fn bb_pool_file_detach(file: *mut File, party: *mut Handle, place: *const c_void) -> Number;
     fn bb_pool_file_reap(file: *mut File, detached: bool, freed: *mut u32) -> u32;
     fn bb_pool_file_info(file: *mut File, to: *mut PoolFileInfo) -> u32;
@@ -201,7 +203,7 @@ impl fmt::Display for PoolFileError {
 
 impl Error for PoolFileError {}
 
-/// Stands for any slot in a wait.
+/// Stands for any slot in a wait or a watch.
 const ANY_SLOT: u32 = u32::MAX;
 
 /// A pool in a file that this process has opened. Any process opens it by its path, and maps it at
@@ -327,6 +329,17 @@ impl PoolFile {
         waited(unsafe { bb_pool_file_wait_bucket(self.file.as_ptr(), milliseconds(time)) })
     }
 
+    /// Opens a descriptor that watches the file for messages, for an event loop. The system limits
+    /// how many of these a user may have; one is enough for all slots.
+    pub fn watch(&self) -> Result<Watch<'_>, PoolFileError> {
+        let mut fd = -1;
+        // SAFETY: the file is open.
+        PoolFileError::unless_ok(unsafe { bb_pool_file_watch(self.file.as_ptr(), &mut fd) })?;
+        // SAFETY: the descriptor was opened just now, and nobody else has it.
+        let fd = unsafe { OwnedFd::from_raw_fd(fd) };
+        Ok(Watch { file: self, fd })
+    }
+
     /// Returns the figures of the file.
     pub fn info(&self) -> Result<PoolFileInfo, PoolFileError> {
         let mut info = PoolFileInfo {
@@ -362,6 +375,39 @@ fn waited(code: u32) -> Result<bool, PoolFileError> {
         return Ok(false);
     }
     PoolFileError::unless_ok(code).map(|()| true)
+}
+
+/// A descriptor that watches a pool in a file for messages. Give it to `poll` or `epoll`, by
+/// [`AsFd`]. Each time that it is readable, and at the beginning, [`arm`](Watch::arm) it, and then
+/// take messages until there are none.
+///
+/// A sender that is killed while it posts may not make it readable. So look from time to time, and
+/// [`reap`](PoolFile::reap) then.
+pub struct Watch<'a> {
+    file: &'a PoolFile,
+    fd: OwnedFd,
+}
+
+impl Watch<'_> {
+    /// Makes the descriptor unreadable. The next message in this slot (with `None`, in any slot)
+    /// makes it readable. To watch several slots, arm it for each, and only then take from them.
+    pub fn arm(&self, slot: Option<u32>) -> Result<(), PoolFileError> {
+        let (file, fd) = (self.file.file.as_ptr(), self.fd.as_raw_fd());
+        // SAFETY: the file is open, and the descriptor is one of `watch`.
+        PoolFileError::unless_ok(unsafe { bb_pool_file_arm(file, fd, slot.unwrap_or(ANY_SLOT)) })
+    }
+}
+
+impl AsFd for Watch<'_> {
+    fn as_fd(&self) -> BorrowedFd<'_> {
+        self.fd.as_fd()
+    }
+}
+
+impl AsRawFd for Watch<'_> {
+    fn as_raw_fd(&self) -> RawFd {
+        self.fd.as_raw_fd()
+    }
 }
 
 /// A party of a pool in a file. It may be moved from thread to thread, but only one may use it at a

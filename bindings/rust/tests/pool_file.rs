@@ -1,7 +1,9 @@
 //! Pools in files: threads and processes, and processes that are killed.
 use bb_memory::{Message, PoolFile, PoolFileError, PoolFileOptions, PoolFileParty};
+use core::ffi::{c_int, c_short, c_ulong};
 use std::env;
 use std::fs;
+use std::os::fd::{AsFd, AsRawFd};
 use std::path::PathBuf;
 use std::process::{self, Command};
 use std::thread;
@@ -94,6 +96,62 @@ fn threads_wait_for_each_other() {
             message.done();
         }
     });
+}
+
+/// The `struct pollfd` of the C library.
+#[repr(C)]
+struct PollFd {
+    fd: c_int,
+    events: c_short,
+    revents: c_short,
+}
+
+unsafe extern "C" {
+    fn poll(descriptors: *mut PollFd, count: c_ulong, milliseconds: c_int) -> c_int;
+}
+
+/// Returns whether the descriptor is readable within that many milliseconds.
+fn is_readable(fd: &impl AsFd, milliseconds: c_int) -> bool {
+    const READABLE: c_short = 1;
+    let fd = fd.as_fd().as_raw_fd();
+    let mut watched = PollFd { fd, events: READABLE, revents: 0 };
+    // SAFETY: the pointer is to a variable.
+    assert!(unsafe { poll(&mut watched, 1, milliseconds) } >= 0);
+    watched.revents == READABLE
+}
+
+#[test]
+fn an_event_loop_takes_every_message() {
+    let path = Scratch::new("watch");
+    let file = PoolFile::open(&path.0, &OPTIONS).unwrap();
+    let watch = file.watch().unwrap();
+    assert!(matches!(watch.arm(Some(4)), Err(PoolFileError::InvalidArgument)));
+    thread::scope(|scope| {
+        let party: PoolFileParty = file.join().unwrap();
+        let file = &file;
+        scope.spawn(move || {
+            for number in 0..1000_u32 {
+                assert!(file.wait_empty(Some(3), Duration::from_secs(120)).unwrap());
+                party.post(3, &number.to_le_bytes()).unwrap();
+            }
+        });
+        let receiver = file.join().unwrap();
+        let mut number = 0_u32;
+        while number < 1000 {
+            watch.arm(Some(3)).unwrap();
+            let before = number;
+            while let Some(mut message) = receiver.take(3).unwrap() {
+                assert_eq!(*message, number.to_le_bytes());
+                message.done();
+                number += 1;
+            }
+            assert!(number > before || is_readable(&watch, 20_000));
+        }
+    });
+    watch.arm(None).unwrap();
+    assert!(!is_readable(&watch, 0));
+    file.join().unwrap().post(1, b"any").unwrap();
+    assert!(is_readable(&watch, 0));
 }
 
 /// Sends until it is killed, if this is the program that a test started for it.

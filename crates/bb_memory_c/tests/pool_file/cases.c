@@ -6,6 +6,7 @@
 #include <errno.h>
 #include <fcntl.h>
 #include <grp.h>
+#include <poll.h>
 #include <pthread.h>
 #include <sched.h>
 #include <signal.h>
@@ -1396,6 +1397,574 @@ static void ping(void) {
     remove_it();
 }
 
+// What has to wake a process that waits: it is made ready before the process sleeps, and done then.
+struct waking {
+    uint32_t (*wait)(bb_pool_file *, uint32_t, uint32_t);
+    uint32_t slot;
+    void (*prepare)(bb_pool_file *, bb_pool_party *);
+    void (*act)(bb_pool_file *, bb_pool_party *);
+};
+
+// The messages and parties of a `prepare`, for the `act` after it.
+static bb_message prepared;
+static bb_pool_party *leaving;
+
+static void free_message(bb_pool_file *file, bb_pool_party *party, uint32_t slot) {
+    const bb_message message = bb_pool_file_take(file, party, slot);
+    if (message.code != BB_OK)
+        return;
+    EXPECT(bb_pool_file_done(file, party, slot) == BB_OK);
+    EXPECT(bb_pool_file_deallocate(file, party, message.place) == BB_OK);
+}
+
+static void post_into(bb_pool_file *file, bb_pool_party *party, uint32_t slot) {
+    EXPECT(bb_pool_file_post(file, party, slot, take_one(party), 8) == BB_OK);
+}
+
+// The slots are empty but for slot 1, whose message is taken.
+static void take_again(bb_pool_file *file, bb_pool_party *party) {
+    for (uint32_t slot = 0; slot < 4; slot++)
+        free_message(file, party, slot);
+    post_into(file, party, 1);
+    prepared = bb_pool_file_take(file, party, 1);
+    EXPECT(prepared.code == BB_OK);
+}
+
+static void put_back(bb_pool_file *file, bb_pool_party *party) {
+    EXPECT(bb_pool_file_detach(file, party, prepared.place).code == BB_OK);
+}
+
+// All slots are full, and slot 1's message is taken.
+static void fill_all(bb_pool_file *file, bb_pool_party *party) {
+    take_again(file, party);
+    for (uint32_t slot = 0; slot < 4; slot++)
+        if (slot != 1)
+            post_into(file, party, slot);
+}
+
+static void be_done(bb_pool_file *file, bb_pool_party *party) {
+    EXPECT(bb_pool_file_done(file, party, 1) == BB_OK);
+    EXPECT(bb_pool_file_deallocate(file, party, prepared.place) == BB_OK);
+}
+
+// Another party has taken slot 1's message, and holds all other buckets.
+static void take_by_another(bb_pool_file *file, bb_pool_party *party) {
+    leaving = join_it(file);
+    free_message(file, party, 1);
+    post_into(file, party, 1);
+    EXPECT(bb_pool_file_take(file, leaving, 1).code == BB_OK);
+    for (int at = 0; at < 19; at++)
+        take_one(leaving);
+}
+
+static void leave_both(bb_pool_file *file, bb_pool_party *party) {
+    (void)party;
+    EXPECT(bb_pool_file_leave(file, leaving) == BB_OK);
+}
+
+// The same by a process that is dead by now.
+static void take_by_the_dead(bb_pool_file *file, bb_pool_party *party) {
+    free_message(file, party, 1);
+    post_into(file, party, 1);
+    const pid_t child = child_of();
+    if (child == 0) {
+        bb_pool_file *own = open_it();
+        bb_pool_party *mine = join_it(own);
+        EXPECT(bb_pool_file_take(own, mine, 1).code == BB_OK);
+        for (int at = 0; at < 19; at++)
+            take_one(mine);
+        _exit(0);
+    }
+    end(child);
+}
+
+static void reap_all(bb_pool_file *file, bb_pool_party *party) {
+    (void)party;
+    EXPECT(reap(file, false) == 19);
+}
+
+// A process that sleeps is woken at once. If a wake was lost, almost each wait would be late. A
+// loaded machine may make a few of them late.
+static void wakes(const struct waking *waking) {
+    enum {
+        ROUNDS = 12,
+        MOST_LATE = 5
+    };
+
+    int asks[2];
+    int replies[2];
+    EXPECT(pipe(asks) == 0 && pipe(replies) == 0);
+    bb_pool_file *file = open_it();
+    bb_pool_party *party = join_it(file);
+    const pid_t child = child_of();
+    if (child == 0) {
+        bb_pool_file *own = open_it();
+        for (int round = 0; round < ROUNDS; round++) {
+            hear(asks[0]);
+            tell(replies[1]);
+            const uint64_t begun = milliseconds();
+            EXPECT(waking->wait(own, waking->slot, BB_NO_TIMEOUT) == BB_OK);
+            const char late = milliseconds() - begun >= 100;
+            EXPECT(write(replies[1], &late, 1) == 1);
+        }
+        _exit(0);
+    }
+    int late_ones = 0;
+    for (int round = 0; round < ROUNDS; round++) {
+        char late;
+        waking->prepare(file, party);
+        tell(asks[1]);
+        hear(replies[0]);
+        usleep(3000);
+        waking->act(file, party);
+        EXPECT(read(replies[0], &late, 1) == 1);
+        late_ones += late;
+    }
+    EXPECT(late_ones <= MOST_LATE);
+    end(child);
+    for (int at = 0; at < 2; at++) {
+        close(asks[at]);
+        close(replies[at]);
+    }
+    close_it(file);
+    remove_it();
+}
+
+static void woken(void) {
+    const struct waking all_of_them[] = {
+        {bb_pool_file_wait_full, 1, take_again, put_back},
+        {bb_pool_file_wait_full, BB_ANY_SLOT, take_again, put_back},
+        {bb_pool_file_wait_empty, 1, fill_all, be_done},
+        {bb_pool_file_wait_empty, BB_ANY_SLOT, fill_all, be_done},
+        {bb_pool_file_wait_full, 1, take_by_another, leave_both},
+        {bb_pool_file_wait_full, BB_ANY_SLOT, take_by_another, leave_both},
+        {wait_bucket, 0, take_by_another, leave_both},
+        {bb_pool_file_wait_full, 1, take_by_the_dead, reap_all},
+        {wait_bucket, 0, take_by_the_dead, reap_all},
+    };
+    for (size_t at = 0; at < sizeof all_of_them / sizeof *all_of_them; at++)
+        wakes(&all_of_them[at]);
+}
+
+// Two messages wake two that wait for any slot: the first wake keeps what the second one needs.
+static void two_woken(void) {
+    enum {
+        ROUNDS = 12,
+        MOST_LATE = 5
+    };
+
+    int asks[2];
+    int replies[2];
+    pid_t children[2];
+    EXPECT(pipe(asks) == 0 && pipe(replies) == 0);
+    bb_pool_file *file = open_it();
+    bb_pool_party *party = join_it(file);
+    for (int at = 0; at < 2; at++) {
+        children[at] = child_of();
+        if (children[at] != 0)
+            continue;
+        bb_pool_file *own = open_it();
+        bb_pool_party *mine = join_it(own);
+        for (int round = 0; round < ROUNDS; round++) {
+            bb_message message = {BB_DETACHED_EMPTY, 0, NULL, 0};
+            hear(asks[0]);
+            tell(replies[1]);
+            const uint64_t begun = milliseconds();
+            while (message.code != BB_OK) {
+                EXPECT(bb_pool_file_wait_full(own, BB_ANY_SLOT, BB_NO_TIMEOUT) == BB_OK);
+                for (uint32_t slot = 0; slot < 2 && message.code != BB_OK; slot++) {
+                    message = bb_pool_file_take(own, mine, slot);
+                    if (message.code == BB_OK)
+                        EXPECT(bb_pool_file_done(own, mine, slot) == BB_OK);
+                }
+            }
+            const char late = milliseconds() - begun >= 100;
+            EXPECT(bb_pool_file_deallocate(own, mine, message.place) == BB_OK);
+            EXPECT(write(replies[1], &late, 1) == 1);
+            hear(asks[0]);
+        }
+        _exit(0);
+    }
+    int late_ones = 0;
+    for (int round = 0; round < ROUNDS; round++) {
+        char late[2];
+        for (int at = 0; at < 2; at++)
+            tell(asks[1]);
+        for (int at = 0; at < 2; at++)
+            hear(replies[0]);
+        usleep(3000);
+        for (uint32_t slot = 0; slot < 2; slot++)
+            post_into(file, party, slot);
+        for (int at = 0; at < 2; at++)
+            EXPECT(read(replies[0], &late[at], 1) == 1);
+        late_ones += late[0] || late[1];
+        for (int at = 0; at < 2; at++)
+            tell(asks[1]);
+    }
+    EXPECT(late_ones <= MOST_LATE);
+    for (int at = 0; at < 2; at++) {
+        end(children[at]);
+        close(asks[at]);
+        close(replies[at]);
+    }
+    close_it(file);
+    remove_it();
+}
+
+// One that is woken is killed, and another one that waits takes no longer than the header says.
+static void killed_when_woken(void) {
+    uint64_t least = UINT64_MAX;
+    for (int tries = 0; tries < 3; tries++) {
+        bb_pool_file *file = open_it();
+        bb_pool_party *party = join_it(file);
+        const pid_t first = sleeper(bb_pool_file_wait_full, 1);
+        const pid_t second = sleeper(bb_pool_file_wait_full, 1);
+        const uint64_t begun = milliseconds();
+        post_into(file, party, 1);
+        end_killed(first);
+        end(second);
+        const uint64_t lasted = milliseconds() - begun;
+        if (lasted < least)
+            least = lasted;
+        close_it(file);
+        remove_it();
+    }
+    EXPECT(least < 300);
+}
+
+// Returns how often a process has given up its processor, as it does to sleep.
+static uint64_t sleeps_of(pid_t process) {
+    char name[32];
+    char text[4096] = "";
+    snprintf(name, sizeof name, "/proc/%d/status", (int)process);
+    const int fd = open(name, O_RDONLY | O_CLOEXEC);
+    EXPECT(fd >= 0 && read(fd, text, sizeof text - 1) > 0 && close(fd) == 0);
+    const char *found = strstr(text, "\nvoluntary_ctxt_switches:");
+    EXPECT(found != NULL);
+    return strtoull(strchr(found, ':') + 1, NULL, 10);
+}
+
+// Those who wait for other slots sleep on, apart from a look each tenth of a second.
+static void unconcerned(void) {
+    enum {
+        ROUNDS = 100
+    };
+
+    bb_pool_file *file = open_it();
+    bb_pool_party *party = join_it(file);
+    post_into(file, party, 2);
+    const pid_t for_message = sleeper(bb_pool_file_wait_full, 1);
+    const pid_t for_room = sleeper(bb_pool_file_wait_empty, 2);
+    const uint64_t begun = milliseconds();
+    const uint64_t before = sleeps_of(for_message) + sleeps_of(for_room);
+    for (int round = 0; round < ROUNDS; round++) {
+        post_into(file, party, 0);
+        usleep(1000);
+        free_message(file, party, 0);
+        usleep(1000);
+    }
+    const uint64_t slept = sleeps_of(for_message) + sleeps_of(for_room) - before;
+    EXPECT(slept <= ROUNDS / 4 + 2 * (milliseconds() - begun) / 100);
+    post_into(file, party, 1);
+    free_message(file, party, 2);
+    end(for_message);
+    end(for_room);
+    close_it(file);
+    remove_it();
+}
+
+// Work of a process until it is killed, which waits for this slot or for any.
+static void receive_each(bb_pool_file *file, bb_pool_party *party, uint32_t slot) {
+    EXPECT(bb_pool_file_wait_full(file, slot, BB_NO_TIMEOUT) == BB_OK);
+    for (uint32_t at = 0; at < 4; at++)
+        free_message(file, party, at);
+}
+
+static void send_each(bb_pool_file *file, bb_pool_party *party, uint32_t slot) {
+    EXPECT(bb_pool_file_wait_empty(file, slot, BB_NO_TIMEOUT) == BB_OK);
+    const bb_place place = take_one(party);
+    uint32_t code = BB_DETACHED_FULL;
+    for (uint32_t at = 0; at < 4 && code == BB_DETACHED_FULL; at++)
+        if (slot == BB_ANY_SLOT || slot == at)
+            code = bb_pool_file_post(file, party, at, place, 8);
+    if (code == BB_DETACHED_FULL)
+        EXPECT(bb_pool_party_deallocate(party, place) == BB_OK);
+}
+
+static void allocate_each(bb_pool_file *file, bb_pool_party *party, uint32_t slot) {
+    EXPECT(bb_pool_file_wait_bucket(file, BB_NO_TIMEOUT) == BB_OK);
+    const bb_chunk chunk = bb_pool_party_take(party);
+    if (chunk.code == BB_OK)
+        EXPECT(bb_pool_file_post(file, party, slot, chunk.place, 8) == BB_OK);
+}
+
+// Waits, without being woken, until the slot is full or empty.
+static void see_slot(bb_pool_file *file, uint32_t slot, uint32_t code) {
+    while (bb_pool_file_look(file, slot).code != code)
+        usleep(1000);
+}
+
+// What wakes one of them, in the round with this number.
+static void post_in_round(bb_pool_file *file, bb_pool_party *party, uint32_t round) {
+    see_slot(file, round % 4, BB_DETACHED_EMPTY);
+    post_into(file, party, round % 4);
+}
+
+static void post_into_first(bb_pool_file *file, bb_pool_party *party, uint32_t round) {
+    post_in_round(file, party, 4 * round);
+}
+
+static void free_in_round(bb_pool_file *file, bb_pool_party *party, uint32_t round) {
+    if (round > 0)
+        see_slot(file, round % 4, BB_OK);
+    free_message(file, party, round % 4);
+}
+
+static void free_first(bb_pool_file *file, bb_pool_party *party, uint32_t round) {
+    if (round > 0)
+        see_slot(file, 0, BB_OK);
+    free_message(file, party, 0);
+}
+
+// Before the first round, the party takes all buckets. Then one of them goes to and fro.
+static void free_bucket(bb_pool_file *file, bb_pool_party *party, uint32_t round) {
+    if (round == 0) {
+        for (int at = 0; at < 19; at++)
+            take_one(party);
+        EXPECT(bb_pool_file_deallocate(file, party, take_one(party)) == BB_OK);
+    }
+    free_first(file, party, round);
+}
+
+// Of four processes that wait for the same, each message, empty slot or bucket wakes one.
+static void one_of_four(void (*work)(bb_pool_file *, bb_pool_party *, uint32_t), uint32_t slot,
+                        void (*act)(bb_pool_file *, bb_pool_party *, uint32_t)) {
+    enum {
+        ROUNDS = 60,
+        WORKERS = 4
+    };
+
+    pid_t children[WORKERS];
+    int ready[2];
+    EXPECT(pipe(ready) == 0);
+    bb_pool_file *file = open_it();
+    bb_pool_party *party = join_it(file);
+    act(file, party, 0);
+    for (int at = 0; at < WORKERS; at++) {
+        children[at] = child_of();
+        if (children[at] != 0)
+            continue;
+        bb_pool_file *own = open_it();
+        bb_pool_party *mine = join_it(own);
+        tell(ready[1]);
+        for (;;)
+            work(own, mine, slot);
+    }
+    uint64_t slept = 0;
+    for (int at = 0; at < WORKERS; at++)
+        hear(ready[0]);
+    usleep(20000);
+    const uint64_t begun = milliseconds();
+    for (int at = 0; at < WORKERS; at++)
+        slept -= sleeps_of(children[at]);
+    for (uint32_t round = 1; round <= ROUNDS; round++) {
+        act(file, party, round);
+        usleep(2000);
+    }
+    for (int at = 0; at < WORKERS; at++)
+        slept += sleeps_of(children[at]);
+    EXPECT(slept >= ROUNDS / 2);
+    EXPECT(slept <= 2 * ROUNDS + WORKERS * (milliseconds() - begun) / 100);
+    for (int at = 0; at < WORKERS; at++)
+        end_killed(children[at]);
+    close(ready[0]);
+    close(ready[1]);
+    close_it(file);
+    remove_it();
+}
+
+static void crowds(void) {
+    one_of_four(receive_each, BB_ANY_SLOT, post_in_round);
+    one_of_four(receive_each, 0, post_into_first);
+    one_of_four(send_each, BB_ANY_SLOT, free_in_round);
+    one_of_four(send_each, 0, free_first);
+    one_of_four(allocate_each, 0, free_bucket);
+}
+
+// A wait of no time looks once, and never spins for some microseconds.
+static void looks_once(void) {
+    uint64_t least = UINT64_MAX;
+    for (int tries = 0; tries < 50; tries++) {
+        struct timespec begun;
+        struct timespec ended;
+        bb_pool_file *file = open_it();
+        EXPECT(bb_pool_file_wait_empty(file, 0, 0) == BB_OK);  // the page is there from here on
+        clock_gettime(CLOCK_MONOTONIC, &begun);
+        EXPECT(bb_pool_file_wait_full(file, 0, 0) == BB_FILE_TIMED_OUT);
+        clock_gettime(CLOCK_MONOTONIC, &ended);
+        const int64_t seconds = ended.tv_sec - begun.tv_sec;
+        const uint64_t lasted = (uint64_t)(seconds * 1000000000 + ended.tv_nsec - begun.tv_nsec);
+        if (lasted < least)
+            least = lasted;
+        close_it(file);
+        remove_it();
+    }
+    EXPECT(least < 2500);
+}
+
+static int watch_it(bb_pool_file *file) {
+    int fd = -1;
+    EXPECT(bb_pool_file_watch(file, &fd) == BB_OK && fd >= 0);
+    return fd;
+}
+
+static void arm(bb_pool_file *file, int fd, uint32_t slot) {
+    EXPECT(bb_pool_file_arm(file, fd, slot) == BB_OK);
+}
+
+// Returns whether the descriptor is readable within that many milliseconds.
+static bool is_readable(int fd, int timeout) {
+    struct pollfd watched = {.fd = fd, .events = POLLIN};
+    EXPECT(poll(&watched, 1, timeout) >= 0);
+    return (watched.revents & POLLIN) != 0;
+}
+
+// The codes of watches, and what makes a descriptor readable.
+static void watched(void) {
+    bb_pool_file *file = open_it();
+    bb_pool_party *party = join_it(file);
+    const int fd = watch_it(file);
+    const int other = watch_it(file);
+    EXPECT((fcntl(fd, F_GETFD) & FD_CLOEXEC) != 0 && other != fd);
+    EXPECT(bb_pool_file_arm(file, fd, 4) == BB_INVALID_ARGUMENT);
+    EXPECT(bb_pool_file_arm(file, -1, 0) == BB_FILE_SYSTEM && errno == EBADF);
+    // It is readable for the armed slot, and not for others, until it is armed again.
+    post_into(file, party, 0);
+    EXPECT(!is_readable(fd, 0));
+    arm(file, fd, 1);
+    free_message(file, party, 0);
+    post_into(file, party, 0);
+    EXPECT(!is_readable(fd, 0));
+    post_into(file, party, 1);
+    EXPECT(is_readable(fd, 0) && is_readable(fd, 0) && is_readable(other, 0));
+    arm(file, fd, 2);
+    free_message(file, party, 1);
+    post_into(file, party, 1);
+    EXPECT(!is_readable(fd, 0));
+    arm(file, fd, 1);
+    EXPECT(!is_readable(fd, 0));
+    // A message that is put back is one of the slot.
+    bb_message message = bb_pool_file_take(file, party, 1);
+    EXPECT(bb_pool_file_detach(file, party, message.place).code == BB_OK);
+    EXPECT(is_readable(fd, 0));
+    // Two slots, and any slot.
+    arm(file, fd, 2);
+    arm(file, fd, 3);
+    EXPECT(!is_readable(fd, 0));
+    post_into(file, party, 2);
+    EXPECT(is_readable(fd, 0));
+    arm(file, fd, BB_ANY_SLOT);
+    free_message(file, party, 2);
+    EXPECT(!is_readable(fd, 0));
+    post_into(file, party, 2);
+    EXPECT(is_readable(fd, 0));
+    // Both that watch a slot hear of the message.
+    arm(file, fd, 3);
+    arm(file, other, 3);
+    post_into(file, party, 3);
+    EXPECT(is_readable(fd, 0) && is_readable(other, 0));
+    // A message of a dead party, which a reap sends again.
+    for (uint32_t slot = 0; slot < 4; slot++)
+        free_message(file, party, slot);
+    take_by_the_dead(file, party);
+    arm(file, fd, 1);
+    reap_all(file, party);
+    EXPECT(is_readable(fd, 0));
+    // A descriptor outlives the `bb_pool_file`.
+    close_it(file);
+    EXPECT(close(fd) == 0 && close(other) == 0);
+    remove_it();
+}
+
+// The user has no more of these descriptors, and a refused call stores nothing.
+static void watched_too_often(void) {
+    bb_pool_file *file = open_it();
+    int fd = -7;
+    const pid_t child = child_of();
+    if (child == 0) {
+        file = open_it();
+        const struct rlimit none = {0, 0};
+        EXPECT(setrlimit(RLIMIT_NOFILE, &none) == 0);
+        EXPECT(bb_pool_file_watch(file, &fd) == BB_FILE_SYSTEM && errno == EMFILE && fd == -7);
+        _exit(0);
+    }
+    end(child);
+    close_it(file);
+    remove_it();
+}
+
+// Two event loops take all messages. Each looks only when its descriptor is readable: if a message
+// didn't make it so, the loop would wait for nothing.
+static void event_loop(void) {
+    enum {
+        MESSAGES = 2000,
+        LOOPS = 2
+    };
+
+    bb_pool_file *file = open_it();
+    bb_pool_party *party = join_it(file);
+    pid_t children[LOOPS];
+    for (uint32_t at = 0; at < LOOPS; at++) {
+        children[at] = child_of();
+        if (children[at] != 0)
+            continue;
+        bb_pool_file *own = open_it();
+        bb_pool_party *mine = join_it(own);
+        const int fd = watch_it(own);
+        for (uint32_t taken = 0; taken < MESSAGES;) {
+            arm(own, fd, 2 * at);
+            arm(own, fd, 2 * at + 1);
+            const uint32_t before = taken;
+            for (uint32_t slot = 2 * at; slot < 2 * at + 2; slot++) {
+                const bb_message message = bb_pool_file_take(own, mine, slot);
+                if (message.code != BB_OK)
+                    continue;
+                taken++;
+                EXPECT(bb_pool_file_done(own, mine, slot) == BB_OK);
+                EXPECT(bb_pool_file_deallocate(own, mine, message.place) == BB_OK);
+            }
+            if (taken == before)
+                EXPECT(is_readable(fd, 20000));
+        }
+        _exit(0);
+    }
+    for (uint32_t at = 0; at < LOOPS * MESSAGES; at++) {
+        EXPECT(bb_pool_file_wait_empty(file, at % 4, BB_NO_TIMEOUT) == BB_OK);
+        post_into(file, party, at % 4);
+        if (at % 100 == 0)
+            usleep(1000);  // both loops sleep meanwhile
+    }
+    for (int at = 0; at < LOOPS; at++)
+        end(children[at]);
+    close_it(file);
+    remove_it();
+}
+
+// A memfd, which has no path, is watched, too.
+static void watched_memfd(void) {
+    const int pool = memfd_create("pool", MFD_CLOEXEC);
+    bb_pool_file *file = NULL;
+    requested = 0;
+    EXPECT(pool >= 0 && bb_pool_file_open_fd(&file, pool, &OPTIONS) == BB_OK);
+    const int fd = watch_it(file);
+    arm(file, fd, 0);
+    EXPECT(!is_readable(fd, 0));
+    post_into(file, join_it(file), 0);
+    EXPECT(is_readable(fd, 0));
+    close_it(file);
+    EXPECT(close(fd) == 0 && close(pool) == 0);
+}
+
 static bb_pool_file *shared_file;
 static uint32_t reaped;
 
@@ -1596,6 +2165,9 @@ static void forked(void) {
         EXPECT(bb_pool_file_wait_empty(file, 0, 0) == BB_UNINITIALIZED);
         EXPECT(bb_pool_file_wait_bucket(file, 0) == BB_UNINITIALIZED);
         EXPECT(bb_pool_file_user(file) == NULL);
+        int fd = -7;
+        EXPECT(bb_pool_file_watch(file, &fd) == BB_UNINITIALIZED && fd == -7);
+        EXPECT(bb_pool_file_arm(file, -1, 0) == BB_UNINITIALIZED);
         close_it(file);
         *first = 'x';
         bb_pool_file *own = open_it();
@@ -1998,6 +2570,7 @@ int main(int argc, char **argv) {
     texts();
     unhandled_forks();
     passed();
+    watched_memfd();
     for (int at = 1; at < argc; at++) {
         snprintf(path, sizeof path, "%s/bb-cases-%d", argv[at], (int)getpid());
         wrong_files();
@@ -2022,6 +2595,15 @@ int main(int argc, char **argv) {
         one_wins();
         waits();
         ping();
+        woken();
+        two_woken();
+        killed_when_woken();
+        unconcerned();
+        crowds();
+        looks_once();
+        watched();
+        watched_too_often();
+        event_loop();
         reaps();
         forked();
         freed_in_child();

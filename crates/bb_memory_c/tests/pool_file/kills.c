@@ -902,6 +902,71 @@ static bool pause_take(bb_pool_file *ours, bb_pool_party *party, uint32_t steps)
     return ended;
 }
 
+// How many processes have waited for a message while a take held its bucket, and how many of them
+// noticed only a tenth of a second later that they can take it.
+static uint32_t waited;
+static uint32_t woken_late;
+
+static uint64_t milliseconds(void) {
+    struct timespec time;
+    clock_gettime(CLOCK_MONOTONIC, &time);
+    return (uint64_t)time.tv_sec * 1000 + (uint64_t)time.tv_nsec / 1000000;
+}
+
+// Lets the stopped child go on while another process sleeps until it can take from slot 2.
+static void go_on_beside_sleeper(pid_t child) {
+    int ready[2];
+    int status;
+    char byte = 'r';
+    EXPECT(pipe(ready) == 0);
+    const pid_t sleeper = fork();
+    if (sleeper == 0) {
+        bb_pool_file *own;
+        end_with_parent();
+        EXPECT(bb_pool_file_open(&own, path, NULL) == BB_OK);
+        EXPECT(write(ready[1], &byte, 1) == 1);
+        const uint64_t begun = milliseconds();
+        EXPECT(bb_pool_file_wait_full(own, 2, BB_NO_TIMEOUT) == BB_OK);
+        _exit(milliseconds() - begun < 100 ? 0 : 2);
+    }
+    EXPECT(read(ready[0], &byte, 1) == 1 && close(ready[0]) == 0 && close(ready[1]) == 0);
+    usleep(3000);
+    go_on(child);
+    EXPECT(waitpid(sleeper, &status, 0) == sleeper && WIFEXITED(status));
+    EXPECT(WEXITSTATUS(status) == 0 || WEXITSTATUS(status) == 2);
+    waited++;
+    woken_late += WEXITSTATUS(status) == 2;
+}
+
+// While a take is stopped, another party takes the message, is done with it, and posts its bucket
+// into slot 2. If the take then holds the bucket for a moment, it wakes whoever waits for that slot.
+static bool pause_late_take(bb_pool_file *ours, bb_pool_party *party, uint32_t steps) {
+    const bb_chunk chunk = bb_pool_party_take(party);
+    bb_holder holder = {BB_FREE, 0};
+    fill(chunk.place, 99);
+    EXPECT(bb_pool_file_post(ours, party, 0, chunk.place, 44) == BB_OK);
+    const pid_t child = start(NOTES_TAKE, 0);
+    const bool ended = go(child, steps);
+    const bb_message message = bb_pool_file_take(ours, party, 0);
+    if (message.code != BB_OK) {
+        end_killed(child);
+        return ended;
+    }
+    EXPECT(bb_pool_file_done(ours, party, 0) == BB_OK);
+    EXPECT(bb_pool_file_post(ours, party, 2, message.place, 33) == BB_OK);
+    bool has_ended = ended;
+    while (!has_ended && holder.state != BB_HELD) {
+        has_ended = go(child, 1);
+        EXPECT(bb_pool_file_holder(ours, message.number, &holder) == BB_OK);
+    }
+    if (!has_ended)
+        go_on_beside_sleeper(child);
+    EXPECT(*noted == BB_NOT_HELD || *noted == BB_DETACHED_EMPTY);
+    EXPECT(bb_pool_file_take(ours, party, 2).code == BB_OK);
+    end_killed(child);
+    return ended;
+}
+
 // While a leave is stopped, another party joins and takes a bucket, which it keeps.
 static bool pause_leave(bb_pool_file *ours, bb_pool_party *party, uint32_t steps) {
     bb_pool_party *other;
@@ -957,13 +1022,13 @@ static bool pause_open(bb_pool_file *ours, bb_pool_party *party, uint32_t steps)
 }
 
 static int run_pause(uint32_t long_stride) {
-    bool (*const scenes[])(bb_pool_file *, bb_pool_party *, uint32_t) = {pause_take, pause_reap,
-                                                                         pause_leave, pause_open};
-    const char *const names[] = {"take", "reap", "leave", "open"};
+    bool (*const scenes[])(bb_pool_file *, bb_pool_party *, uint32_t) = {
+        pause_take, pause_late_take, pause_reap, pause_leave, pause_open};
+    const char *const names[] = {"take", "take, which is late", "reap", "leave", "open"};
     noted = mmap(NULL, 4096, PROT_READ | PROT_WRITE, MAP_SHARED | MAP_ANONYMOUS, -1, 0);
     EXPECT(noted != MAP_FAILED);
-    for (int scene = 0; scene < 4; scene++) {
-        const uint32_t stride = scene == 0 ? 1 : long_stride;
+    for (int scene = 0; scene < 5; scene++) {
+        const uint32_t stride = scene < 2 ? 1 : long_stride;
         uint32_t steps = 1;
         for (bool ended = false; !ended; steps += stride) {
             bb_pool_file *ours;
@@ -986,6 +1051,8 @@ static int run_pause(uint32_t long_stride) {
             printf(" %uth", stride);
         printf(" of %u instructions\n", steps - stride);
     }
+    // If a take woke nobody, each of them would be late. A loaded machine may make some late.
+    EXPECT(waited > 0 && 2 * woken_late <= waited);
     return 0;
 }
 

@@ -1,10 +1,12 @@
 // `owners FILE` tests that objects of C++ give back what they own when they end, that messages and
-// buckets are values, and that waits and reaps are those of the file.
+// buckets are values, and that waits, watches and reaps are those of the file.
 #include <atomic>
 #include <cstdint>
 #include <cstdio>
 #include <cstdlib>
 #include <cstring>
+#include <fcntl.h>
+#include <poll.h>
 #include <sys/wait.h>
 #include <unistd.h>
 
@@ -88,6 +90,39 @@ void run_user(const bb::pool_file &file, const char *path) {
     mine->clerks = 3;
     EXPECT(other.user<shared>()->clerks == 3 && other.user<shared>()->orders == 0);
     EXPECT(file.user<shared[2]>() == nullptr && other.close() == BB_OK);
+}
+
+bool is_readable(int fd) {
+    pollfd watched{fd, POLLIN, 0};
+    EXPECT(poll(&watched, 1, 0) >= 0);
+    return watched.revents == POLLIN;
+}
+
+void run_watches(const char *path) {
+    bb::pool_file file;
+    bb::pool_file_party party;
+    bb::pool_file_watch none;
+    EXPECT(none.open(file) == BB_UNINITIALIZED && none.arm(0) == BB_UNINITIALIZED);
+    EXPECT(none.fd() == -1 && file.open(path) == BB_OK && party.join(file) == BB_OK);
+    int fd;
+    {
+        bb::pool_file_watch first;
+        EXPECT(first.open(file) == BB_OK && first.open(file) == BB_ALREADY_INITIALIZED);
+        EXPECT(first.arm(3) == BB_INVALID_ARGUMENT && first.arm(0) == BB_OK);
+        fd = first.fd();
+        bb::pool_file_watch watch = std::move(first);
+        EXPECT(first.fd() == -1 && watch.fd() == fd && !is_readable(fd));
+        EXPECT(party.post(1, 5) == BB_OK && !is_readable(fd));
+        EXPECT(party.post(0, 5) == BB_OK && is_readable(fd));
+        EXPECT(watch.arm(BB_ANY_SLOT) == BB_OK && !is_readable(fd));
+        EXPECT(party.post(2, 5) == BB_OK && is_readable(fd));
+        none = std::move(watch);
+        EXPECT(none.fd() == fd && watch.fd() == -1);
+        watch = std::move(none);
+    }
+    EXPECT(fcntl(fd, F_GETFD) == -1);
+    for (std::uint32_t slot = 0; slot < 3; slot++)
+        EXPECT(party.take(slot).done() == BB_OK);
 }
 
 // Buckets that are filled where they are, and go in slots and by numbers.
@@ -188,7 +223,8 @@ int main(int argc, char **argv) {
     EXPECT(argc == 2);
     run(argv[1]);
     run_waits(argv[1]);
+    run_watches(argv[1]);
     EXPECT(unlink(argv[1]) == 0);
-    puts("owners: files, parties, buckets and messages give back what they have");
+    puts("owners: files, watches, parties, buckets and messages give back what they have");
     return 0;
 }
