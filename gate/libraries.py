@@ -20,12 +20,14 @@ from gate.crates import TOP, Workspace
 from gate.process import Failed, must_run
 
 # The variable that names the folder of a run of the gate, and what that has: the copy in which
-# `rt ci` runs, its output so far, a file as soon as it has passed, and what checks of crates keep.
+# `rt ci` runs, its output so far, a file as soon as it has passed, what checks of crates keep for
+# later ones of this run, and a file if the run is to read nothing of an earlier run.
 VARIABLE = "BB_GATE_WORK"
 COPY = "all"
 LOG = "log"
 ENDED = "ended"
 KEPT = "kept"
+ANEW = "anew"
 
 
 @functools.cache
@@ -75,8 +77,8 @@ class Libraries:
         """Returns the folder of a crate's library."""
         return self.built.out(name) / "rlib" / f"{name}.rlib"
 
-    def words(self, name: str) -> list[str | Path]:
-        """Returns the arguments by which `rattle`, in the folder of a crate, reads the crate."""
+    def words(self, name: str, jobs: int = 1) -> list[str | Path]:
+        """Returns the arguments by which `rattle`, in the folder of a crate, checks the crate."""
         kit = kit_folder()
         crate = self.workspace.crates[name]
         root = "src/main.rt" if self.workspace.is_program(name) else "src/lib.rt"
@@ -88,10 +90,15 @@ class Libraries:
         for folder in [kit / "rlibs", *(self.rlib(it).parent for it in self.workspace.below(name))]:
             words += ["-L", f"dependency={folder}"]
         words += ["--antt-project", kit / "rattle/logic/antt-project.json"]
-        words += ["--logic-built", kit / "logic_built", "--jobs", "1"]
+        words += ["--logic-built", kit / "logic_built", "--jobs", str(jobs)]
         if crate.is_static_library:
             words += ["--crate-type", "staticlib"]
         return words
+
+    @property
+    def is_anew(self) -> bool:
+        """Returns whether nothing of an earlier run of the gate may be read."""
+        return self.work is None or (self.work / ANEW).exists()
 
     def kept(self, name: str) -> Path:
         """Returns the folder that has what an earlier check of a crate kept, if there is any."""

@@ -6,8 +6,9 @@ of memrun, of C without and with each checker, and of the Rust crate. Each of th
 as `rt ci` has built what it needs, since nothing is proved twice (gate/libraries.py). Last, the OOM
 tests run on what `rt ci` has built.
 
-A toolchain may keep what `rt ci` proved, and `.ci/mutants` keeps what it judged. With `--anew`,
-as for a release, both read nothing that is kept. The gate prints what each part took.
+A toolchain may keep what `rt ci` proved. `.ci/mutants` keeps what it judged, and the gate what it
+compiled for C. With `--anew`, as for a release, nothing is read that is kept. The gate prints what
+each part took.
 """
 
 import os
@@ -248,6 +249,8 @@ def run(top: Path, anew: bool = False) -> None:
         os.environ[times.VARIABLE] = str(work / "times")
         os.environ[libraries.VARIABLE] = str(work)
         copy_for_rt(top, work / libraries.COPY)
+        if anew:
+            (work / libraries.ANEW).touch()
         try:
             log = run_commands(top, work, anew)
             refuse_waiting_functions(log)

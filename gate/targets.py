@@ -5,21 +5,29 @@ ARM64 processor, or with CPU only on such ones. The crate and those below it are
 that is done. A proof is for every processor: for another one, `rattle` finds that the modules are
 checked, and only compiles them.
 
-In a run of the gate, the libraries below the crate are those that `rt ci` builds (gate/libraries.py).
+In a run of the gate, the libraries below the crate are those that `rt ci` builds (gate/libraries.py),
+and FILE is kept by a checksum of everything that it rests on (gate/kept.py).
 """
 
+import base64
+import hashlib
+from collections.abc import Sequence
 from dataclasses import dataclass
 from pathlib import Path
 
 from gate import libraries
 from gate.crates import TOP, Workspace
-from gate.libraries import Libraries, kit_folder
+from gate.kept import Kept, cache
+from gate.libraries import Libraries
 from gate.process import Failed, must_run, must_show
 from gate.prove import is_kept
+from gate.schedule import MOST_JOBS
 from gate.temporary import temporary_folder
 
 # Where an ELF file has the number of its processor, in two bytes.
 MACHINE = slice(18, 20)
+# The files that decide how a crate is compiled.
+COMPILES = ("libraries.py", "targets.py")
 
 
 @dataclass(frozen=True)
@@ -56,12 +64,47 @@ def compile_over(built: Libraries, name: str, target: Target, cpu: str | None, f
     with temporary_folder() as work, built.turn(name):
         kept = work / "kept"
         built.begin(name, kept)
-        words = ["rattle", "build", *built.words(name), *target.flags(cpu)]
-        words += ["--toolchain", kit_folder() / "toolchain", "--incremental", kept, "-o", file]
+        words = ["rattle", "build", *built.words(name, MOST_JOBS), *target.flags(cpu)]
+        words += [
+            "--toolchain",
+            libraries.kit_folder() / "toolchain",
+            "--incremental",
+            kept,
+            "-o",
+            file,
+        ]
         must_run(words, built.workspace.folder(name))
         built.keep(name, kept)
     if built.workspace.is_program(name) and machine_of(file) != target.machine:
         raise Failed(f"{name}: `rattle build` made an object for another processor")
+
+
+def key_of(workspace: Workspace, name: str, flags: Sequence[str]) -> str:
+    """Returns a checksum of all that a compiled crate rests on.
+
+    That is everything that the proof of the crate reads, the flags, and the code that passes them.
+    """
+    found = hashlib.sha256(workspace.sum_of(name).encode())
+    for code in COMPILES:
+        found.update((Path(__file__).parent / code).read_bytes())
+    found.update(" ".join(flags).encode())
+    return found.hexdigest()
+
+
+def compile_in_gate(
+    built: Libraries, name: str, target: Target, cpu: str | None, file: Path
+) -> None:
+    """Compiles a crate for a target into a file, unless an earlier run of the gate has kept that."""
+    kept = Kept(cache() / "bb_memory/compiled", built.is_anew)
+    key = key_of(built.workspace, name, target.flags(cpu))
+    text = kept.read(key)
+    if text is None:
+        compile_over(built, name, target, cpu, file)
+        if key == key_of(built.workspace, name, target.flags(cpu)):
+            kept.write(key, base64.b64encode(file.read_bytes()).decode())
+    else:
+        file.write_bytes(base64.b64decode(text))
+    kept.remove_old()
 
 
 def compile_crate(
@@ -69,9 +112,13 @@ def compile_crate(
 ) -> None:
     """Compiles a crate for a processor into a file. Outside of the gate, it is proved first."""
     built = libraries.libraries(workspace)
-    if built.work is None and not is_kept(workspace, name):
+    target = TARGETS[processor]
+    if built.work is not None:
+        compile_in_gate(built, name, target, cpu, file)
+        return
+    if not is_kept(workspace, name):
         must_show([workspace.top / "test", name], workspace.top)
-    compile_over(built, name, TARGETS[processor], cpu, file)
+    compile_over(built, name, target, cpu, file)
 
 
 def main(words: list[str]) -> None:
