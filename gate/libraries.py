@@ -57,7 +57,7 @@ class Libraries:
             if prove.is_kept(self.workspace, name):
                 return True
             raise Failed(f"{name}: not built by ./test since its last change")
-        has_ended = (self.work / ENDED).exists()
+        has_ended = self.has_ended
         said = (self.work / LOG).read_text(encoding="utf-8", errors="replace")
         if name not in rt_output.crates_proved(said):
             if has_ended:
@@ -94,6 +94,11 @@ class Libraries:
         if crate.is_static_library:
             words += ["--crate-type", "staticlib"]
         return words
+
+    @property
+    def has_ended(self) -> bool:
+        """Returns whether all is built: `rt ci` has passed, or there is no run of the gate."""
+        return self.work is None or (self.work / ENDED).exists()
 
     @property
     def is_anew(self) -> bool:

@@ -263,24 +263,31 @@ def store() -> Path:
 class Rounds:
     """The rounds that haven't begun, the largest first.
 
-    A round can begin once the crates below its own are built.
+    A round can begin once the crates below its own are built. The first round of a crate proves
+    lemmas and functions that the others need. So these wait for what it keeps, until `rt ci` has
+    ended: until then, the processors have other work.
     """
 
     def __init__(self, rounds: Iterable[Round], built: Libraries) -> None:
         self.left = sorted(rounds, key=lambda round_: -len(round_.edits))
         self.built = built
+        self.begun: set[str] = set()
         self.lock = threading.Lock()
 
-    def take_ready(self) -> Round | None:
-        """Takes the first round that can begin, if there is one.
+    def can_begin(self, round_: Round) -> bool:
+        """Returns whether a round can begin. Raises Failed if a crate below won't be built."""
+        if not all(self.built.has(name) for name in self.built.workspace.below(round_.crate)):
+            return False
+        is_first = round_.crate not in self.begun
+        return is_first or self.built.kept(round_.crate).is_dir() or self.built.has_ended
 
-        Raises Failed if a crate below a round won't be built.
-        """
+    def take_ready(self) -> Round | None:
+        """Takes the first round that can begin, if there is one."""
         with self.lock:
             for round_ in self.left:
-                below = self.built.workspace.below(round_.crate)
-                if all(self.built.has(name) for name in below):
+                if self.can_begin(round_):
                     self.left.remove(round_)
+                    self.begun.add(round_.crate)
                     return round_
         return None
 

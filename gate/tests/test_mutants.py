@@ -3,14 +3,14 @@
 import unittest
 from unittest.mock import patch
 
-from gate import mutants
+from gate import libraries, mutants
 from gate.crates import TOP, Workspace
 from gate.edits import Edit
 from gate.kept import Kept
 from gate.libraries import Libraries
 from gate.mutants import Judgement, Outcome, Round, Rounds, Run, judge, rounds_of
 from gate.process import Failed, Finished
-from gate.tests.places import CheckoutTest, log
+from gate.tests.places import CheckoutTest, log, write
 
 SOURCE = "fn round_up {\n    v & !mask\n}\nfn within {\n    a > b\n}\n"
 ROUND_UP = "# function: layout::round_up\nfile: src/layout.rt\nold: v & !mask\nnew: v - mask\n"
@@ -183,19 +183,39 @@ class JudgeTest(CheckoutTest):
         self.assertEqual(self.judge_with_tool(self.refusing()), 2 * [Outcome.REFUSED])
         self.assertFalse((self.top / "crates" / CRATE / "out").exists())
 
+    def rounds_in_turn(self, edits: list[tuple[str, int]]) -> Rounds:
+        """Returns rounds of crates with some edits each, in a run of the gate."""
+        crates = {f"crates/{name}/src/lib.rt": "" for name in ("low", "high", "other")}
+        files = {"crates.txt": "low:\nhigh: low\nother:\n", **crates}
+        self.write(files)
+        write(self.work / "all", files)
+        edit = Edit(self.top, "f", (), ())
+        rounds = [Round(name, str, count * [edit]) for name, count in edits]
+        return Rounds(rounds, Libraries(Workspace(self.top), self.work))
+
     def test_a_round_begins_once_the_crates_below_are_built(self) -> None:
         """The largest round that can begin is first."""
-        crates = {f"crates/{name}/src/lib.rt": "" for name in ("low", "high", "other")}
-        self.write({"crates.txt": "low:\nhigh: low\nother:\n", **crates})
-        edit = Edit(self.top, "f", (), ())
-        edits = {"high": 3, "low": 1, "other": 2}
-        rounds = [Round(name, str, count * [edit]) for name, count in edits.items()]
-        built = Libraries(Workspace(self.top), None)
+        rounds = self.rounds_in_turn([("high", 3), ("low", 1), ("other", 2)])
         found: list[str] = []
         with patch.object(Libraries, "is_built", lambda self, name: found == ["other"]):
-            for round_ in Rounds(rounds, built).in_turn():
+            for round_ in rounds.in_turn():
                 found.append(round_.crate)
         self.assertEqual(found, ["other", "high", "low"])
+
+    def test_a_round_waits_for_what_the_first_one_of_its_crate_keeps(self) -> None:
+        rounds = self.rounds_in_turn([("low", 3), ("low", 2), ("other", 1)])
+        found = [rounds.take_ready(), rounds.take_ready()]
+        self.assertEqual([each and each.crate for each in found], ["low", "other"])
+        self.assertIsNone(rounds.take_ready())
+        (self.work / "kept/low").mkdir(parents=True)
+        self.assertIsNotNone(rounds.take_ready())
+
+    def test_a_round_does_not_wait_once_rt_ci_has_ended(self) -> None:
+        rounds = self.rounds_in_turn([("low", 3), ("low", 2)])
+        rounds.take_ready()
+        self.assertIsNone(rounds.take_ready())
+        (self.work / libraries.ENDED).touch()
+        self.assertIsNotNone(rounds.take_ready())
 
     def test_a_check_that_hangs_judges_nothing(self) -> None:
         self.add(round_up=ROUND_UP)
