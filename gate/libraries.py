@@ -105,27 +105,28 @@ class Libraries:
         """Returns whether nothing of an earlier run of the gate may be read."""
         return self.work is None or (self.work / ANEW).exists()
 
-    def kept(self, name: str) -> Path:
-        """Returns the folder that has what an earlier check of a crate kept, if there is any."""
+    def kept(self, name: str) -> Path | None:
+        """Returns the folder that has what the last check of a crate kept, if there is one."""
         if self.work is None:
-            return self.workspace.out(name) / "incremental"
-        return self.work / KEPT / name
+            folder = self.workspace.out(name) / "incremental"
+            return folder if folder.is_dir() else None
+        return max((self.work / KEPT / name).glob("*"), default=None)
 
     def begin(self, name: str, folder: Path) -> None:
-        """Copies what an earlier check of a crate kept into a folder."""
-        if self.kept(name).is_dir():
-            shutil.copytree(self.kept(name), folder, copy_function=link)
+        """Copies what the last check of a crate kept into a folder."""
+        kept = self.kept(name)
+        if kept is not None:
+            shutil.copytree(kept, folder, copy_function=link)
 
     def keep(self, name: str, folder: Path) -> None:
-        """Keeps what a check of a crate has left in a folder, if it is the first one.
+        """Keeps what a check of a crate has left in a folder, with all that it began with.
 
         Only a run of the gate keeps that, until its end.
         """
-        if self.work is None or self.kept(name).exists():
-            return
-        self.kept(name).parent.mkdir(exist_ok=True)
-        with suppress(OSError):
-            folder.rename(self.kept(name))
+        if self.work is not None and folder.is_dir():
+            kept = self.work / KEPT / name
+            kept.mkdir(parents=True, exist_ok=True)
+            folder.rename(kept / f"{time.time_ns():020}")
 
     @contextmanager
     def turn(self, name: str) -> Iterator[None]:
@@ -138,7 +139,7 @@ class Libraries:
             return
         with (self.work / f"{name}.lock").open("w", encoding="utf-8") as lock:
             fcntl.flock(lock, fcntl.LOCK_EX)
-            if self.kept(name).exists():
+            if self.kept(name) is not None:
                 fcntl.flock(lock, fcntl.LOCK_UN)
             yield
 

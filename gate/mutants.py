@@ -263,23 +263,23 @@ def store() -> Path:
 class Rounds:
     """The rounds that haven't begun, the largest first.
 
-    A round can begin once the crates below its own are built. The first round of a crate proves
-    lemmas and functions that the others need. So these wait for what it keeps, until `rt ci` has
-    ended: until then, the processors have other work.
+    A round can begin once the crates below its own are built. Each round of a crate proves lemmas
+    and functions that others need, too. So they come one after the other, and each begins with what
+    the last one kept. Once `rt ci` has ended, nothing else has work for the processors, and rounds
+    of a crate run side by side.
     """
 
     def __init__(self, rounds: Iterable[Round], built: Libraries) -> None:
         self.left = sorted(rounds, key=lambda round_: -len(round_.edits))
         self.built = built
-        self.begun: set[str] = set()
+        self.running: set[str] = set()
         self.lock = threading.Lock()
 
     def can_begin(self, round_: Round) -> bool:
         """Returns whether a round can begin. Raises Failed if a crate below won't be built."""
         if not all(self.built.has(name) for name in self.built.workspace.below(round_.crate)):
             return False
-        is_first = round_.crate not in self.begun
-        return is_first or self.built.kept(round_.crate).is_dir() or self.built.has_ended
+        return round_.crate not in self.running or self.built.has_ended
 
     def take_ready(self) -> Round | None:
         """Takes the first round that can begin, if there is one."""
@@ -287,18 +287,22 @@ class Rounds:
             for round_ in self.left:
                 if self.can_begin(round_):
                     self.left.remove(round_)
-                    self.begun.add(round_.crate)
+                    self.running.add(round_.crate)
                     return round_
         return None
 
     def in_turn(self) -> Iterator[Round]:
-        """Yields rounds as they can begin, until none is left. Several threads may take them."""
+        """Yields rounds as they can begin, until none is left. Several threads may take them.
+
+        A round has ended when its thread takes the next one.
+        """
         while self.left:
             round_ = self.take_ready()
             if round_ is None:
                 time.sleep(0.5)
-            else:
-                yield round_
+                continue
+            yield round_
+            self.running.discard(round_.crate)
 
 
 class Run:

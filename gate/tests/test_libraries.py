@@ -106,19 +106,26 @@ class LibrariesTest(CheckoutTest):
             write(made, {"lemma.oantt": "lemma", "index.json": "{}"})
             built.keep("low", made)
             built.begin("low", self.work / "second")
-        kept = self.work / "gate/kept/low"
+            kept = built.kept("low")
+        assert kept is not None
         for name, is_linked in (("lemma.oantt", True), ("index.json", False)):
             with self.subTest(name):
                 copied = self.work / "second" / name
                 self.assertEqual(copied.samefile(kept / name), is_linked)
 
-    def test_only_the_first_check_keeps(self) -> None:
+    def test_the_last_check_is_what_the_next_one_begins_with(self) -> None:
         with built_by_gate(self) as built:
             for name in ("one", "other"):
                 write(self.work / name, {"lemma.oantt": name})
                 built.keep("low", self.work / name)
-            kept = built.kept("low") / "lemma.oantt"
-            self.assertEqual(kept.read_text(encoding="utf-8"), "one")
+            built.begin("low", self.work / "third")
+        text = (self.work / "third/lemma.oantt").read_text(encoding="utf-8")
+        self.assertEqual(text, "other")
+
+    def test_a_check_that_keeps_nothing(self) -> None:
+        with built_by_gate(self) as built:
+            built.keep("low", self.work / "nothing")
+            self.assertIsNone(built.kept("low"))
 
     def test_a_turn_lasts_until_something_is_kept(self) -> None:
         with built_by_gate(self) as built:

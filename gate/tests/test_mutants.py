@@ -202,13 +202,13 @@ class JudgeTest(CheckoutTest):
                 found.append(round_.crate)
         self.assertEqual(found, ["other", "high", "low"])
 
-    def test_a_round_waits_for_what_the_first_one_of_its_crate_keeps(self) -> None:
+    def test_rounds_of_a_crate_come_one_after_the_other(self) -> None:
         rounds = self.rounds_in_turn([("low", 3), ("low", 2), ("other", 1)])
-        found = [rounds.take_ready(), rounds.take_ready()]
-        self.assertEqual([each and each.crate for each in found], ["low", "other"])
+        first, second = rounds.in_turn(), rounds.in_turn()
+        found = [next(first), next(second)]
+        self.assertEqual([each.crate for each in found], ["low", "other"])
         self.assertIsNone(rounds.take_ready())
-        (self.work / "kept/low").mkdir(parents=True)
-        self.assertIsNotNone(rounds.take_ready())
+        self.assertEqual(len(next(first).edits), 2)
 
     def test_a_round_does_not_wait_once_rt_ci_has_ended(self) -> None:
         rounds = self.rounds_in_turn([("low", 3), ("low", 2)])
