@@ -4,26 +4,24 @@ FILE is the built library for this machine. Without FILE, it is compiled from th
 
 These are tests of its installation, of the releases in dist, of the examples, of pools in files, of
 the Rust crate, of other targets than this machine, and of the programs that GUIDE.md and README.md
-show, in a copy of the tree. Once the releases are made, nothing may call `rt`. If the same kit and
-tools made the releases in dist, they have to have the same bytes.
+show, in a copy of the tree. Once the releases are made, no test may call the toolchain. If the same
+kit and tools made the releases in dist, they have to have the same bytes.
 """
 
 import os
 import shutil
-import subprocess
 from collections.abc import Mapping
 from pathlib import Path
 
-from gate import other_targets, pool_file, pool_pages, releases, times
+from gate import libraries, other_targets, pool_file, pool_pages, releases, times
 from gate.crates import TOP
 from gate.files import MADE
 from gate.process import Failed, has, must_run, must_show, say
 from gate.temporary import temporary_folder
 
-# The program that replays traces of pools in files, once it is built.
-REPLAY = "crates/file_replay/out/file_replay"
-# The program that replaces `rt` once the release is made.
-NO_RT = '#!/bin/sh\necho "rt was called: $*" >&2\nexit 1\n'
+# The programs of the toolchain, and the program that replaces each of them for the tests.
+TOOLCHAIN = ("rt", "rattle")
+NOT_HERE = '#!/bin/sh\necho "$0 was called: $*" >&2\nexit 1\n'
 
 
 def unignored(top: Path, ignored: str) -> list[str]:
@@ -52,22 +50,19 @@ class Hosts:
             shutil.copy2(library, given)
         releases.make(self.top, self.work, os.environ, given)
 
-    def build_replay(self) -> None:
-        """Proves and builds the program that replays traces of pools in files."""
-        folder = self.top / "crates/file_replay"
-        with (folder / "stdin").open(encoding="utf-8") as given:
-            ran = subprocess.run(
-                ["rt", "run"], cwd=folder, stdin=given, capture_output=True, text=True, check=False
-            )
-        if ran.returncode != 0:
-            raise Failed(f"{ran.stderr}status {ran.returncode}: rt run in {folder}")
+    def build_replay(self) -> Path:
+        """Returns the program that replays traces of pools in files, which may have to be proved."""
+        if libraries.VARIABLE not in os.environ:
+            must_run([self.top / "test", "file_replay"], self.top)
+        return libraries.program("file_replay")
 
     def environment(self) -> dict[str, str]:
-        """Returns an environment in which `rt` fails, and the user's Rust tools are found."""
-        folder = self.work / "no_rt"
+        """Returns an environment without the toolchain, in which the user's Rust tools are found."""
+        folder = self.work / "no_toolchain"
         folder.mkdir(exist_ok=True)
-        (folder / "rt").write_text(NO_RT, encoding="utf-8")
-        (folder / "rt").chmod(0o755)
+        for name in TOOLCHAIN:
+            (folder / name).write_text(NOT_HERE, encoding="utf-8")
+            (folder / name).chmod(0o755)
         path = [str(folder), os.environ["PATH"], str(Path.home() / ".cargo/bin")]
         return {**os.environ, "PATH": ":".join(path)}
 
@@ -92,7 +87,7 @@ class Hosts:
 
     def check_pool_file(self, environment: Mapping[str, str]) -> None:
         """Tests pools in files."""
-        replay = self.top / REPLAY
+        replay = self.build_replay()
         pool_file.check(self.top, self.prefix, replay, self.work / "pool_file", environment)
         pool_pages.check(self.top, self.prefix, self.work, environment)
 
@@ -141,7 +136,6 @@ def run(library: Path | None) -> None:
         hosts = Hosts(TOP, work)
         with times.part("hosts: the releases"):
             hosts.make_releases(library)
-            hosts.build_replay()
         environment = hosts.environment()
         with times.part("hosts: the installation"):
             hosts.check_installation(environment)

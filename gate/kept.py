@@ -1,6 +1,6 @@
-"""Keeps what was found about mutants, outside of all checkouts.
+"""Keeps what was found about mutants, and what was compiled, outside of all checkouts.
 
-An entry is a file, whose name is a checksum of everything that the judgement rests on. So it never
+An entry is a file, whose name is a checksum of everything that its text rests on. So it never
 goes stale, and it serves each checkout of this user. An entry that nothing has read for a month is
 removed.
 """

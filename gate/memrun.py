@@ -14,9 +14,9 @@ from contextlib import ExitStack
 from dataclasses import dataclass, field
 from pathlib import Path
 
-from gate import picture
+from gate import libraries, picture
 from gate.crates import TOP
-from gate.picture import FIXED_BUCKETS, MEMRUN
+from gate.picture import FIXED_BUCKETS
 from gate.process import Failed, say
 
 # The exit statuses of memrun.
@@ -59,13 +59,13 @@ class Setting:
     The script and the output are those files if they are given.
     """
 
-    program: Path = MEMRUN
+    program: Path
     input_file: Path | None = None
     output_file: Path | None = None
     environment: Mapping[str, str] = field(default_factory=dict)
 
 
-def run(text: str, setting: Setting = Setting()) -> Ended:
+def run(text: str, setting: Setting) -> Ended:
     """Runs memrun on the text of a script, and with an argument, which it has to ignore."""
     with ExitStack() as files:
         ran = subprocess.Popen(
@@ -287,7 +287,7 @@ MEMORY = [
 ]
 
 
-def run_scripts(program: Path = MEMRUN) -> int:
+def run_scripts(program: Path) -> int:
     """Runs memrun on all scripts, and with an input and an output that fail.
 
     Returns the number of scripts.
@@ -306,22 +306,22 @@ def run_scripts(program: Path = MEMRUN) -> int:
     return count
 
 
-def run_out_of_memory(library: Path) -> None:
+def run_out_of_memory(program: Path, library: Path) -> None:
     """Runs memrun with a library that makes its requests for memory fail, one in each run."""
     count = 0
     for script in [*MEMORY, *POOLS, stored(), *worked()]:
-        count += refuse_in_turn(script, library)
+        count += refuse_in_turn(program, script, library)
     say(f"{count} runs of memrun, in each of which a request for memory failed")
 
 
-def refuse_in_turn(script: Script, library: Path) -> int:
+def refuse_in_turn(program: Path, script: Script, library: Path) -> int:
     """Runs a script with its first request for memory failing, then its second, until none is left.
 
     At least one request has to fail. Returns the number of runs.
     """
     for at in range(1, MOST_REQUESTS):
-        refused = Setting(environment={"REFUSE_AT": str(at), "LD_PRELOAD": str(library)})
-        ended = run(script.text, refused)
+        environment = {"REFUSE_AT": str(at), "LD_PRELOAD": str(library)}
+        ended = run(script.text, Setting(program, environment=environment))
         if ended.status == NONE_REFUSED and at > 1:
             must_end(Script(script.text, script.lines, NONE_REFUSED), ended)
             return at
@@ -332,9 +332,10 @@ def refuse_in_turn(script: Script, library: Path) -> int:
 
 def main(words: list[str]) -> None:
     """Runs `.ci/run-memrun [REFUSE.SO]`."""
+    program = libraries.program("memrun")
     if words:
-        run_out_of_memory(Path(words[0]).resolve())
+        run_out_of_memory(program, Path(words[0]).resolve())
         return
-    count = run_scripts()
+    count = run_scripts(program)
     picture.check_pages()
     say(f"{count} scripts of memrun, with statuses 0, 2 and 3: both streams are right")

@@ -1,10 +1,11 @@
 """Judges the mutants of all crates, or of some: `.ci/mutants [--anew] [NAME..]`.
 
 A mutant is a wrong body, made by an edit in crates/NAME/must-fail (gate/edits.py has the form). The
-edits are checked in rounds, the largest round first. Each round has a lane, in which
-`rt check --only` proves the edited functions. The proof of a function uses only the contracts of
-its callees. So an edit counts as refused only if a goal of its own function stays open: a goal of
-another function shows nothing about the contract.
+edits are checked in rounds, the largest round first. Each round has a copy of its crate, in which
+`rattle check --only` proves the edited functions, over the built libraries of the crates below
+(gate/libraries.py). Rounds begin with what an earlier check of the crate kept, such as lemmas. The
+proof of a function uses only the contracts of its callees. So an edit counts as refused only if a
+goal of its own function stays open: a goal of another function shows nothing about the contract.
 
 Every other outcome fails, under a name of its own. An edit that can't be read or applied, or whose
 text isn't a program, is a BAD EDIT, and the other edits of its round are judged. If the prover only
@@ -19,18 +20,23 @@ What is refused, or at a limit, is kept by a checksum of all that the judgement 
 import hashlib
 import shutil
 import signal
-from collections.abc import Callable, Iterable, Mapping, Sequence
+import threading
+import time
+from collections.abc import Callable, Iterable, Iterator, Mapping, Sequence
 from concurrent.futures import ThreadPoolExecutor
+from contextlib import ExitStack
 from dataclasses import dataclass, field
 from enum import Enum
 from pathlib import Path
 
-from gate import edits, rt_output, times
+from gate import edits, libraries, rt_output, times
 from gate.crates import CORES, TOP, Workspace
 from gate.edits import BadEdit, Edit, Function
 from gate.kept import Kept, cache
+from gate.libraries import Libraries
 from gate.process import Failed, Finished, run_within, say
 from gate.rt_output import Evidence
+from gate.temporary import temporary_folder
 
 # The edits that the prover refuses only at a limit of the search, each with a reason.
 AT_A_LIMIT = "gate/at_a_limit.txt"
@@ -199,17 +205,22 @@ def without_verdict(edit: Edit, said: Finished) -> Judgement:
     return judgement(edit, Outcome.NOT_JUDGED, f"status {said.status}: {said.text[-600:].strip()}")
 
 
-def check_in_lane(workspace: Workspace, label: str) -> Check:
-    """Returns a check that runs in lanes of a checkout with this label."""
+def check_over(built: Libraries) -> Check:
+    """Returns a check that runs in a copy of the round's crate, over built libraries."""
 
     def check(round_: Round) -> Finished:
-        lane = workspace.lane(round_.crate, label)
-        folder = lane.folder(round_.crate)
-        for file, text in round_.texts.items():
-            (folder / file).write_text(text, encoding="utf-8")
-        only = [f"--only={edit.function}" for edit in round_.edits]
-        ran = run_within(LONGEST, ["rt", "check", "--jobs", "1", *only], folder)
-        shutil.rmtree(lane.top)
+        with temporary_folder() as work:
+            crate = work / round_.crate
+            without = shutil.ignore_patterns("out", "must-fail")
+            shutil.copytree(built.workspace.folder(round_.crate), crate, ignore=without)
+            for file, text in round_.texts.items():
+                (crate / file).write_text(text, encoding="utf-8")
+            kept = work / "kept"
+            built.begin(round_.crate, kept)
+            only = [f"--only={edit.function}" for edit in round_.edits]
+            words = ["rattle", "check", *built.words(round_.crate), "--incremental", kept, *only]
+            ran = run_within(LONGEST, words, crate)
+            built.keep(round_.crate, kept)
         if ran is None:
             return Finished(-signal.SIGKILL, f"the check hasn't ended after {LONGEST} s")
         return Finished(ran.status, ran.output + ran.errors)
@@ -249,22 +260,57 @@ def store() -> Path:
     return cache() / "bb_memory/mutants"
 
 
-def crates_left(workspace: Workspace, kept: Kept) -> list[str]:
-    """Returns the crates that have an edit whose judgement isn't kept."""
-    run = Run(workspace, kept)
-    found = []
-    for name in workspace.crates:
-        good = edits_of(workspace, name).good
-        if good and len(run.read_kept(name, good)) < len(good):
-            found.append(name)
-    return found
+class Rounds:
+    """The rounds that haven't begun, the largest first.
+
+    A round can begin once the crates below its own are built. Each round of a crate proves lemmas
+    and functions that others need, too. So they come one after the other, and each begins with what
+    the last one kept. Once `rt ci` has ended, nothing else has work for the processors, and rounds
+    of a crate run side by side.
+    """
+
+    def __init__(self, rounds: Iterable[Round], built: Libraries) -> None:
+        self.left = sorted(rounds, key=lambda round_: -len(round_.edits))
+        self.built = built
+        self.running: set[str] = set()
+        self.lock = threading.Lock()
+
+    def can_begin(self, round_: Round) -> bool:
+        """Returns whether a round can begin. Raises Failed if a crate below won't be built."""
+        if not all(self.built.has(name) for name in self.built.workspace.below(round_.crate)):
+            return False
+        return round_.crate not in self.running or self.built.has_ended
+
+    def take_ready(self) -> Round | None:
+        """Takes the first round that can begin, if there is one."""
+        with self.lock:
+            for round_ in self.left:
+                if self.can_begin(round_):
+                    self.left.remove(round_)
+                    self.running.add(round_.crate)
+                    return round_
+        return None
+
+    def in_turn(self) -> Iterator[Round]:
+        """Yields rounds as they can begin, until none is left. Several threads may take them.
+
+        A round has ended when its thread takes the next one.
+        """
+        while self.left:
+            round_ = self.take_ready()
+            if round_ is None:
+                time.sleep(0.5)
+                continue
+            yield round_
+            self.running.discard(round_.crate)
 
 
 class Run:
     """One run over some crates of a checkout, which keeps the judgements that are settled."""
 
-    def __init__(self, workspace: Workspace, kept: Kept) -> None:
-        self.workspace = workspace
+    def __init__(self, built: Libraries, kept: Kept) -> None:
+        self.workspace = built.workspace
+        self.built = built
         self.kept = kept
         self.keys: dict[Path, str] = {}
 
@@ -301,7 +347,7 @@ class Run:
     def judge_crates(self, names: Sequence[str]) -> list[Judgement]:
         """Judges the edits of some crates that aren't kept, the largest rounds first."""
         found: list[Judgement] = []
-        tasks: list[tuple[Round, Check]] = []
+        all_rounds: list[Round] = []
         for name in names:
             read = edits_of(self.workspace, name)
             kept = self.read_kept(name, read.good)
@@ -309,12 +355,16 @@ class Run:
             found += [*read.bad, *kept]
             known = {each.path for each in kept}
             left = [edit for edit in read.good if edit.path not in known]
-            for number, round_ in enumerate(rounds_of(self.workspace, name, left)):
-                tasks.append((round_, check_in_lane(self.workspace, f"mutants{number}")))
-        tasks.sort(key=lambda task: -len(task[0].edits))
+            all_rounds += rounds_of(self.workspace, name, left)
+        rounds = Rounds(all_rounds, self.built)
+        check = check_over(self.built)
+
+        def judge_some() -> list[Judgement]:
+            return [it for round_ in rounds.in_turn() for it in self.judge_round(round_, check)]
+
         with ThreadPoolExecutor(CORES) as pool:
-            for judgements in pool.map(lambda task: self.judge_round(*task), tasks):
-                found += judgements
+            for future in [pool.submit(judge_some) for _ in range(CORES)]:
+                found += future.result()
         return found
 
 
@@ -363,8 +413,12 @@ def main(names: list[str]) -> None:
             raise Failed(f"mutants: crates.txt has no {name}")
     reasons = read_reasons(TOP / AT_A_LIMIT)
     kept = Kept(store(), anew)
-    with workspace.lock():
-        found = Run(workspace, kept).judge_crates(names or list(workspace.crates))
+    built = libraries.libraries(workspace)
+    with ExitStack() as locks:
+        if built.work is None:
+            # What `./test` has built changes while it runs.
+            locks.enter_context(workspace.lock())
+        found = Run(built, kept).judge_crates(names or list(workspace.crates))
     kept.remove_old()
     failed = failures(found, reasons, TOP)
     counts = [f"{len(found)} mutants"]

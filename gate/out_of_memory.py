@@ -120,7 +120,7 @@ def run(top: Path, built: Path) -> None:
         if count == 0:
             raise Failed("there are no OOM tests")
         say(f"{count} OOM tests passed, with each of their requests for memory failing once")
-        memrun.run_out_of_memory(library)
+        memrun.run_out_of_memory(built / "crates/memrun/out/memrun", library)
 
 
 def main(words: list[str]) -> None:

@@ -21,10 +21,10 @@ from html import escape
 from pathlib import Path
 from textwrap import dedent
 
+from gate import libraries
 from gate.crates import TOP
 from gate.process import Failed, say
 
-MEMRUN = TOP / "crates/memrun/out/memrun"
 # The part of docs/script-format.md with a script and its pictures, and the SVG file of these.
 PAGE = TOP / "docs/script-format.md"
 PART = "## Pictures\n"
@@ -292,15 +292,16 @@ def wrong_pictures(program: Path, page: str, svg: str) -> Iterator[str]:
 def check_pages() -> None:
     """Raises Failed if the stored pictures differ from those that are drawn now."""
     page = PAGE.read_text(encoding="utf-8")
-    found = list(wrong_pictures(MEMRUN, page, SVG.read_text(encoding="utf-8")))
+    found = list(wrong_pictures(libraries.program("memrun"), page, SVG.read_text(encoding="utf-8")))
     if found:
         raise Failed("\n".join(found))
 
 
 def find_memrun() -> Path:
     """Returns the memrun that was built in this checkout, otherwise the one on the path."""
-    if MEMRUN.exists():
-        return MEMRUN
+    built = libraries.program("memrun")
+    if built.exists():
+        return built
     found = shutil.which("memrun")
     if found is None:
         raise Failed("picture: memrun is neither built nor on the path: name it by --memrun FILE")

@@ -76,6 +76,11 @@ def verdict_on(path: str, text: str) -> Verdict | None:
     return Verdict(match[2], match[1])
 
 
+def crates_proved(text: str) -> set[str]:
+    """Returns the crates that `rt ci` has proved and built so far, or has taken from earlier runs."""
+    return set(re.findall(r"^rt: (\w+) (?:proved$|is kept\b)", text, re.M))
+
+
 def functions_that_may_wait(text: str) -> list[str]:
     """Returns the functions that are proved, but may wait instead of returning.
 

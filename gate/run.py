@@ -1,13 +1,14 @@
 """The merge gate, `.ci/run [--anew]`: everything that a change has to pass.
 
 That is `rt ci`, the gate of the toolchain, which proves all crates and tests, and runs the tests.
-Beside it run the gate's own tests, `.ci/pages` and the checks of layout. Then `./test --proofs`
-proves what the mutants and the library for C are judged and built over, unless it is kept. Then
-come the mutants, C without and with each checker, and the Rust crate. Last, the OOM tests run on
-what `rt ci` has built.
+Beside it run the gate's own tests, `.ci/pages` and the checks of layout; the mutants; and the tests
+of memrun, of C without and with each checker, and of the Rust crate. Each of these begins as soon
+as `rt ci` has built what it needs, since nothing is proved twice (gate/libraries.py). Last, the OOM
+tests run on what `rt ci` has built.
 
-A toolchain may keep what `rt ci` proved, and `.ci/mutants` keeps what it judged. With `--anew`,
-as for a release, both read nothing that is kept. The gate prints what each part took.
+A toolchain may keep what `rt ci` proved. `.ci/mutants` keeps what it judged, and the gate what it
+compiled for C. With `--anew`, as for a release, nothing is read that is kept. The gate prints what
+each part took.
 """
 
 import os
@@ -17,22 +18,21 @@ import signal
 import subprocess
 import sys
 import time
-from collections.abc import Iterator, Sequence
+from collections.abc import Iterable, Iterator, Sequence
 from contextlib import ExitStack, contextmanager
 from pathlib import Path
 from types import FrameType
 
-from gate import layout, mutants, out_of_memory, process, rt_output, times
+from gate import layout, libraries, out_of_memory, process, rt_output, times
 from gate.crates import TOP, Workspace
-from gate.kept import Kept
 from gate.process import Failed, must_run, must_show, say, status_of, wait_for
 from gate.temporary import temporary_folder
 from gate.times import Measured
 
 # The word that code needs in order to wait, and the trait of the kit that brings it.
 WAIT = re.compile(r"\bWait(?:Methods)?\b")
-# What `./test --proofs` proves and builds for the tests of C.
-FOR_HOSTS = ("bb_memory_c", "memrun", "file_replay")
+# How much the mutants leave the processors to `rt ci`, for which the tests of hosts wait.
+NICE = 5
 
 
 def waiting_lines(workspace: Workspace) -> list[str]:
@@ -85,7 +85,10 @@ class Background:
     It leads a process group of its own, so that it can be ended with everything that it started.
     """
 
-    def __init__(self, words: Sequence[str | Path], folder: Path, log: Path | None) -> None:
+    def __init__(
+        self, part: str, words: Sequence[str | Path], folder: Path, log: Path | None
+    ) -> None:
+        self.part = part
         self.log = log
         self.began = time.monotonic()
         self.command = " ".join(str(word) for word in words)
@@ -113,7 +116,7 @@ class Background:
         how = os.WEXITED | os.WNOHANG | os.WNOWAIT
         return os.waitid(os.P_PID, self.process.pid, how) is not None
 
-    def finish(self, part: str) -> str:
+    def finish(self) -> str:
         """Waits for the end, measures this part of the gate, and returns the output.
 
         Raises Failed with the output if the command fails.
@@ -121,7 +124,7 @@ class Background:
         before = process.USED.here
         status = wait_for(self.process)
         used = process.USED.here - before
-        Measured(part, True, time.monotonic() - self.began, used).note()
+        Measured(self.part, True, time.monotonic() - self.began, used).note()
         if status != 0:
             raise Failed(f"{self.text().rstrip()}\nstatus {status}: {self.command}".strip())
         return self.text()
@@ -133,8 +136,23 @@ class Background:
         self.process.wait()
 
 
-def show_until_end(command: Background, log: Path, beginning: str) -> None:
-    """Shows the output lines of a command that begin with a text, old and new, until it ends."""
+def finish_ended(commands: list[Background]) -> None:
+    """Finishes those commands that have ended, and takes them off the list.
+
+    Raises Failed if one of them fails.
+    """
+    for each in [each for each in commands if each.has_ended()]:
+        each.finish()
+        commands.remove(each)
+
+
+def show_until_end(
+    command: Background, log: Path, beginning: str, others: list[Background]
+) -> None:
+    """Shows the output lines of a command that begin with a text, old and new, until it ends.
+
+    Others that end before are finished. Raises Failed if one of these fails.
+    """
     with log.open(encoding="utf-8", errors="replace") as output:
         rest = ""
         has_ended = False
@@ -144,16 +162,17 @@ def show_until_end(command: Background, log: Path, beginning: str) -> None:
             for line in lines:
                 if line.startswith(beginning):
                     say(line)
+            finish_ended(others)
             if not has_ended:
                 time.sleep(0.2)
 
 
 @contextmanager
 def background(
-    words: Sequence[str | Path], folder: Path, log: Path | None = None
+    part: str, words: Sequence[str | Path], folder: Path, log: Path | None = None
 ) -> Iterator[Background]:
-    """Starts a command beside others. At the end of the block, ends it if it still runs."""
-    started = Background(words, folder, log)
+    """Starts a part of the gate beside others. At the end of the block, ends it if it still runs."""
+    started = Background(part, words, folder, log)
     try:
         yield started
     finally:
@@ -192,32 +211,32 @@ def ci_words(anew: bool) -> list[str]:
     return ["rt", "ci"]
 
 
-def prove_needed(top: Path, anew: bool) -> None:
-    """Proves the crates over which mutants are judged, and what the tests of hosts need."""
-    workspace = Workspace(top)
-    left = mutants.crates_left(workspace, Kept(mutants.store(), anew))
-    hosts = [name for name in FOR_HOSTS if name in workspace.crates]
-    must_show([top / "test", "--proofs", *dict.fromkeys([*left, *hosts])], top)
-
-
 def run_commands(top: Path, work: Path, anew: bool) -> str:
-    """Runs `rt ci`, and beside it the parts of the gate that don't need its results.
+    """Runs `rt ci`, and beside it the parts of the gate that don't need all of its results.
 
     Returns the output of `rt ci`. Raises Failed if a command fails.
     """
-    with background(ci_words(anew), work / "all", work / "log") as rt_ci:
+    copy = work / libraries.COPY
+    log = work / libraries.LOG
+    nice: list[str | Path] = ["nice", "-n", str(NICE)]
+    with (
+        background("rt ci", ci_words(anew), copy, log) as rt_ci,
+        background("mutants", [*nice, top / ".ci/mutants", *["--anew"] * anew], top) as judged,
+        background("memrun on scripts", [top / ".ci/run-memrun"], top) as scripts,
+        background("hosts: C, C++ and Rust", [top / ".ci/run-c"], top) as hosts,
+    ):
         with times.part("texts"):
             check_texts(top)
-        with times.part("proofs for C and mutants"):
-            prove_needed(top, anew)
-        with background([top / ".ci/mutants", *["--anew"] * anew], top) as judged:
-            with times.part("memrun on scripts"):
-                must_show([top / ".ci/run-memrun"], top)
-            with times.part("hosts: C, C++ and Rust"):
-                must_show([top / ".ci/run-c"], top)
-            judged.finish("mutants")
-        show_until_end(rt_ci, work / "log", "rt: ")
-        return rt_ci.finish("rt ci")
+        others = [judged, scripts, hosts]
+        show_until_end(rt_ci, log, "rt: ", others)
+        said = rt_ci.finish()
+        (work / libraries.ENDED).touch()
+        with times.part("OOM tests"):
+            out_of_memory.run(top, copy)
+        while others:
+            finish_ended(others)
+            time.sleep(0.2)
+    return said
 
 
 def run(top: Path, anew: bool = False) -> None:
@@ -228,15 +247,17 @@ def run(top: Path, anew: bool = False) -> None:
     began = time.monotonic()
     with temporary_folder() as work:
         os.environ[times.VARIABLE] = str(work / "times")
-        copy_for_rt(top, work / "all")
+        os.environ[libraries.VARIABLE] = str(work)
+        copy_for_rt(top, work / libraries.COPY)
+        if anew:
+            (work / libraries.ANEW).touch()
         try:
             log = run_commands(top, work, anew)
             refuse_waiting_functions(log)
-            with times.part("OOM tests"):
-                out_of_memory.run(top, work / "all")
         finally:
             times.show(times.read(work / "times"))
             del os.environ[times.VARIABLE]
+            del os.environ[libraries.VARIABLE]
     say(f"run: passed in {time.monotonic() - began:.0f} s")
     say(log.rstrip("\n").rpartition("\n")[2])
 

@@ -2,37 +2,44 @@
 
 FILE becomes the archive of a static library, or the object of a program. It runs on every x86-64 or
 ARM64 processor, or with CPU only on such ones. The crate and those below it are proved first, unless
-that is done. A proof is for every processor: for another one, `rt` finds that the modules are
+that is done. A proof is for every processor: for another one, `rattle` finds that the modules are
 checked, and only compiles them.
 
-`rt` works in a lane, so what it makes for one processor doesn't replace what it made for another.
+In a run of the gate, the libraries below the crate are those that `rt ci` builds (gate/libraries.py),
+and FILE is kept by a checksum of everything that it rests on (gate/kept.py).
 """
 
-import os
-import re
-import shutil
-import subprocess
+import base64
+import hashlib
+from collections.abc import Sequence
 from dataclasses import dataclass
 from pathlib import Path
 
+from gate import libraries
 from gate.crates import TOP, Workspace
-from gate.process import ONE_TEXT, Failed, must_show
-from gate.prove import command_of, is_kept
+from gate.kept import Kept, cache
+from gate.libraries import Libraries
+from gate.process import Failed, must_run, must_show
+from gate.prove import is_kept
+from gate.schedule import MOST_JOBS
+from gate.temporary import temporary_folder
 
 # Where an ELF file has the number of its processor, in two bytes.
 MACHINE = slice(18, 20)
+# The files that decide how a crate is compiled.
+COMPILES = ("libraries.py", "targets.py")
 
 
 @dataclass(frozen=True)
 class Target:
-    """A processor: what `rt` calls it and its least kind, and its number in an ELF file."""
+    """A processor: what `rattle` calls it and its least kind, and its number in an ELF file."""
 
     triple: str
     cpu: str
     machine: int
 
     def flags(self, cpu: str | None) -> list[str]:
-        """Returns the flags with which `rt` compiles for a kind of this processor, or for any."""
+        """Returns the flags with which `rattle` compiles for a kind of this processor, or any."""
         return ["--target", self.triple, "--cpu", cpu or self.cpu]
 
 
@@ -40,17 +47,6 @@ TARGETS = {
     "x86_64": Target("x86_64-unknown-linux-gnu", "x86-64", 62),
     "aarch64": Target("aarch64-unknown-linux-gnu", "generic", 183),
 }
-# What `rt run` says at the end for a target that it can't link for. It has compiled the program then.
-NOT_LINKED = re.compile(r"^ld\.lld: error: .* is incompatible with elf_x86_64$", re.MULTILINE)
-# What it says before, if the program is proved.
-PROVED = re.compile(r"^logic=proved\b", re.MULTILINE)
-
-
-def is_compiled(text: str, status: int) -> bool:
-    """Returns whether `rt` has proved and compiled a crate, from its output and its status."""
-    if PROVED.search(text) is None:
-        return False
-    return status == 0 or NOT_LINKED.search(text) is not None
 
 
 def machine_of(file: Path) -> int:
@@ -59,40 +55,70 @@ def machine_of(file: Path) -> int:
         return int.from_bytes(opened.read(MACHINE.stop)[MACHINE], "little")
 
 
-def product_of(lane: Workspace, name: str) -> Path:
-    """Returns the file that `rt` makes in a lane: a program's object, or a library's archive."""
-    if lane.is_program(name):
-        return lane.out(name) / f"{name}.o"
-    return lane.out(name) / f"lib{name}.a"
+def compile_over(built: Libraries, name: str, target: Target, cpu: str | None, file: Path) -> None:
+    """Proves a crate over built libraries, and compiles it for a target into a file.
+
+    A later call for the same crate takes the proofs that an earlier one has kept.
+    """
+    built.wait_for(built.workspace.below(name))
+    with temporary_folder() as work, built.turn(name):
+        kept = work / "kept"
+        built.begin(name, kept)
+        words = ["rattle", "build", *built.words(name, MOST_JOBS), *target.flags(cpu)]
+        words += [
+            "--toolchain",
+            libraries.kit_folder() / "toolchain",
+            "--incremental",
+            kept,
+            "-o",
+            file,
+        ]
+        must_run(words, built.workspace.folder(name))
+        built.keep(name, kept)
+    if built.workspace.is_program(name) and machine_of(file) != target.machine:
+        raise Failed(f"{name}: `rattle build` made an object for another processor")
 
 
-def compile_in(lane: Workspace, name: str, target: Target, cpu: str | None) -> Path:
-    """Compiles a crate for a target in its lane. Returns what that makes."""
-    folder = lane.folder(name)
-    words = ["rt", command_of(lane, name), "--jobs", "1", *target.flags(cpu)]
-    # `rt run` also runs the program.
-    stdin = folder / "stdin" if lane.is_program(name) else Path(os.devnull)
-    with stdin.open(encoding="utf-8") as given:
-        ran = subprocess.run(words, cwd=folder, stdin=given, check=False, **ONE_TEXT)
-    if not is_compiled(ran.stdout, ran.returncode):
-        raise Failed(f"{ran.stdout.rstrip()}\nstatus {ran.returncode}: {' '.join(words)}")
-    product = product_of(lane, name)
-    if product.suffix == ".o" and machine_of(product) != target.machine:
-        raise Failed(f"{name}: `{' '.join(words)}` made an object for another processor")
-    return product
+def key_of(workspace: Workspace, name: str, flags: Sequence[str]) -> str:
+    """Returns a checksum of all that a compiled crate rests on.
+
+    That is everything that the proof of the crate reads, the flags, and the code that passes them.
+    """
+    found = hashlib.sha256(workspace.sum_of(name).encode())
+    for code in COMPILES:
+        found.update((Path(__file__).parent / code).read_bytes())
+    found.update(" ".join(flags).encode())
+    return found.hexdigest()
+
+
+def compile_in_gate(
+    built: Libraries, name: str, target: Target, cpu: str | None, file: Path
+) -> None:
+    """Compiles a crate for a target into a file, unless an earlier run of the gate has kept that."""
+    kept = Kept(cache() / "bb_memory/compiled", built.is_anew)
+    key = key_of(built.workspace, name, target.flags(cpu))
+    text = kept.read(key)
+    if text is None:
+        compile_over(built, name, target, cpu, file)
+        if key == key_of(built.workspace, name, target.flags(cpu)):
+            kept.write(key, base64.b64encode(file.read_bytes()).decode())
+    else:
+        file.write_bytes(base64.b64decode(text))
+    kept.remove_old()
 
 
 def compile_crate(
     workspace: Workspace, name: str, processor: str, file: Path, cpu: str | None
 ) -> None:
-    """Proves a crate unless that is done, and compiles it for a processor into a file."""
+    """Compiles a crate for a processor into a file. Outside of the gate, it is proved first."""
+    built = libraries.libraries(workspace)
+    target = TARGETS[processor]
+    if built.work is not None:
+        compile_in_gate(built, name, target, cpu, file)
+        return
     if not is_kept(workspace, name):
         must_show([workspace.top / "test", name], workspace.top)
-    lane = workspace.lane(name, f"for_{processor}")
-    try:
-        shutil.copy2(compile_in(lane, name, TARGETS[processor], cpu), file)
-    finally:
-        shutil.rmtree(lane.top)
+    compile_over(built, name, target, cpu, file)
 
 
 def main(words: list[str]) -> None:

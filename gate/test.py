@@ -1,10 +1,9 @@
-"""Proves and tests the crates: `./test [--proofs] [NAME..]`.
+"""Proves and tests the crates: `./test [NAME..]`.
 
 `./test` proves each crate except those of tests, and runs all tests: every `#[test]`, memrun on its
 stored script and on scripts of each status, and the examples in C if there is a C compiler.
 `./test NAME..` does this for some crates and for those below them, without the examples. A test
-runs without a proof: `rt try` runs it at once, and .ci/run proves that it is safe and ends. With
-`--proofs` nothing is tested: .ci/run proves so what it judges mutants and builds C over.
+runs without a proof: `rt try` runs it at once, and .ci/run proves that it is safe and ends.
 
 Crates are proved side by side, at most as many as there are processors, and first those that are
 higher in crates.txt. The results are in crates/*/out. They are kept until something changes that
@@ -53,12 +52,10 @@ def wanted_crates(workspace: Workspace, names: Sequence[str]) -> list[str]:
     return [name for name in workspace.crates if name in found]
 
 
-def plan_of(workspace: Workspace, wanted: Sequence[str], has_tests: bool = True) -> Plan:
-    """Returns the work to do for these crates, with their tests or without."""
+def plan_of(workspace: Workspace, wanted: Sequence[str]) -> Plan:
+    """Returns the work to do for these crates."""
     tests = [name for name in wanted if workspace.has_tests(name)]
     proves = [name for name in wanted if name not in tests]
-    if not has_tests:
-        tests = []
     below = {name: workspace.below(name) for name in proves}
     waited_for = {each for names in below.values() for each in names}
     large = [name for name in waited_for if len(workspace.sources(name)) >= LARGE]
@@ -122,20 +119,15 @@ class Test:
             make = ["make", f"-sj{CORES}", "-C", "examples/c", "plain", *given]
             return self.part("running the examples in C", make)
 
-    def run(self, names: Sequence[str], has_tests: bool) -> list[bool]:
-        """Tests these crates and those below them, or all. Returns whether each part passed.
-
-        Without tests it only proves.
-        """
+    def run(self, names: Sequence[str]) -> list[bool]:
+        """Tests these crates and those below them, or all. Returns whether each part passed."""
         wanted = wanted_crates(self.workspace, names)
-        plan = plan_of(self.workspace, wanted, has_tests)
+        plan = plan_of(self.workspace, wanted)
         say(
             f"test: proving {' '.join(plan.proves)} on {CORES} processors, after any other run here"
         )
         with self.workspace.lock():
             results = self.crates(plan)
-            if not has_tests:
-                return results
             if all(results) and "memrun" in wanted:
                 results += self.part("running memrun on scripts", [TOP / ".ci/run-memrun"])
             if all(results) and not names and process.has("cc") and process.has("make"):
@@ -144,14 +136,12 @@ class Test:
 
 
 def main(names: list[str]) -> None:
-    """Runs `./test [--proofs] [NAME..]`."""
-    has_tests = "--proofs" not in names
-    names = [name for name in names if name != "--proofs"]
+    """Runs `./test [NAME..]`."""
     say(f"test: {kit()}")
     if not kit().endswith(f" logic {LOGIC}"):
         say(f"test: warning: made for logic {LOGIC}; with another one, a check may fail")
     test = Test(Workspace(TOP))
-    results = test.run(names, has_tests)
+    results = test.run(names)
     used = os.times()
     processor_seconds = used.children_user + used.children_system
     say(f"test: {time.monotonic() - test.began:.0f} s, {processor_seconds:.0f} s of processor time")

@@ -96,13 +96,11 @@ class CratesTest(CheckoutTest):
         self.assertTrue(workspace.has_tests("ffi"))
         self.assertFalse(workspace.has_tests("low"))
 
-    def test_what_is_proved_with_tests_and_without(self) -> None:
+    def test_what_is_proved_and_what_is_tested(self) -> None:
         """A crate of tests is never proved here: `rt ci` does that."""
         workspace = Workspace(self.top)
-        with_tests = plan_of(workspace, ["low", "ffi"])
-        self.assertEqual((with_tests.proves, with_tests.tests), (["low"], ["ffi"]))
-        without = plan_of(workspace, ["low", "ffi"], has_tests=False)
-        self.assertEqual((without.proves, without.tests), (["low"], []))
+        plan = plan_of(workspace, ["low", "ffi"])
+        self.assertEqual((plan.proves, plan.tests), (["low"], ["ffi"]))
 
     def test_the_sum_does_not_depend_on_the_folder(self) -> None:
         other = self.work / "plain"

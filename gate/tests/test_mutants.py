@@ -3,12 +3,14 @@
 import unittest
 from unittest.mock import patch
 
-from gate import mutants
+from gate import libraries, mutants
 from gate.crates import TOP, Workspace
+from gate.edits import Edit
 from gate.kept import Kept
-from gate.mutants import Judgement, Outcome, Round, Run, judge, rounds_of
+from gate.libraries import Libraries
+from gate.mutants import Judgement, Outcome, Round, Rounds, Run, judge, rounds_of
 from gate.process import Failed, Finished
-from gate.tests.places import CheckoutTest, log
+from gate.tests.places import CheckoutTest, log, write
 
 SOURCE = "fn round_up {\n    v & !mask\n}\nfn within {\n    a > b\n}\n"
 ROUND_UP = "# function: layout::round_up\nfile: src/layout.rt\nold: v & !mask\nnew: v - mask\n"
@@ -155,26 +157,65 @@ class JudgeTest(CheckoutTest):
         self.add(round_up=ROUND_UP.replace("v & !mask", "v &"), within=both)
         self.assertEqual([len(each.edits) for each in self.rounds()], [1, 1])
 
-    def judge_with_tool(self, rt: str, anew: bool = False) -> list[Outcome]:
-        """Judges the crate's edits by this `rt`, and keeps what it refuses below `self.work`."""
-        script = f'#!/bin/sh\n[ "$1" = version ] && echo kit && exit 0\n{rt}\n'
+    def judge_with_tool(self, rattle: str, anew: bool = False) -> list[Outcome]:
+        """Judges the crate's edits by this `rattle`, and keeps what it refuses below `self.work`."""
         kept = Kept(self.work / "kept", anew)
-        with self.tool("rt", script), patch("gate.mutants.say") as said:
-            found = Run(Workspace(self.top), kept).judge_crates([CRATE])
+        built = Libraries(Workspace(self.top), None)
+        with (
+            self.tool("rattle", f"#!/bin/sh\n{rattle}\n"),
+            patch("gate.crates.kit", return_value="kit"),
+            patch("gate.libraries.kit_folder", return_value=self.work / "kit"),
+            patch("gate.mutants.say") as said,
+        ):
+            found = Run(built, kept).judge_crates([CRATE])
         self.assertEqual(said.call_count, len(found))
         return [each.outcome for each in found]
 
     def refusing(self) -> str:
-        """Returns an `rt` that refuses both edits of a round, if the texts are the edited ones."""
+        """Returns a `rattle` that refuses both edits of a round, if the texts are the edited ones."""
         stored = self.work / "log"
         stored.write_text(log("round"), encoding="utf-8")
         return f'grep -q "v - mask" src/layout.rt && cat "{stored}"\nexit 1'
 
-    def test_lanes(self) -> None:
-        """Edits judged in lanes, with an `rt` that fails on each text except the edited one."""
+    def test_copies(self) -> None:
+        """Edits judged in copies, with a `rattle` that fails on each text except the edited one."""
         self.add(round_up=ROUND_UP, within=WITHIN)
         self.assertEqual(self.judge_with_tool(self.refusing()), 2 * [Outcome.REFUSED])
-        self.assertEqual(list((self.top / "crates" / CRATE / "out").iterdir()), [])
+        self.assertFalse((self.top / "crates" / CRATE / "out").exists())
+
+    def rounds_in_turn(self, edits: list[tuple[str, int]]) -> Rounds:
+        """Returns rounds of crates with some edits each, in a run of the gate."""
+        crates = {f"crates/{name}/src/lib.rt": "" for name in ("low", "high", "other")}
+        files = {"crates.txt": "low:\nhigh: low\nother:\n", **crates}
+        self.write(files)
+        write(self.work / "all", files)
+        edit = Edit(self.top, "f", (), ())
+        rounds = [Round(name, str, count * [edit]) for name, count in edits]
+        return Rounds(rounds, Libraries(Workspace(self.top), self.work))
+
+    def test_a_round_begins_once_the_crates_below_are_built(self) -> None:
+        """The largest round that can begin is first."""
+        rounds = self.rounds_in_turn([("high", 3), ("low", 1), ("other", 2)])
+        found: list[str] = []
+        with patch.object(Libraries, "is_built", lambda self, name: found == ["other"]):
+            for round_ in rounds.in_turn():
+                found.append(round_.crate)
+        self.assertEqual(found, ["other", "high", "low"])
+
+    def test_rounds_of_a_crate_come_one_after_the_other(self) -> None:
+        rounds = self.rounds_in_turn([("low", 3), ("low", 2), ("other", 1)])
+        first, second = rounds.in_turn(), rounds.in_turn()
+        found = [next(first), next(second)]
+        self.assertEqual([each.crate for each in found], ["low", "other"])
+        self.assertIsNone(rounds.take_ready())
+        self.assertEqual(len(next(first).edits), 2)
+
+    def test_a_round_does_not_wait_once_rt_ci_has_ended(self) -> None:
+        rounds = self.rounds_in_turn([("low", 3), ("low", 2)])
+        rounds.take_ready()
+        self.assertIsNone(rounds.take_ready())
+        (self.work / libraries.ENDED).touch()
+        self.assertIsNotNone(rounds.take_ready())
 
     def test_a_check_that_hangs_judges_nothing(self) -> None:
         self.add(round_up=ROUND_UP)

@@ -8,7 +8,7 @@ from contextlib import redirect_stdout
 from pathlib import Path
 from unittest.mock import patch
 
-from gate import process, run
+from gate import libraries, process, run
 from gate.crates import TOP, Workspace
 from gate.process import Failed
 from gate.tests.places import CheckoutTest, log
@@ -23,7 +23,6 @@ CHECKOUT = {
     "crates/low/src/lib.rt": "pub fn low() {}\n",
     "crates/low/must-fail/wrong.edit": "",
     "gate/tests/__init__.py": "",
-    "test": WELL,
     ".ci/pages": WELL,
     ".ci/rows": WELL,
     ".ci/mutants": WELL,
@@ -50,6 +49,7 @@ class GateTest(CheckoutTest):
         self.write(CHECKOUT)
         self.log = log("ci_wait").replace("proved, may wait", "proved")
         self.status = 0
+        self.before = ""
         self.ran_oom_tests = self.enterContext(patch("gate.run.out_of_memory.run"))
         self.ran_layout = self.enterContext(patch("gate.run.layout.run"))
         self.enterContext(patch("gate.run.layout.install"))
@@ -60,7 +60,8 @@ class GateTest(CheckoutTest):
         stored.write_text(self.log, encoding="utf-8")
         copy = "test -f crates/low/src/lib.rt && ! test -e crates/low/must-fail || exit 4\n"
         known = '[ "$1" = help ] && echo "rt ci --anew proves all" && exit 0\n'
-        rt = f'#!/bin/sh\n{known}{copy}echo "rt: $*"\ncat "{stored}"\nexit {self.status}\n'
+        shown = f'echo "rt: $*"\n{self.before}cat "{stored}"\nexit {self.status}\n'
+        rt = f"#!/bin/sh\n{known}{copy}{shown}"
         printed = io.StringIO()
         with self.tool("rt", rt), redirect_stdout(printed):
             run.run(self.top, anew)
@@ -81,7 +82,7 @@ class GateTest(CheckoutTest):
 
     def test_it_prints_what_each_part_took(self) -> None:
         printed = self.run_gate()
-        for part in ("texts", "proofs for C and mutants", "mutants", "rt ci", "OOM tests"):
+        for part in ("texts", "mutants", "rt ci", "OOM tests"):
             self.assertRegex(printed, rf"(?m)^ +\d+ s, +\d+ s of processor time: {part}$")
 
     def test_anew_reads_nothing_that_is_kept(self) -> None:
@@ -96,21 +97,25 @@ class GateTest(CheckoutTest):
         with self.tool("rt", "#!/bin/sh\necho rt ci\n"):
             self.assertEqual(run.ci_words(anew=True), ["rt", "ci"])
 
-    def test_what_is_proved_for_mutants_and_hosts(self) -> None:
-        """The crates with mutants that aren't kept, and those of the library for C."""
-        words = '#!/bin/sh\necho "$*" >words\n'
-        edit = "# function: low\nfile: src/lib.rt\nold: low() {}\nnew: low() {};\n"
-        self.write(
-            {
-                "test": words,
-                "crates.txt": "low:\nmemrun:\nother:\n",
-                "crates/low/must-fail/right.edit": edit,
-            }
+    def test_what_the_parts_find_in_the_environment(self) -> None:
+        """The folder of the copy in which `rt ci` runs."""
+        script = (
+            '#!/bin/sh\ntest -f "$BB_GATE_WORK/all/crates/low/src/lib.rt" && touch "$0.found"\n'
         )
-        with patch("gate.crates.kit", return_value="kit"):
+        for command in (".ci/mutants", ".ci/run-c", ".ci/run-memrun"):
+            self.write({command: script})
             self.run_gate()
-        text = (self.top / "words").read_text(encoding="utf-8")
-        self.assertEqual(text, "--proofs low memrun\n")
+            self.assertTrue((self.top / f"{command}.found").exists())
+        self.assertNotIn(libraries.VARIABLE, os.environ)
+
+    def test_a_part_that_fails_ends_rt_ci(self) -> None:
+        """The gate doesn't wait for `rt ci`, which would go on for minutes."""
+        self.write({".ci/run-c": BADLY})
+        self.before = "sleep 600\n"
+        began = time.monotonic()
+        with self.assertRaisesRegex(Failed, "status 3: .*run-c"):
+            self.run_gate()
+        self.assertLess(time.monotonic(), began + 300)
 
     def test_a_function_that_may_wait(self) -> None:
         self.log = log("ci_wait")
@@ -144,7 +149,7 @@ class GateTest(CheckoutTest):
 
     def test_each_command_fails(self) -> None:
         commands = [name for name, text in CHECKOUT.items() if text == WELL]
-        self.assertEqual(len(commands), 7)
+        self.assertEqual(len(commands), 6)
         for command in commands:
             self.write({command: BADLY})
             with self.assertRaisesRegex(Failed, f"status 3: .*{command}"):

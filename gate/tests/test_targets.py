@@ -1,31 +1,78 @@
 """Tests of gate/targets.py, without a toolchain."""
 
+import os
 import unittest
-from pathlib import Path
+from unittest.mock import patch
 
-from gate import targets
-from gate.crates import TOP, Workspace
+from gate import libraries, targets
 from gate.process import Failed
 from gate.temporary import temporary_folder
+from gate.tests.places import CheckoutTest, write
+from gate.tests.test_libraries import CRATES, built_by_gate
 
-PROVED = "crate memrun: modules loaded=56 checked=0\nlogic=proved functions=1 target=x\n"
-NOT_LINKED = "ld.lld: error: input-0 is incompatible with elf_x86_64\n"
+# A `rattle` that makes an object for ARM64. Its last argument is the file.
+COMPILES = """#!/bin/sh
+echo "$*" >>"{log}"
+for file; do true; done
+printf '\\177ELF12345678901234\\267\\000' >"$file"
+"""
 
 
-class Compiled(unittest.TestCase):
-    """Whether `rt` has proved and compiled a crate."""
+class Compiled(CheckoutTest):
+    """A crate that is compiled over what a run of the gate has built."""
 
-    def test_a_library_and_a_program_for_this_machine(self) -> None:
-        self.assertTrue(targets.is_compiled(PROVED, 0))
+    def setUp(self) -> None:
+        super().setUp()
+        self.write(CRATES)
+        self.log = self.work / "words"
+        self.file = self.work / "made.o"
+        self.enterContext(patch.dict(os.environ, {"XDG_CACHE_HOME": str(self.work / "cache")}))
+        self.enterContext(self.tool("rattle", COMPILES.format(log=self.log)))
+        self.built = self.enterContext(built_by_gate(self, "low", "middle"))
 
-    def test_a_program_that_only_the_linker_refuses(self) -> None:
-        self.assertTrue(targets.is_compiled(PROVED + NOT_LINKED, 1))
+    def compile(self, name: str = "program", processor: str = "aarch64") -> None:
+        """Compiles a crate for a processor."""
+        targets.compile_crate(self.built.workspace, name, processor, self.file, None)
 
-    def test_other_failures(self) -> None:
-        self.assertFalse(targets.is_compiled(PROVED, 1))
-        self.assertFalse(targets.is_compiled(PROVED + "ld.lld: error: undefined symbol: f\n", 1))
-        self.assertFalse(targets.is_compiled(NOT_LINKED, 1))
-        self.assertFalse(targets.is_compiled("logic=not proved\n", 0))
+    def commands(self) -> list[str]:
+        """Returns the commands of `rattle` that were run."""
+        return self.log.read_text(encoding="utf-8").splitlines()
+
+    def test_it_is_built_for_the_processor(self) -> None:
+        self.compile()
+        (command,) = self.commands()
+        self.assertTrue(command.startswith("build --crate-name program src/main.rt "), command)
+        self.assertIn(" --target aarch64-unknown-linux-gnu --cpu generic ", command)
+        self.assertTrue(command.endswith(f" -o {self.file}"), command)
+
+    def test_an_object_for_another_processor(self) -> None:
+        with self.assertRaisesRegex(Failed, "program: `rattle build` made an object for another"):
+            self.compile(processor="x86_64")
+
+    def test_what_was_compiled_is_kept_until_something_changes(self) -> None:
+        self.compile()
+        made = self.file.read_bytes()
+        self.file.unlink()
+        self.compile()
+        self.assertEqual(self.file.read_bytes(), made)
+        self.assertEqual(len(self.commands()), 1)
+        for top in (self.top, self.work / "gate" / libraries.COPY):
+            write(top, {"crates/low/src/lib.rt": "pub fn slow() {}\n"})
+        self.compile()
+        self.assertEqual(len(self.commands()), 2)
+
+    def test_anew_reads_nothing_that_is_kept(self) -> None:
+        self.compile()
+        (self.work / "gate" / libraries.ANEW).touch()
+        self.compile()
+        self.assertEqual(len(self.commands()), 2)
+
+    def test_a_failure_is_not_kept(self) -> None:
+        with self.tool("rattle", "#!/bin/sh\nexit 1\n"), self.assertRaises(Failed):
+            self.compile()
+        with self.tool("rattle", COMPILES.format(log=self.log)):
+            self.compile()
+        self.assertEqual(len(self.commands()), 1)
 
 
 class Targets(unittest.TestCase):
@@ -41,13 +88,6 @@ class Targets(unittest.TestCase):
             file = work / "one.o"
             file.write_bytes(b"\x7fELF" + bytes(14) + b"\xb7\x00" + bytes(9))
             self.assertEqual(targets.machine_of(file), targets.TARGETS["aarch64"].machine)
-
-    def test_product(self) -> None:
-        workspace = Workspace(TOP)
-        library = targets.product_of(workspace, "bb_memory_c")
-        self.assertEqual(library, TOP / "crates/bb_memory_c/out/libbb_memory_c.a")
-        program = targets.product_of(workspace, "memrun")
-        self.assertEqual(program, Path(TOP / "crates/memrun/out/memrun.o"))
 
     def test_arguments(self) -> None:
         wrong: list[list[str]] = [[], ["bb_memory_c", "x86_64"], ["none", "x86_64", "a"]]
