@@ -1,8 +1,9 @@
 """Tests pools in files over an installed library, for `.ci/run-c`.
 
 The test programs are in crates/bb_memory_c/tests/pool_file. They run with the archive and with the
-shared library, and `cases` also under the compiler's checkers. There are also mutants of
-bb_pool_file.c. Each has to be refused by the program that its file names:
+shared library, and `cases` also under the compiler's checkers. So does `bb-pool`, over files that
+are almost pools. There are also mutants of bb_pool_file.c. Each has to be refused by the program
+that its file names:
 
     # function: bb_pool_file_take
     # refused by: kills pause 31
@@ -40,6 +41,8 @@ CHECKERS = ("-fsanitize=address,undefined", "-fno-sanitize-recover=all")
 PROGRAMS = ("cases", "kills", "leaks", "shown", "trace")
 # The seconds after which a program is killed, since it hangs.
 LONGEST = 600
+# How many files that are almost pools `bb-pool` shows or refuses.
+FUZZED = 2000
 # The bytes that a folder has to have room for. `cases` has the largest files, of 36 MB.
 ROOM = 48 << 20
 # Runs of `kills` with each form of the library: the arguments, except the second, the folder.
@@ -155,6 +158,25 @@ class PoolFile:
         flags = ["-std=c11", "-g", "-O1", *CHECKERS]
         self.compile([*flags, "-o", program, *sources, self.work / "bb_memory.o"])
         return f"{self.run_program(program, self.folders)}, under the checkers"
+
+    def run_leaks(self) -> str:
+        """Runs `leaks` with each form of the library, in each folder."""
+        ran = []
+        for form in KILLS:
+            for folder in self.folders:
+                ran.append(self.run_program(self.work / f"leaks.{form}", [folder]))
+        return "\n".join(ran)
+
+    def run_fuzzed(self) -> str:
+        """Runs `bb-pool`, under the checkers, over files that are almost pools."""
+        program = self.work / "fuzz"
+        command = self.work / "fuzz_bb_pool.o"
+        flags = ["-std=c11", "-g", "-O1", *CHECKERS]
+        main = ["-D_DEFAULT_SOURCE", "-Dmain=run_bb_pool"]
+        self.compile([*flags, *main, "-c", "-o", command, self.crate / "bb_pool.c"])
+        sources = [self.crate / "bb_pool_file.c", self.sources / "fuzz.c"]
+        self.compile([*flags, "-o", program, *sources, command, self.work / "bb_memory.o"])
+        return self.run_program(program, [self.folders[0] / "fuzz", str(FUZZED)])
 
     def run_mixed(self) -> str:
         """Runs a program whose files report to a checker only in part."""
@@ -334,6 +356,8 @@ class PoolFile:
             for words in tests:
                 jobs[f"kills {' '.join(words)}, {form}"] = partial(self.run_kills, kills, words)
         jobs["cases"] = self.run_cases
+        jobs["fuzz"] = self.run_fuzzed
+        jobs["leaks"] = self.run_leaks
         if has("c++", self.environment):
             jobs["owners"] = self.run_owners
         jobs["mixed"] = self.run_mixed

@@ -10,6 +10,7 @@ const OPTIONS: PoolFileOptions = PoolFileOptions {
     parties: 16,
     slots: 8,
     mode: 0o600,
+    user_bytes: 0,
 };
 const TIME: Duration = Duration::from_secs(1);
 

@@ -6,6 +6,7 @@ use std::fs;
 use std::os::fd::{AsFd, AsRawFd};
 use std::path::PathBuf;
 use std::process::{self, Command};
+use std::sync::atomic::Ordering;
 use std::thread;
 use std::time::Duration;
 
@@ -16,6 +17,7 @@ const OPTIONS: PoolFileOptions = PoolFileOptions {
     parties: 6,
     slots: 4,
     mode: 0,
+    user_bytes: 0,
 };
 
 /// The environment variable that makes the test's own program a sender.
@@ -71,6 +73,27 @@ fn refusals_say_what_the_file_is() {
     assert!(matches!(PoolFile::open(&path.0, &none), Err(PoolFileError::InvalidArgument)));
     fs::write(&path.0, "not a pool").unwrap();
     assert!(matches!(PoolFile::open(&path.0, &OPTIONS), Err(PoolFileError::Foreign)));
+}
+
+#[test]
+fn all_processes_share_the_programs_own_bytes() {
+    let path = Scratch::new("user");
+    let file = PoolFile::open(&path.0, &OPTIONS).unwrap();
+    assert!(file.user().unwrap().is_empty());
+    drop(file);
+    fs::remove_file(&path.0).unwrap();
+    let options = PoolFileOptions { user_bytes: 130, ..OPTIONS };
+    let file = PoolFile::open(&path.0, &options).unwrap();
+    let other = PoolFile::open_existing(&path.0).unwrap();
+    assert_eq!(other.info().unwrap().options.user_bytes, 130);
+    let bytes = file.user().unwrap();
+    assert_eq!((bytes.len(), bytes.as_ptr() as usize % 128), (130, 0));
+    assert!(bytes.iter().all(|byte| byte.load(Ordering::Relaxed) == 0));
+    bytes[129].store(7, Ordering::Relaxed);
+    assert_eq!(other.user().unwrap()[129].load(Ordering::Relaxed), 7);
+    drop((file, other));
+    let again = PoolFile::open(&path.0, &options).unwrap();
+    assert_eq!(again.user().unwrap()[129].load(Ordering::Relaxed), 7);
 }
 
 #[test]
