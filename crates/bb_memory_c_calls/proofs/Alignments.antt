@@ -34,7 +34,7 @@ pub apart : (align : ℕ) → align < 2 ^ 64 → IsPowerOfTwo align
     → bit_and align ((align + 18446744073709551615) % 18446744073709551616) ≡ 0
 apart align fits power =
     let none = subst (λ (m : ℕ). bit_and m (m - 1) ≡ 0) (sym power.1)
-        (and_mask (2 ^ power.0) power.0 ∙ mod_self (2 ^ power.0)) in
+    (and_mask (2 ^ power.0) power.0 ∙ mod_self (2 ^ power.0)) in
     ap (bit_and align) (below align (power_of_two-positive align power) fits) ∙ none
 
 -- a number that passes both tests is an alignment up to the limit

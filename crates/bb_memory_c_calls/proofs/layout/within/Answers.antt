@@ -16,7 +16,7 @@ invariant_of-result c =
     let short : c.args.size ≤ c.args.limit.size = omega (arith, c.if-size.false, c.size.ensures) in
     let low : c.args.align ≤ c.args.limit.align = omega (arith, is.0, c.align.ensures.value) in
     let same : c.min-align.result ≡ c.args.align = omega (arith, low, c.align-2.ensures.value, c.min-align.ensures) in
-    record { valid = rw same (within-valid c.args.size c.args.align c.args.limit short low is.1); }
+    record { valid = rw same (within-valid c.args.size c.args.align c.args.limit short low is.1) }
 
 pub returns-clause-some : goal.returns-clause-some
 returns-clause-some c =
