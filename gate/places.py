@@ -67,7 +67,7 @@ CALLED = frozenset(
     close_with compare_exchange copied fill filter from_elem from_raw get
     into_raw_with_allocator is_none is_some iter_mut join_seat load_new_seat map map_err min
     null_mut of_words ok ok_or peek pop push_reserved replace saturating_sub split_seat store swap
-    try_clone unwrap with_capacity
+    try_clone unwrap with_capacity wrapping_sub
     """.split()
 )
 ATTRIBUTE = re.compile(r"#!?\[(?!cycle\b)[^\[\]]*\]")

@@ -1,3 +1,4 @@
+pub mod Alignments
 pub mod Layouts
 pub mod LentHandles
 pub mod Makers

@@ -7,7 +7,7 @@ use crate::answer::{Answer, Figure};
 use crate::code;
 use crate::handle::Handle;
 use crate::kind::{Bucketed, Ends, Gives, Keeps, Shares};
-use crate::layout::layout_of;
+use crate::layout::{layout_of, within};
 use std::alloc::Global;
 
 /// Returns whether the handle holds a value. The handle doesn't change.
@@ -112,7 +112,7 @@ pub fn request_bucket<I, M: Gives<I> + Bucketed, H: Handle<M>>(
     let Some(made) = handle.made_mut() else {
         return Answer::refusal(code::UNINITIALIZED);
     };
-    match made.limit().within(size, align) {
+    match within(made.limit(), size, align) {
         Some(layout) => Answer::of(made.give(layout)),
         None => ask_apart(made, size, align),
     }

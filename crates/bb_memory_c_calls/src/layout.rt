@@ -4,7 +4,8 @@ ghost use Rattle.bb_memory_c_calls.specs.Calls.{FailsOf, HasRoom, IsCuttable, Is
 ghost use Rattle.bb_memory_traits.specs.Chunk.{region_at};
 ghost use Rattle.bb_memory_traits.specs.declared.layout.Layout.{Layout as Asked};
 ghost use Rattle.std.specs.Align.{IsLayout};
-ghost use Rattle.std.specs.Prelude.{Err, IfErr, IfOk, IfSome, None, Some, ◌↔◌, ◌≡◌, ◌≢◌};
+ghost use Rattle.std.specs.Int.{IsPowerOfTwo};
+ghost use Rattle.std.specs.Prelude.{Err, IfErr, IfOk, IfSome, IsSome, None, Some, ◌↔◌, ◌≡◌, ◌≢◌, ◌≤◌};
 
 use crate::code;
 use bb_memory_owned::pool_allocator::{FixedSizePoolAllocator, PoolAllocator};
@@ -19,6 +20,27 @@ pub fn layout_of(size: usize, align: usize) -> Option<Layout>
     ensures none { ¬ IsLayout size align → result ≡ None }
 {
     Layout::from_size_align(size, align).ok()
+}
+
+/// Returns the layout of this size and this alignment, if neither exceeds the limit's and the alignment is a power of two. The
+/// result is that of `Layout::within`, in fewer instructions.
+#[inline(always)]
+pub fn within(limit: Layout, size: usize, align: usize) -> Option<Layout>
+    ensures some { IsSome result ↔ ((size ≤ limit.size) × (align ≤ limit.align) × IsPowerOfTwo align) }
+    ensures of { IfSome result (IsOf size align) }
+{
+    // A number that isn't 0 is a power of two if it shares no bit with the number below it. For 0 that is the greatest number,
+    // which is less than no alignment. A processor of plain x86-64 can't count bits, which `is_power_of_two` does.
+    let below = align.wrapping_sub(1);
+    if align & below != 0 {
+        return None;
+    }
+    if size > limit.size() || below >= limit.align() {
+        return None;
+    }
+    // The lesser of the two alignments is `align`. From `min` the compiler sees that an allocator needn't compare them again.
+    let align = align.min(limit.align());
+    Some(Layout { size, align })
 }
 
 /// Returns the two layouts of these numbers, if they make two.
