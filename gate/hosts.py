@@ -64,7 +64,8 @@ class Hosts:
             (folder / name).write_text(NOT_HERE, encoding="utf-8")
             (folder / name).chmod(0o755)
         path = [str(folder), os.environ["PATH"], str(Path.home() / ".cargo/bin")]
-        return {**os.environ, "PATH": ":".join(path)}
+        others = {name: it for name, it in os.environ.items() if name != libraries.VARIABLE}
+        return {**others, "PATH": ":".join(path)}
 
     def check_installation(self, environment: Mapping[str, str]) -> None:
         """Installs the library below the prefix, and checks the installation and the release."""

@@ -1,8 +1,12 @@
 """Tests of gate/hosts.py."""
 
+import os
 import unittest
+from unittest.mock import patch
 
-from gate.hosts import unignored
+from gate import libraries, process
+from gate.crates import TOP
+from gate.hosts import Hosts, unignored
 from gate.temporary import temporary_folder
 
 
@@ -17,6 +21,19 @@ class Unignored(unittest.TestCase):
             ignored = "out/\n# /first\n/hello\n/out\n"
             self.assertEqual(unignored(top, ignored), ["first", "hello.c", "out.c"])
             self.assertEqual(unignored(top, ignored + "/first\n/out.c\n/hello.c\n"), [])
+
+
+class EnvironmentTest(unittest.TestCase):
+    """The environment of the tests of a release."""
+
+    def test_the_toolchain_is_not_there(self) -> None:
+        with temporary_folder() as work, patch.dict(os.environ, {libraries.VARIABLE: "/gate"}):
+            environment = Hosts(TOP, work).environment()
+            self.assertNotIn(libraries.VARIABLE, environment)
+            for name in ("rt", "rattle"):
+                ran = process.run([name, "check"], work, environment)
+                self.assertEqual(ran.status, 1)
+                self.assertIn(f"/{name} was called: check", ran.text)
 
 
 if __name__ == "__main__":

@@ -8,7 +8,7 @@ from contextlib import redirect_stdout
 from pathlib import Path
 from unittest.mock import patch
 
-from gate import libraries, process, run
+from gate import libraries, process, run, times
 from gate.crates import TOP, Workspace
 from gate.process import Failed
 from gate.tests.places import CheckoutTest, log
@@ -174,6 +174,15 @@ class GateTest(CheckoutTest):
         self.write({"gate/tests/test_planted.py": planted})
         with self.assertRaisesRegex(Failed, "FAILED"):
             self.run_gate()
+
+    def test_a_test_of_the_gate_knows_nothing_of_the_run(self) -> None:
+        names = (times.VARIABLE, libraries.VARIABLE)
+        planted = (
+            "import os, unittest\nclass T(unittest.TestCase):\n    def test(self):\n"
+            f"        self.assertFalse(set(os.environ) & set({names}))\n"
+        )
+        self.write({"gate/tests/test_planted.py": planted})
+        self.run_gate()
 
     def test_no_temporary_folder(self) -> None:
         with patch.dict(os.environ, {"TMPDIR": "/nowhere"}), self.assertRaises(OSError):
