@@ -364,7 +364,7 @@ public:
         if (party_ == nullptr)
             return BB_UNINITIALIZED;
         const bb_chunk chunk = bb_pool_party_allocate(party_, size, 1);
-        if (chunk.code == BB_INVALID_LAYOUT)  // no memory at all has so many bytes
+        if (chunk.code == BB_INVALID_LAYOUT)  // no object has that many bytes
             return BB_SIZE_TOO_LARGE;
         if (chunk.code != BB_OK)
             return chunk.code;

@@ -1006,7 +1006,8 @@ static void addresses(void) {
         EXPECT(bb_pool_file_open(&file, path, NULL) == BB_FILE_SYSTEM && errno == EAGAIN);
         intruded_mmap = 0;
         intrudes_on = false;
-        EXPECT(unmap_others() == 100 && mapped_pages() == before && blocks == 0);
+        // Each of these places has three pages, and `malloc` may keep some of its own.
+        EXPECT(unmap_others() == 100 && mapped_pages() < before + 100 && blocks == 0);
         remove_it();
     }
     knows_the_flag = true;

@@ -40,6 +40,8 @@ enum {
 };
 
 static const char *path;
+// The file with the errors of the last run.
+static char errors[256];
 static uint64_t seed;
 static uint32_t input;
 
@@ -177,13 +179,24 @@ static int run(int argc, char **argv) {
         alarm(LONGEST);
         if (argv == NULL)
             make_pool();
+        const int to = open(errors, O_WRONLY | O_CREAT | O_TRUNC, 0600);
+        EXPECT(to >= 0 && dup2(to, STDERR_FILENO) >= 0);
         EXPECT(freopen("/dev/null", "w", stdout) != NULL);
         const int ended = run_bb_pool(argc, argv);
         fflush(stdout);
         _exit(ended);
     }
-    EXPECT(waitpid(child, &status, 0) == child && WIFEXITED(status));
-    return WEXITSTATUS(status);
+    EXPECT(waitpid(child, &status, 0) == child);
+    return WIFEXITED(status) ? WEXITSTATUS(status) : -WTERMSIG(status);
+}
+
+// Shows what the last run has written, such as what a checker has found.
+static void show_errors(void) {
+    char text[4096];
+    const int fd = open(errors, O_RDONLY);
+    const ssize_t length = read(fd, text, sizeof text);
+    fprintf(stderr, "%.*s\n", length > 0 ? (int)length : 0, text);
+    unlink(errors);
 }
 
 int main(int argc, char **argv) {
@@ -191,6 +204,7 @@ int main(int argc, char **argv) {
     static unsigned char found[MOST_BYTES];
     uint32_t opened = 0;
     path = argv[1];
+    snprintf(errors, sizeof errors, "%s.errors", path);
     const uint32_t count = argc == 3 ? (uint32_t)atoi(argv[2]) : 0;
     EXPECT(count > 0);
     for (input = 0; input < count; input++) {
@@ -211,12 +225,15 @@ int main(int argc, char **argv) {
         if (options > 1)
             words[2] = "--detached";
         const int status = run(2 + options, words);
+        if (status != 0 && status != 1)
+            show_errors();
         EXPECT(status == 0 || status == 1);
         opened += status == 0;
         if (status == 1)
             EXPECT(read_file(found) == length && memcmp(found, bytes, length) == 0);
     }
     unlink(path);
+    unlink(errors);
     printf("fuzz: bb-pool showed %u of %u files, and refused the others\n", opened, count);
     return 0;
 }

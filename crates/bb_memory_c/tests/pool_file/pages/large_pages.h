@@ -29,8 +29,14 @@ static inline void *simulated_mmap(void *at, size_t size, int protection, int fl
         errno = EINVAL;
         return MAP_FAILED;
     }
-    if (is_fixed)
-        return mmap(at, length, protection, flags, fd, offset);
+    if (is_fixed) {
+        void *mapped = mmap(at, length, protection, flags, fd, offset);
+        if (mapped == MAP_FAILED || mapped == at)
+            return mapped;
+        // A kernel that doesn't know MAP_FIXED_NOREPLACE maps them elsewhere, as below.
+        munmap(mapped, length);
+        flags &= ~MAP_FIXED_NOREPLACE;
+    }
     char *found = mmap(NULL, length + SIMULATED_PAGE, protection, flags, fd, offset);
     if (found == MAP_FAILED)
         return MAP_FAILED;
