@@ -179,7 +179,7 @@ uncounted_shares = record {
   apart = λ same. absurd (omega (arith, same));
   one = record {
     lock = refl;
-    life = refl;
+    has_life = refl;
     place = Outside;
     there = refl;
     living = λ same. absurd (cc);
@@ -187,7 +187,7 @@ uncounted_shares = record {
   };
   two = record {
     lock = refl;
-    life = refl;
+    has_life = refl;
     place = Outside;
     there = refl;
     living = λ same. absurd (cc);

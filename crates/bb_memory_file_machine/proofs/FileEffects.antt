@@ -397,12 +397,12 @@ place_rests words later process (Sent party bucket) (lock, known, unsent) others
 place_rests words later process (Seen party slot bucket size) lock others = (others party lock).lock
 place_rests words later process (Attached party slot bucket size from) (lock, held, known) others =
     let r = others party lock in (r.lock, r.kept bucket held, from_rests words later party process bucket from held r known)
-place_rests words later process (Late party bucket from slot) (lock, held, known, none) others =
+place_rests words later process (Late party bucket from slot) (lock, held, known, unseen) others =
     let r = others party lock in (
       r.lock,
       r.kept bucket held,
       from_rests words later party process bucket from held r known,
-      (λ before less has. none before less (in_before words later party process bucket before held r has)),
+      (λ before less has. unseen before less (in_before words later party process bucket before held r has)),
     )
 place_rests words later process (Returning party bucket from) (lock, held, not_in, sent) others =
     let r = others party lock in (

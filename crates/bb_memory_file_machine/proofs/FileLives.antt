@@ -162,7 +162,7 @@ module _ (party life : ℕ) where
   greater_then : (state : FileState) (process more : ℕ) → HasCounted state process party more →
       IsBeyond state.words ⊎ IsUncounted state → life < more
   greater_then state process more has (inl beyond) =
-      let same = one_value state.words.lives party beyond.0 more beyond.1 has.life in
+      let same = one_value state.words.lives party beyond.0 more beyond.1 has.has_life in
       let less = beyond.2 in omega (arith, same, less)
   greater_then state process more has (inr uncounted) =
       absurd (not_fresh has.place has.living has.counted (uncounted.1 process has.place has.lock has.there))

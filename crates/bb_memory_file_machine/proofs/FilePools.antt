@@ -15,7 +15,7 @@ use Rattle.bb_memory_pool_machine.specs.PoolMachine.{PoolMove, PoolState, attach
 use Rattle.bb_memory_pool_machine.specs.declared.steps.pool.PoolOutcome.TheVariants.{Misses}
 use Rattle.bb_memory_traits.specs.Chunk.{Chunk}
 use Rattle.bb_memory_traits.specs.PoolObject.{IsHeld, IsPoolGeometry, PoolGeometry}
-use Rattle.std.proofs.Common.{Bool, List, None, Option, Some, [], ap, arith, length, refl, replicate, subst, suc, sym, zero, ℕ, ◌+◌, ◌<◌, ◌↔◌, ◌∷◌, ◌≡◌}
+use Rattle.std.proofs.Common.{Bool, List, None, Option, Some, [], ap, arith, length, refl, replicate, subst, suc, sym, zero, ℕ, ◌+◌, ◌<◌, ◌↔◌, ◌∙◌, ◌∷◌, ◌≡◌}
 use Rattle.std.proofs.lemmas.Bool.{cond_both, ltb-false}
 use Rattle.std.proofs.lemmas.List.{length-replicate}
 use Rattle.std.proofs.lemmas.List.Elements.{All-cons, All-nil}

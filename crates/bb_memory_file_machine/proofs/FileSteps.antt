@@ -156,18 +156,18 @@ place_after words place step move (exchanges process party slot bucket size from
 place_after words place step move (begins_done process party slot bucket size own is) sound has = (own, (λ held. (size, is)))
 place_after words place step move (is_late process party slot bucket size from) sound (own, held, known) =
     (own, held, known, in_none_before words bucket)
-place_after words place step move (late_ends process party bucket from slot end) sound (own, held, known, none) =
+place_after words place step move (late_ends process party bucket from slot end) sound (own, held, known, unseen) =
     let not_in : ¬ IsInSome words bucket =
-    λ has. none has.0 (before_end words.slots slot has.0 (Message bucket has.1.0) end has.1.1) has.1 in
+    λ has. unseen has.0 (before_end words.slots slot has.0 (Message bucket has.1.0) end has.1.1) has.1 in
     (own, held, not_in, (elim known [ inl has ↦ absurd (not_in has) | inr sent ↦ sent ]))
-place_after words place step move (late_finds process party bucket from slot has_it) sound (own, held, known, none) =
+place_after words place step move (late_finds process party bucket from slot has_it) sound (own, held, known, unseen) =
     (own, held, (slot, has_it))
-place_after words place step move (late_passes process party bucket from slot not_here) sound (own, held, known, none) = (
+place_after words place step move (late_passes process party bucket from slot not_here) sound (own, held, known, unseen) = (
   own,
   held,
   known,
   (λ before less has. elim (below_or_at before slot (after_at_most words slot before less)) [
-    | inl earlier ↦ none before earlier has
+    | inl earlier ↦ unseen before earlier has
     | inr same ↦ not_here (has.0, ap (slice_get words.slots) same ∙ has.1)
   ]),
 )

@@ -207,7 +207,7 @@ CanCount state process party =
 -- since it took the lock.
 pub record HasCounted (state : FileState) (process party life : ℕ) : Type 0 where
   pub lock : IsLock state.words party process
-  pub life : IsLife state.words party life
+  pub has_life : IsLife state.words party life
   pub place : Place
   pub there : IsPlace state process place
   pub living : place ≢ Dead

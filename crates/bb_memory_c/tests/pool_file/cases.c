@@ -999,6 +999,9 @@ static void lives(void) {
     EXPECT(number_of(party) == 0 && life > last && !is_alive(file, 0, last));
     EXPECT(reap(file, BB_REAP_DEAD | BB_REAP_LEFT) == 0 && life_of(file, 0) == life);
     EXPECT(bb_pool_file_give_all_back(file, party) == BB_OK && life_of(file, 0) == life);
+    bb_pool_file *other = open_it();
+    EXPECT(number_of(join_it(other)) == 1 && life_of(file, 0) == life);
+    close_it(other);
     EXPECT(is_alive(file, 0, life) && bb_pool_file_leave(file, party) == BB_OK);
     EXPECT(!is_alive(file, 0, life) && life_of(file, 0) > life);
     close_it(file);

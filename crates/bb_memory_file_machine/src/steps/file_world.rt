@@ -653,7 +653,8 @@ impl FileWorld {
     fn late_slot(&mut self, party: u32, bucket: u32, from: u32, slot: u32) -> (FileOutcome, Place)
         ensures { IsMove self.old (next self.old.words (Late party bucket from slot)) result.0 result.1 self.new }
     {
-        let place = match found_at(&self.slots, slot as usize) {
+        let found = found_at(&self.slots, slot as usize);
+        let place = match found {
             None => Place::Returning {
                 party,
                 bucket,
