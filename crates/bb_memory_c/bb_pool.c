@@ -28,7 +28,7 @@ static const char USAGE[] =
     "\n"
     "  --reap      first frees what dead parties hold; messages in slots stay\n"
     "  --detached  with --reap: also frees what dead parties detached, if it is in no slot\n"
-    "  --left      with --reap: also frees what parties that have left detached, if it is in no slot\n"
+    "  --left      with --reap: the same for parties that have left\n"
     "  --watch     shows the pool every second, until it is interrupted\n"
     "  --help      shows this text\n"
     "\n"

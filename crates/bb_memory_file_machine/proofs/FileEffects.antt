@@ -315,6 +315,21 @@ rests words later process outcome party other (empties number slot bucket size o
     unnamed words at number party (ap (slice_get words.flags) (sym one) ∙ held) numbers named)
     (λ at length same. absurd (cc))
 
+-- another process that has a lock after an effect had it before
+pub lock_before : (words later : FileWords) (process other party : ℕ) (outcome : FileOutcome) → Effect words process outcome later →
+    process ≢ other → IsLock later party other → IsLock words party other
+lock_before words later process other party outcome (takes_lock number free) apart lock =
+    elim (set_cases words.locks number party (Some process) None (Some other) free lock) [
+      | inl before ↦ before.1
+      | inr this ↦ let locks = this.1 in absurd (apart (cc))
+    ]
+lock_before words later process other party outcome (frees_lock number own) apart lock =
+    elim (set_cases words.locks number party None (Some process) (Some other) own lock) [
+      | inl before ↦ before.1
+      | inr this ↦ let locks = this.1 in absurd (cc)
+    ]
+lock_before words later process other party outcome _ apart lock = lock
+
 module _ (words later : FileWords) (party process : ℕ) where
   -- a flag that names the party named it before, or was put back
   named_rests : (bucket : ℕ) → Rests words later party process → Names later bucket party →

@@ -1,5 +1,5 @@
 -- Whoever takes a number's lock counts a greater life than all before.
-use Rattle.bb_memory_file_machine.proofs.FileEffects.{one_value, set_cases}
+use Rattle.bb_memory_file_machine.proofs.FileEffects.{lock_before, one_value, set_cases}
 use Rattle.bb_memory_file_machine.proofs.FileInvariant.{Holds}
 use Rattle.bb_memory_file_machine.proofs.FileKinds.{Kind, counts, counts_again, dies, kind_of, locks, refuses, releases, unlocks, unlocks_first}
 use Rattle.bb_memory_file_machine.proofs.FileSteps.{effect_of, holds_always, holds_step}
@@ -27,14 +27,6 @@ module _ (party life : ℕ) where
   abbrev IsUncounted : FileState → Type 0
   IsUncounted state = IsLife state.words party life
       × ((process : ℕ) (place : Place) → IsLock state.words party process → IsPlace state process place → IsFresh place)
-
-  -- nobody has a lock that was freed
-  unlocked : (words : FileWords) (number process : ℕ) → IsLock words party process → number ≡ party →
-      ¬ (slice_get (slice_set words.locks number None) party ≡ Some (Some process))
-  unlocked words number process lock same now =
-      let freed = slice_get-set_at words.locks number party None (Some process) same
-      (ap (slice_get words.locks) same ∙ lock) in
-      let locks = one_value (slice_set words.locks number None) party None (Some process) freed now in absurd (cc)
 
   -- a number's life that is greater is so after each effect
   beyond_after : (words later : FileWords) (process : ℕ) (outcome : FileOutcome) → Effect words process outcome later →
@@ -78,21 +70,6 @@ module _ (party life : ℕ) where
   own_fresh words place step move (refuses at taken) before now was lock = was lock
   own_fresh words place step move _ before now was lock = absurd (was lock)
 
-  -- another process that has a lock after an effect had it before
-  had_lock : (words later : FileWords) (process other : ℕ) (outcome : FileOutcome) → Effect words process outcome later →
-      process ≢ other → IsLock later party other → IsLock words party other
-  had_lock words later process other outcome (laws.takes_lock number free) apart lock =
-      elim (set_cases words.locks number party (Some process) None (Some other) free lock) [
-        | inl before ↦ before.1
-        | inr this ↦ let locks = this.1 in absurd (apart (cc))
-      ]
-  had_lock words later process other outcome (laws.frees_lock number own) apart lock =
-      elim (set_cases words.locks number party None (Some process) (Some other) own lock) [
-        | inl before ↦ before.1
-        | inr this ↦ let locks = this.1 in absurd (cc)
-      ]
-  had_lock words later process other outcome _ apart lock = lock
-
   -- a number with a life has one after each effect
   life_after : (words later : FileWords) (process : ℕ) (outcome : FileOutcome) (old : ℕ) → Effect words process outcome later →
       IsLife words party old → (new : ℕ) × IsLife later party new
@@ -118,7 +95,7 @@ module _ (party life : ℕ) where
         effect_of state.words place step move kind (holds.each (process_of step) place there) in
         elim (set_cases state.places (process_of step) other move.place place at there at_now) [
           | inl rest ↦
-              fresh other at (had_lock state.words move.words (process_of step) other move.outcome effect rest.0 lock) rest.1
+              fresh other at (lock_before state.words move.words (process_of step) other party move.outcome effect rest.0 lock) rest.1
           | inr this ↦ subst IsFresh this.1
               (own_fresh state.words place step move kind before now (λ own. fresh (process_of step) place own there)
               (lock ∙ ap (λ (p : ℕ). Some (Some p)) (sym this.0)))

@@ -1,5 +1,5 @@
 -- A party that says it is done with a message has attached its bucket since the post.
-use Rattle.bb_memory_file_machine.proofs.FileEffects.{one_value, same_holder, same_message, same_process, set_cases}
+use Rattle.bb_memory_file_machine.proofs.FileEffects.{lock_before, one_value, same_holder, same_message, same_process, set_cases}
 use Rattle.bb_memory_file_machine.proofs.FileInvariant.{Holds, Sound}
 use Rattle.bb_memory_file_machine.proofs.FileKinds.{Kind, addresses, all_slots, anothers, counts, dies, empty_slot, full_slot, has_sent, is_gone, is_kept, keeps, kind_of, locks, posted, posts, refuses, releases, unlocks, unlocks_first}
 use Rattle.bb_memory_file_machine.proofs.FileSteps.{after_at_most, before_end, effect_of, holds_always, holds_step}
@@ -45,7 +45,7 @@ module _ (party slot bucket size : ℕ) where
       ]
 
   -- nobody has a lock that was freed
-  pub number_unlocked : (words : FileWords) (number process : ℕ) → IsLock words party process → number ≡ party →
+  number_unlocked : (words : FileWords) (number process : ℕ) → IsLock words party process → number ≡ party →
       ¬ (slice_get (slice_set words.locks number None) party ≡ Some (Some process))
   number_unlocked words number process lock same now =
       let freed = slice_get-set_at words.locks number party None (Some process) same
@@ -190,21 +190,6 @@ module _ (party slot bucket size : ℕ) where
       ]
   held_or_attaches words later process outcome _ sound is now = inl now
 
-  -- another process that has a lock after an effect had it before
-  pub lock_before : (words later : FileWords) (process other : ℕ) (outcome : FileOutcome) → Effect words process outcome later →
-      process ≢ other → IsLock later party other → IsLock words party other
-  lock_before words later process other outcome (laws.takes_lock number free) apart lock =
-      elim (set_cases words.locks number party (Some process) None (Some other) free lock) [
-        | inl before ↦ before.1
-        | inr this ↦ let locks = this.1 in absurd (apart (cc))
-      ]
-  lock_before words later process other outcome (laws.frees_lock number own) apart lock =
-      elim (set_cases words.locks number party None (Some process) (Some other) own lock) [
-        | inl before ↦ before.1
-        | inr this ↦ let locks = this.1 in absurd (cc)
-      ]
-  lock_before words later process other outcome _ apart lock = lock
-
   -- a party that held the bucket, and didn't take the message, doesn't take it by a step after
   -- which it holds the bucket
   untaken_after : (state : FileState) (step : FileStep) (place : Place) → IsPlace state (process_of step) place → Holds state →
@@ -217,7 +202,7 @@ module _ (party slot bucket size : ℕ) where
       effect_of state.words place step move kind (holds.each (process_of step) place there) in
       elim (set_cases state.places (process_of step) other move.place place at there at_now) [
         | inl before ↦
-            untaken held other at (lock_before state.words move.words (process_of step) other move.outcome effect before.0 lock)
+            untaken held other at (lock_before state.words move.words (process_of step) other party move.outcome effect before.0 lock)
             before.1
         | inr this ↦ subst IsBefore this.1
             (own_before state.words place step move kind (λ own. untaken held (process_of step) place own there)

@@ -1689,7 +1689,8 @@ static void namespaces(void) {
         puts("cases: no process namespace is allowed, skipped");
         end(child);
     } else {
-        EXPECT(info_of(file).alive == 2 && info_of(file).held == 2 && reap(file, BB_REAP_DEAD) == 0);
+        EXPECT(info_of(file).alive == 2 && info_of(file).held == 2 &&
+               reap(file, BB_REAP_DEAD) == 0);
         end_killed(child);  // the inner process ends with it
         for (int tries = 0; info_of(file).lost == 0; tries++) {
             EXPECT(tries < 5000);

@@ -105,9 +105,8 @@ enum call {
 };
 
 static const char *const NAMES[CALLS] = {
-    "open",          "join",  "show",     "close",      "reap",   "recover", "leave",
-    "give_all_back", "flush", "allocate", "deallocate", "detach", "attach",  "post",
-    "take",          "done",
+    "open",  "join",     "show",       "close",  "reap",   "recover", "leave", "give_all_back",
+    "flush", "allocate", "deallocate", "detach", "attach", "post",    "take",  "done",
 };
 
 // A call of a process, in memory that the process shares with this program.
