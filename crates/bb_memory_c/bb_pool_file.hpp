@@ -129,12 +129,26 @@ public:
                                 : std::uint32_t{BB_UNINITIALIZED};
     }
 
-    // Frees what dead parties held; if `detached` is true, also the buckets that they detached and
-    // that are in no slot. Stores in `*freed` how many buckets were freed, unless `freed` is null.
-    // BB_UNINITIALIZED if there is no file; then the codes of `bb_pool_file_reap`.
-    std::uint32_t reap(bool detached, std::uint32_t *freed = nullptr) const noexcept {
-        return file_ != nullptr ? bb_pool_file_reap(file_, detached, freed)
+    // Frees what dead parties held, and what `what` says: BB_REAP_HELD, BB_REAP_DEAD, BB_REAP_LEFT,
+    // or the last two added together. Stores in `*freed` how many buckets were freed, unless `freed`
+    // is null. BB_UNINITIALIZED if there is no file; then the codes of `bb_pool_file_reap`.
+    std::uint32_t reap(std::uint32_t what, std::uint32_t *freed = nullptr) const noexcept {
+        return file_ != nullptr ? bb_pool_file_reap(file_, what, freed)
                                 : std::uint32_t{BB_UNINITIALIZED};
+    }
+
+    // Returns the life of the party with this number. BB_UNINITIALIZED if there is no file; then the
+    // codes of `bb_pool_file_life`.
+    bb_number life(std::uint32_t party) const noexcept {
+        return file_ != nullptr ? bb_pool_file_life(file_, party) : bb_number{BB_UNINITIALIZED, 0};
+    }
+
+    // Returns 1 if the process is alive that has joined as the party with this number and has this
+    // life, otherwise 0. BB_UNINITIALIZED if there is no file; then the codes of
+    // `bb_pool_file_is_alive`.
+    bb_number is_alive(std::uint32_t party, std::uint64_t life) const noexcept {
+        return file_ != nullptr ? bb_pool_file_is_alive(file_, party, life)
+                                : bb_number{BB_UNINITIALIZED, 0};
     }
 
     // Returns the pointer for the functions of bb_pool_file.h, or null if there is no file.
@@ -354,6 +368,13 @@ public:
     void leave() noexcept {
         if (party_ != nullptr)
             bb_pool_file_leave(file_, std::exchange(party_, nullptr));
+    }
+
+    // Frees what the party holds, cached or not, and the party stays joined. Its messages and
+    // buckets have to go out of scope before that. BB_UNINITIALIZED if the party hasn't joined.
+    std::uint32_t give_all_back() noexcept {
+        return party_ != nullptr ? bb_pool_file_give_all_back(file_, party_)
+                                 : std::uint32_t{BB_UNINITIALIZED};
     }
 
     // Posts a copy of these bytes, in a bucket of their own. BB_UNINITIALIZED if the party hasn't

@@ -34,7 +34,7 @@ int main(int argc, char **argv) {
         code = bb_pool_file_wait_full(file, BB_ANY_SLOT, 1000);
         // After a reap, a message that a dead consumer had taken can be taken again.
         if (code == BB_FILE_TIMED_OUT)
-            code = bb_pool_file_reap(file, false, NULL);
+            code = bb_pool_file_reap(file, BB_REAP_HELD, NULL);
         for (uint32_t slot = 0; code == BB_OK && slot < OPTIONS.slots; slot++)
             code = receive(file, mine, slot);
     }

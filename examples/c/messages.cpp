@@ -21,7 +21,7 @@ static std::uint32_t send(bb::pool_file &file, bb::pool_file_party &mine, const 
         else
             return code;
         if (code == BB_FILE_TIMED_OUT)
-            code = file.reap(false);
+            code = file.reap(BB_REAP_HELD);
         if (code != BB_OK)
             return code;
     }
@@ -55,7 +55,7 @@ int main(int argc, char **argv) {
     while (code == BB_OK && argc == 2) {
         code = file.wait_full(BB_ANY_SLOT, 1000);
         if (code == BB_FILE_TIMED_OUT)
-            code = file.reap(false);
+            code = file.reap(BB_REAP_HELD);
         for (std::uint32_t slot = 0; code == BB_OK && slot < options.slots; slot++)
             code = receive(mine, slot);
     }

@@ -12,7 +12,7 @@ static const bb_pool_file_options OPTIONS = {256, 64, 1000, 16, 8, 0600, 0};
 
 // Frees what dead processes hold if a wait timed out. Returns the code of the reap, or of the wait.
 static uint32_t reap_if_timed_out(bb_pool_file *file, uint32_t waited) {
-    return waited == BB_FILE_TIMED_OUT ? bb_pool_file_reap(file, false, NULL) : waited;
+    return waited == BB_FILE_TIMED_OUT ? bb_pool_file_reap(file, BB_REAP_HELD, NULL) : waited;
 }
 
 // Allocates a bucket. Waits while other processes hold all of them, some of which may be dead.

@@ -1,6 +1,6 @@
 //! Sends COUNT messages as producer.c does: `messages FILE COUNT`. Receives them as consumer.c
 //! does: `messages FILE`. Programs in C, C++ and Rust may use one file, and be killed.
-use bb_memory::{PoolFile, PoolFileError, PoolFileOptions, PoolFileParty};
+use bb_memory::{PoolFile, PoolFileError, PoolFileOptions, PoolFileParty, Reap};
 use std::{env, error, process, time::Duration};
 
 const OPTIONS: PoolFileOptions = PoolFileOptions {
@@ -24,7 +24,7 @@ fn send(file: &PoolFile, mine: &PoolFileParty, text: &str) -> Result<(), PoolFil
             posted => return posted,
         };
         if !has_changed {
-            file.reap(false)?;
+            file.reap(Reap::Held)?;
         }
         slot = (slot + 1) % OPTIONS.slots;
     }
@@ -34,7 +34,7 @@ fn send(file: &PoolFile, mine: &PoolFileParty, text: &str) -> Result<(), PoolFil
 /// process prints it again.
 fn receive(file: &PoolFile, mine: &PoolFileParty) -> Result<(), PoolFileError> {
     if !file.wait_full(None, TIME)? {
-        file.reap(false)?;
+        file.reap(Reap::Held)?;
     }
     for slot in 0..OPTIONS.slots {
         if let Some(mut message) = mine.take(slot)? {

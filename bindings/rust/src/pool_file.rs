@@ -70,9 +70,12 @@ unsafe extern "C" {
     fn bb_pool_file_watch(file: *mut File, fd: *mut c_int) -> u32;
     fn bb_pool_file_arm(file: *mut File, fd: c_int, slot: u32) -> u32;
     fn bb_pool_file_detach(file: *mut File, party: *mut Handle, place: *const c_void) -> Number;
-    fn bb_pool_file_reap(file: *mut File, detached: bool, freed: *mut u32) -> u32;
+    fn bb_pool_file_reap(file: *mut File, what: u32, freed: *mut u32) -> u32;
+    fn bb_pool_file_life(file: *mut File, party: u32) -> Number;
+    fn bb_pool_file_is_alive(file: *mut File, party: u32, life: u64) -> Number;
     fn bb_pool_file_info(file: *mut File, to: *mut PoolFileInfo) -> u32;
     fn bb_pool_party_allocate(party: *mut Handle, size: usize, align: usize) -> Chunk;
+    fn bb_pool_party_number(party: *mut Handle) -> Number;
 }
 
 /// The figures that a file is made with. A file that exists has to have the same ones, except for
@@ -117,6 +120,29 @@ pub struct PoolFileInfo {
     pub full_slots: u32,
     /// The flags with a value that no party writes.
     pub wrong: u32,
+}
+
+/// What a reap frees besides the buckets that dead parties held.
+#[derive(Clone, Copy, Debug, PartialEq, Eq)]
+pub enum Reap {
+    /// Nothing else.
+    Held,
+    /// Buckets in no slot that dead parties have detached.
+    Dead,
+    /// Buckets in no slot that parties have detached which have left since.
+    Left,
+    /// The buckets of `Dead` and those of `Left`.
+    DeadAndLeft,
+}
+
+/// Names a party of one process: no other process that joins later gets the same number and life.
+/// Other processes ask with it whether this one is alive.
+#[derive(Clone, Copy, Debug, PartialEq, Eq, Hash)]
+pub struct PartyId {
+    /// The party's number, which later processes may have, too.
+    pub number: u32,
+    /// The party's life, which says which process has joined.
+    pub life: u64,
 }
 
 /// The reason why a call with a pool in a file was refused.
@@ -298,13 +324,26 @@ impl PoolFile {
         Ok(PoolFileParty { file: self, party, one_thread: PhantomData })
     }
 
-    /// Frees what dead parties held, and returns how many buckets it freed. If `detached` is true,
-    /// also frees the buckets that dead parties detached and that are in no slot.
-    pub fn reap(&self, detached: bool) -> Result<u32, PoolFileError> {
+    /// Frees what dead parties held, and what `what` says, and returns how many buckets it freed.
+    /// A number of a detached bucket that is freed must not arrive any more.
+    pub fn reap(&self, what: Reap) -> Result<u32, PoolFileError> {
+        let what = match what {
+            Reap::Held => 0,
+            Reap::Dead => 1,
+            Reap::Left => 2,
+            Reap::DeadAndLeft => 3,
+        };
         let mut count = 0;
         // SAFETY: the file is open.
-        let code = unsafe { bb_pool_file_reap(self.file.as_ptr(), detached, &mut count) };
+        let code = unsafe { bb_pool_file_reap(self.file.as_ptr(), what, &mut count) };
         PoolFileError::unless_ok(code).map(|()| count)
+    }
+
+    /// Returns whether the process is alive that has joined as this party.
+    pub fn is_alive(&self, id: PartyId) -> Result<bool, PoolFileError> {
+        // SAFETY: the file is open.
+        let alive = unsafe { bb_pool_file_is_alive(self.file.as_ptr(), id.number, id.life) };
+        PoolFileError::unless_ok(alive.code).map(|()| alive.number == 1)
     }
 
     /// Waits until a message can be taken from the slot (with `None`, from any slot). Returns
@@ -422,6 +461,15 @@ pub struct PoolFileParty<'a> {
 unsafe impl Send for PoolFileParty<'_> {}
 
 impl PoolFileParty<'_> {
+    /// Returns the number and the life of the party.
+    pub fn id(&self) -> PartyId {
+        // SAFETY: the party has joined.
+        let number = unsafe { bb_pool_party_number(self.party.as_ptr()) }.number as u32;
+        // SAFETY: the file is open.
+        let life = unsafe { bb_pool_file_life(self.file.file.as_ptr(), number) }.number as u64;
+        PartyId { number, life }
+    }
+
     /// Posts these bytes into the slot, in a bucket of their own. Once this returns, the message is
     /// sent, even if this process is killed.
     pub fn post(&self, slot: u32, bytes: &[u8]) -> Result<(), PoolFileError> {

@@ -1,5 +1,5 @@
 //! Pools in files: threads and processes, and processes that are killed.
-use bb_memory::{Message, PoolFile, PoolFileError, PoolFileOptions, PoolFileParty};
+use bb_memory::{Message, PartyId, PoolFile, PoolFileError, PoolFileOptions, PoolFileParty, Reap};
 use core::ffi::{c_int, c_short, c_ulong};
 use std::env;
 use std::fs;
@@ -94,6 +94,26 @@ fn all_processes_share_the_programs_own_bytes() {
     drop((file, other));
     let again = PoolFile::open(&path.0, &options).unwrap();
     assert_eq!(again.user().unwrap()[129].load(Ordering::Relaxed), 7);
+}
+
+#[test]
+fn no_process_is_taken_for_an_earlier_one() {
+    let path = Scratch::new("lives");
+    let file = PoolFile::open(&path.0, &OPTIONS).unwrap();
+    let other = PoolFile::open_existing(&path.0).unwrap();
+    let party = file.join().unwrap();
+    let id = party.id();
+    assert!(file.is_alive(id).unwrap() && other.is_alive(id).unwrap());
+    drop(party);
+    assert!(!other.is_alive(id).unwrap());
+    let next = other.join().unwrap().id();
+    assert_eq!(next.number, id.number);
+    assert!(next.life > id.life);
+    let party = file.join().unwrap();
+    assert!(other.is_alive(party.id()).unwrap());
+    assert!(!file.is_alive(id).unwrap() && !file.is_alive(next).unwrap());
+    let beyond = PartyId { number: OPTIONS.parties, life: 1 };
+    assert!(matches!(file.is_alive(beyond), Err(PoolFileError::NoParty)));
 }
 
 #[test]
@@ -211,7 +231,7 @@ fn a_killed_sender_loses_nothing() {
         child.kill().unwrap();
         child.wait().unwrap();
         assert!(came.unwrap());
-        file.reap(true).unwrap();
+        file.reap(Reap::Dead).unwrap();
         for slot in 0..OPTIONS.slots {
             let mut message = party.take(slot).unwrap().unwrap();
             assert_eq!(&*message, b"from a sender");

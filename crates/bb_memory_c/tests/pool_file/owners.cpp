@@ -57,11 +57,17 @@ void run_waits(const char *path) {
     bb::pool_file none;
     std::uint32_t freed = 7;
     EXPECT(none.wait_full(0, 0) == BB_UNINITIALIZED && none.wait_empty(0, 0) == BB_UNINITIALIZED);
-    EXPECT(none.wait_bucket(0) == BB_UNINITIALIZED && none.reap(true) == BB_UNINITIALIZED);
-    EXPECT(none.reap(true, &freed) == BB_UNINITIALIZED && freed == 7);
+    EXPECT(none.wait_bucket(0) == BB_UNINITIALIZED && none.reap(BB_REAP_DEAD) == BB_UNINITIALIZED);
+    EXPECT(none.reap(BB_REAP_DEAD, &freed) == BB_UNINITIALIZED && freed == 7);
+    EXPECT(none.life(0).code == BB_UNINITIALIZED && none.is_alive(0, 1).code == BB_UNINITIALIZED);
     bb::pool_file file;
     bb::pool_file_party party;
+    EXPECT(party.give_all_back() == BB_UNINITIALIZED);
     EXPECT(file.open(path) == BB_OK && party.join(file) == BB_OK);
+    const auto number = static_cast<std::uint32_t>(bb_pool_party_number(party.get()).number);
+    const bb_number life = file.life(number);
+    EXPECT(life.code == BB_OK && file.is_alive(number, life.number).number == 1);
+    EXPECT(file.is_alive(number, life.number + 2).number == 0);
     EXPECT(file.wait_full(BB_ANY_SLOT, 1) == BB_FILE_TIMED_OUT);
     EXPECT(file.wait_full(3, 1) == BB_INVALID_ARGUMENT && file.wait_empty(0, 1) == BB_OK);
     EXPECT(party.post(0, 5) == BB_OK && file.wait_full(0, 1) == BB_OK);
@@ -71,12 +77,14 @@ void run_waits(const char *path) {
     void *places[20];
     EXPECT(bb_pool_party_take_many(party.get(), places, 20).number == 20);
     EXPECT(file.wait_bucket(1) == BB_FILE_TIMED_OUT);
-    EXPECT(bb_pool_party_give_all_back(party.get()) == BB_OK);
+    EXPECT(party.give_all_back() == BB_OK && file.is_alive(number, life.number).number == 1);
     die(path);
-    EXPECT(file.reap(false, &freed) == BB_OK && freed == 1 && file.info()->detached == 1);
-    EXPECT(file.reap(true, &freed) == BB_OK && freed == 1 && file.info()->detached == 0);
+    EXPECT(file.reap(BB_REAP_HELD, &freed) == BB_OK && freed == 1 && file.info()->detached == 1);
+    EXPECT(file.reap(BB_REAP_LEFT, &freed) == BB_OK && freed == 0 && file.info()->detached == 1);
+    EXPECT(file.reap(BB_REAP_DEAD, &freed) == BB_OK && freed == 1 && file.info()->detached == 0);
     die(path);
-    EXPECT(file.reap(true) == BB_OK && file.info()->held == 0 && file.info()->detached == 0);
+    EXPECT(file.reap(BB_REAP_DEAD) == BB_OK && file.info()->held == 0);
+    EXPECT(file.info()->detached == 0);
 }
 
 // The bytes that the file has for the host.

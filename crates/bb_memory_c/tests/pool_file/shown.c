@@ -107,9 +107,11 @@ int main(int argc, char **argv) {
     EXPECT(end_of(child) == 0);
     EXPECT(run(command, path, NULL, NULL) == 0);
     EXPECT(run(command, path, "--reap", NULL) == 0);
+    EXPECT(run(command, path, "--reap", "--left") == 0);
     EXPECT(run(command, path, "--reap", "--detached") == 0);
     EXPECT(run(command, path, "--help", NULL) == 0);
     EXPECT(run(command, path, "--detached", NULL) == 2);
+    EXPECT(run(command, path, "--left", NULL) == 2);
     EXPECT(run(command, path, "--other", NULL) == 2);
     EXPECT(run(command, path, path, NULL) == 2);
     EXPECT(bb_pool_file_close(file) == BB_OK);
