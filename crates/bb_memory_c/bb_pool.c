@@ -21,13 +21,14 @@ enum {
 };
 
 static const char USAGE[] =
-    "usage: bb-pool [--reap [--detached]] [--watch] FILE\n"
+    "usage: bb-pool [--reap [--detached] [--left]] [--watch] FILE\n"
     "\n"
     "Shows the shared pool in FILE: its figures, its parties, its full slots, and a map of its\n"
     "buckets. Each party is a letter, A for party 0, in lower case if the party is dead.\n"
     "\n"
     "  --reap      first frees what dead parties hold; messages in slots stay\n"
     "  --detached  with --reap: also frees what dead parties detached, if it is in no slot\n"
+    "  --left      with --reap: also frees what parties that have left detached, if it is in no slot\n"
     "  --watch     shows the pool every second, until it is interrupted\n"
     "  --help      shows this text\n"
     "\n"
@@ -56,8 +57,10 @@ static char letter_of(const struct parties *parties, uint32_t party) {
 static void count_buckets(bb_pool_file *file, const bb_pool_file_options *options,
                           struct parties *parties) {
     bb_holder holder;
-    for (uint32_t party = 0; party < options->parties; party++)
-        parties->alive[party] = bb_pool_file_is_alive(file, party).number == 1;
+    for (uint32_t party = 0; party < options->parties; party++) {
+        const bb_number life = bb_pool_file_life(file, party);
+        parties->alive[party] = bb_pool_file_is_alive(file, party, life.number).number == 1;
+    }
     for (uint32_t number = 0; number < options->buckets; number++) {
         if (bb_pool_file_holder(file, number, &holder) != BB_OK)
             continue;
@@ -180,9 +183,9 @@ static uint32_t watch(bb_pool_file *file, const char *path) {
     }
 }
 
-static uint32_t reap(bb_pool_file *file, bool detached) {
+static uint32_t reap(bb_pool_file *file, uint32_t what) {
     uint32_t given_back = 0;
-    const uint32_t code = bb_pool_file_reap(file, detached, &given_back);
+    const uint32_t code = bb_pool_file_reap(file, what, &given_back);
     if (code == BB_OK)
         printf("freed: %u\n", given_back);
     return code;
@@ -191,7 +194,7 @@ static uint32_t reap(bb_pool_file *file, bool detached) {
 int main(int argc, char **argv) {
     const char *path = NULL;
     bool reaps = false;
-    bool detached = false;
+    uint32_t what = BB_REAP_HELD;
     bool watches = false;
     bool is_right = true;
     for (int at = 1; at < argc; at++) {
@@ -202,7 +205,9 @@ int main(int argc, char **argv) {
         if (strcmp(argv[at], "--reap") == 0)
             reaps = true;
         else if (strcmp(argv[at], "--detached") == 0)
-            detached = true;
+            what |= BB_REAP_DEAD;
+        else if (strcmp(argv[at], "--left") == 0)
+            what |= BB_REAP_LEFT;
         else if (strcmp(argv[at], "--watch") == 0)
             watches = true;
         else if (argv[at][0] == '-' || path != NULL)
@@ -210,7 +215,7 @@ int main(int argc, char **argv) {
         else
             path = argv[at];
     }
-    if (!is_right || path == NULL || (detached && !reaps)) {
+    if (!is_right || path == NULL || (what != BB_REAP_HELD && !reaps)) {
         fputs(USAGE, stderr);
         return BAD_USAGE;
     }
@@ -221,7 +226,7 @@ int main(int argc, char **argv) {
     if (code != BB_OK)
         return fail(path, code);
     if (reaps)
-        code = reap(file, detached);
+        code = reap(file, what);
     if (code == BB_OK)
         code = watches ? watch(file, path) : show(file, path);
     if (code != BB_OK)

@@ -1,15 +1,20 @@
 -- Steps of the machine of a pool in a file, by their kinds.
-use Rattle.bb_memory_file_machine.proofs.FileTests.{flag_missing, flag_there, free_found, in_none, in_some, own_there, slot_there}
-use Rattle.bb_memory_file_machine.specs.FileLaws.{IsFlag, IsHolder, IsInSome, IsLock, IsSlot}
-use Rattle.bb_memory_file_machine.specs.FileMachine.{Addresses, Addressing, Allocate, AttachNumber, Attached, Checking, Dead, Deallocate, DetachNumber, DetachedBy, Done, Empty, Ending, Exchange, FileMove, FileStep, FileWords, Finding, Flags, Free, HeldBy, Keeping, Kill, Late, Leave, Lock, Message, Moves, Next, OnFlag, OnLock, OnSlot, Outside, Place, Post, Posting, Receives, Recover, Release, Seen, Sent, Settled, Slot, Slots, Take, TryAt, Unlock, after_slot, allocate, attach_number, attaching, begin_done, begin_take, deallocate, detach_number, detaching, done_found, exchange, finds_free, giving_back, is_flag, is_own, is_slot, kill, leave, lock, move_at, move_of, next, nobody, post, recover, refused, release, settle_message, settle_slot, some_has, take_found, unlock, with_flag, with_lock, with_outside, with_slot}
-use Rattle.std.proofs.Common.{None, Option, Some, false, length, refl, suc, true, zero, ℕ, ◌+◌, ◌≡◌, ◌≤◌}
+use Rattle.bb_memory_file_machine.proofs.FileTests.{flag_missing, flag_there, free_found, has_not, has_own, in_none, in_some, less_found, own_there, slot_there}
+use Rattle.bb_memory_file_machine.specs.FileLaws.{IsFlag, IsHolder, IsIn, IsInSome, IsLife, IsLock, IsSlot}
+use Rattle.bb_memory_file_machine.specs.FileMachine.{Addresses, Addressing, Allocate, AttachNumber, Attached, Checking, Count, Counting, Dead, Deallocate, DetachNumber, DetachedBy, Done, Empty, Ending, Exchange, FileMove, FileStep, FileWords, Finding, Flags, Free, HeldBy, Keeping, Kill, Late, Leave, Lock, Message, Moves, Next, OnFlag, OnLife, OnLock, OnSlot, Outside, Place, Post, Posting, Receives, Recover, Release, Returning, Seen, Sent, Settled, Slot, Slots, Take, TryAt, Unlock, after_slot, allocate, attach_number, attaching, begin_done, begin_take, count, deallocate, detach_number, detaching, done_found, exchange, finds_free, finds_less, giving_back, has_bucket, is_flag, is_own, is_slot, kill, late_slot, leave, lock, move_at, move_of, next, nobody, post, putting_back, recover, refused, release, settle_message, settle_slot, some_has, take_found, unlock, with_flag, with_life, with_lock, with_outside, with_slot}
+use Rattle.std.proofs.Common.{None, Option, Some, ap, length, refl, suc, sym, zero, ℕ, ◌+◌, ◌<◌, ◌∙◌, ◌≡◌, ◌≤◌}
 use Rattle.std.proofs.lemmas.Bool.{cond_both, ltb-false}
+use Rattle.std.proofs.lemmas.Option.{same_Some}
 use Rattle.std.specs.Prelude.{nat_lt, slice_get}
 
 -- a step that makes this move of a process that has come so far is one of these
 pub data Kind (words : FileWords) : Place → FileStep → FileMove → Type 0 where
   locks : (process party : ℕ) → slice_get words.locks party ≡ Some None → Kind words Outside (Lock process party)
-      (move_of (OnLock party) (with_lock words party (Some process)) (Slots party 0))
+      (move_of (OnLock party) (with_lock words party (Some process)) (Counting party))
+  counts : (process party life more : ℕ) → IsLife words party life → life < more →
+      Kind words (Counting party) (Count process more) (move_of (OnLife party) (with_life words party more) (Slots party 0))
+  counts_again : (process party life more : ℕ) → IsLife words party life → life < more →
+      Kind words (Settled party) (Count process more) (move_of (OnLife party) (with_life words party more) (Settled party))
   leaves : (process party : ℕ) → IsLock words party process →
       Kind words Outside (Leave process party) (move_of Moves words (Slots party 0))
   allocates : (process party bucket : ℕ) → IsLock words party process → IsFlag words bucket Free →
@@ -20,23 +25,23 @@ pub data Kind (words : FileWords) : Place → FileStep → FileMove → Type 0 w
   puts_back : (process party bucket : ℕ) → IsLock words party process → IsHolder words bucket party → IsInSome words bucket →
       Kind words Outside (DetachNumber process party bucket) (detaching words party bucket Outside)
   detaches : (process party bucket : ℕ) → IsLock words party process → IsHolder words bucket party → ¬ IsInSome words bucket →
-      Kind words Outside (DetachNumber process party bucket) (detaching (with_outside words bucket true) party bucket Outside)
+      Kind words Outside (DetachNumber process party bucket) (detaching (with_outside words bucket (Some party)) party bucket Outside)
   attaches : (process party bucket from : ℕ) → IsLock words party process → IsFlag words bucket (DetachedBy from) →
       Kind words Outside (AttachNumber process party bucket from)
-      (attaching (with_outside words bucket false) party bucket from Outside)
+      (attaching (with_outside words bucket None) party bucket from Outside)
   posts : (process party slot bucket size : ℕ) → IsLock words party process → IsHolder words bucket party →
       ¬ IsInSome words bucket → IsSlot words slot Empty → Kind words Outside (Post process party slot bucket size)
-      (move_of (OnSlot slot) (with_slot words slot (Message bucket size)) (Posting party bucket))
+      (move_of (OnSlot slot) (with_slot (with_outside words bucket None) slot (Message bucket size)) (Posting party bucket))
   sees : (process party slot bucket size : ℕ) → IsLock words party process → IsSlot words slot (Message bucket size) →
       Kind words Outside (Take process party slot) (move_of Moves words (Seen party slot bucket size))
   exchanges : (process party slot bucket size from : ℕ) → IsFlag words bucket (DetachedBy from) →
       Kind words (Seen party slot bucket size) (Exchange process from)
-      (attaching words party bucket from (Attached party slot bucket size))
+      (attaching words party bucket from (Attached party slot bucket size from))
   begins_done : (process party slot bucket size : ℕ) → IsLock words party process → IsSlot words slot (Message bucket size) →
       Kind words Outside (Done process party slot) (move_of Moves words (Finding party slot bucket))
   recovers : (process party at bucket : ℕ) → IsFlag words bucket (DetachedBy party) →
       Kind words (Flags party at) (Recover process bucket)
-      (attaching (with_outside words bucket false) party bucket party (Flags party 0))
+      (attaching (with_outside words bucket None) party bucket party (Flags party 0))
   posted : (process party bucket : ℕ) →
       Kind words (Posting party bucket) (Next process) (detaching words party bucket (Sent party bucket))
   sends : (process party bucket : ℕ) → IsFlag words bucket (DetachedBy party) → Kind words (Sent party bucket) (Next process)
@@ -44,11 +49,19 @@ pub data Kind (words : FileWords) : Place → FileStep → FileMove → Type 0 w
   is_taken : (process party bucket : ℕ) → Kind words (Sent party bucket) (Next process) (move_of Moves words Outside)
   gives_up : (process party slot bucket size : ℕ) →
       Kind words (Seen party slot bucket size) (Next process) (move_of Moves words Outside)
-  receives : (process party slot bucket size : ℕ) → IsSlot words slot (Message bucket size) →
-      Kind words (Attached party slot bucket size) (Next process) (move_of (Receives slot) words Outside)
-  is_late : (process party slot bucket size : ℕ) →
-      Kind words (Attached party slot bucket size) (Next process) (move_of Moves words (Late party bucket))
-  puts_late : (process party bucket : ℕ) → Kind words (Late party bucket) (Next process) (detaching words party bucket Outside)
+  receives : (process party slot bucket size from : ℕ) → IsSlot words slot (Message bucket size) →
+      Kind words (Attached party slot bucket size from) (Next process) (move_of (Receives slot) words Outside)
+  is_late : (process party slot bucket size from : ℕ) →
+      Kind words (Attached party slot bucket size from) (Next process) (move_of Moves words (Late party bucket from 0))
+  late_ends : (process party bucket from slot : ℕ) → slice_get words.slots slot ≡ None →
+      Kind words (Late party bucket from slot) (Next process) (move_of Moves words (Returning party bucket from))
+  late_finds : (process party bucket from slot : ℕ) → IsIn words bucket slot →
+      Kind words (Late party bucket from slot) (Next process) (move_of Moves words (Posting party bucket))
+  late_passes : (process party bucket from slot : ℕ) → ¬ IsIn words bucket slot →
+      Kind words (Late party bucket from slot) (Next process)
+      (move_of Moves words (Late party bucket from (after_slot words slot)))
+  puts_late : (process party bucket from : ℕ) →
+      Kind words (Returning party bucket from) (Next process) (putting_back words party bucket from Outside)
   is_holder : (process party slot bucket : ℕ) → IsHolder words bucket party →
       Kind words (Finding party slot bucket) (Next process) (move_of Moves words (Ending party slot bucket))
   no_holder : (process party slot bucket : ℕ) →
@@ -97,6 +110,17 @@ module _ (words : FileWords) (process : ℕ) where
       (λ move. Kind words Outside (Lock process party) move)
       (λ e. locks process party (free_found (slice_get words.locks party) e)) (λ e. refuses Outside (Lock process party))
   kind_of_lock place party = refuses place (Lock process party)
+
+  kind_of_count : (place : Place) (life : ℕ) → Kind words place (Count process life) (count words place life)
+  kind_of_count (Counting party) life = cond_both (finds_less life (slice_get words.lives party)) _ _
+      (λ move. Kind words (Counting party) (Count process life) move)
+      (λ e. let less = less_found life (slice_get words.lives party) e in counts process party less.0 life less.1 less.2)
+      (λ e. refuses (Counting party) (Count process life))
+  kind_of_count (Settled party) life = cond_both (finds_less life (slice_get words.lives party)) _ _
+      (λ move. Kind words (Settled party) (Count process life) move)
+      (λ e. let less = less_found life (slice_get words.lives party) e in counts_again process party less.0 life less.1 less.2)
+      (λ e. refuses (Settled party) (Count process life))
+  kind_of_count place life = refuses place (Count process life)
 
   kind_of_leave : (place : Place) (party : ℕ) → Kind words place (Leave process party) (leave words process place party)
   kind_of_leave Outside party = cond_both (is_own words process party) _ _
@@ -232,6 +256,15 @@ module _ (words : FileWords) (process : ℕ) where
       (λ e. anothers process party slot bucket (flag_missing words bucket (HeldBy party) unheld)
       (flag_missing words bucket (DetachedBy party) e)))
 
+  kind_of_late_slot : (party bucket from slot : ℕ) (found : Option Slot) → slice_get words.slots slot ≡ found →
+      Kind words (Late party bucket from slot) (Next process) (late_slot words party bucket from slot found)
+  kind_of_late_slot party bucket from slot None is = late_ends process party bucket from slot is
+  kind_of_late_slot party bucket from slot (Some word) is = cond_both (has_bucket bucket word) _ _
+      (λ move. Kind words (Late party bucket from slot) (Next process) move)
+      (λ e. let own = has_own bucket word e in late_finds process party bucket from slot (own.0, is ∙ ap Some own.1))
+      (λ e. late_passes process party bucket from slot
+      (λ has. has_not bucket word has.0 e (same_Some word (Message bucket has.0) (sym is ∙ has.1))))
+
   kind_of_next : (place : Place) → Kind words place (Next process) (next words place)
   kind_of_next Outside = refuses Outside (Next process)
   kind_of_next Dead = refuses Dead (Next process)
@@ -241,11 +274,13 @@ module _ (words : FileWords) (process : ℕ) where
       (λ e. sends process party bucket (flag_there words bucket (DetachedBy party) e))
       (λ e. is_taken process party bucket)
   kind_of_next (Seen party slot bucket size) = gives_up process party slot bucket size
-  kind_of_next (Attached party slot bucket size) = cond_both (is_slot words slot (Message bucket size)) _ _
-      (λ move. Kind words (Attached party slot bucket size) (Next process) move)
-      (λ e. receives process party slot bucket size (slot_there words slot (Message bucket size) e))
-      (λ e. is_late process party slot bucket size)
-  kind_of_next (Late party bucket) = puts_late process party bucket
+  kind_of_next (Attached party slot bucket size from) = cond_both (is_slot words slot (Message bucket size)) _ _
+      (λ move. Kind words (Attached party slot bucket size from) (Next process) move)
+      (λ e. receives process party slot bucket size from (slot_there words slot (Message bucket size) e))
+      (λ e. is_late process party slot bucket size from)
+  kind_of_next (Late party bucket from slot) = kind_of_late_slot party bucket from slot (slice_get words.slots slot) refl
+  kind_of_next (Returning party bucket from) = puts_late process party bucket from
+  kind_of_next (Counting party) = refuses (Counting party) (Next process)
   kind_of_next (Finding party slot bucket) = cond_both (is_flag words bucket (HeldBy party)) _ _
       (λ move. Kind words (Finding party slot bucket) (Next process) move)
       (λ e. is_holder process party slot bucket (flag_there words bucket (HeldBy party) e))
@@ -283,6 +318,7 @@ module _ (words : FileWords) (process : ℕ) where
 -- each step is of some kind
 pub kind_of : (words : FileWords) (place : Place) (step : FileStep) → Kind words place step (move_at words place step)
 kind_of words place (Lock process party) = kind_of_lock words process place party
+kind_of words place (Count process life) = kind_of_count words process place life
 kind_of words place (Leave process party) = kind_of_leave words process place party
 kind_of words place (Allocate process party bucket) = kind_of_allocate words process place party bucket
 kind_of words place (Deallocate process party bucket) = kind_of_deallocate words process place party bucket

@@ -3,9 +3,9 @@ use Rattle.bb_memory_file_machine.proofs.FileEffects.{below_end}
 use Rattle.bb_memory_file_machine.proofs.FileInvariant.{Holds}
 use Rattle.bb_memory_file_machine.proofs.FileSteps.{holds_at_opening, holds_step}
 use Rattle.bb_memory_file_machine.proofs.FileTheorem.{effect_in}
-use Rattle.bb_memory_file_machine.specs.FileLaws.{ChangesNone, Effect, IsFlag, IsHolder, IsLock}
+use Rattle.bb_memory_file_machine.specs.FileLaws.{ChangesNone, Effect, IsFlag, IsHolder, IsLock, IsSentBy}
 use Rattle.bb_memory_file_machine.specs.FileLaws as laws
-use Rattle.bb_memory_file_machine.specs.FileMachine.{Addresses, AttachFrom, Detach, DetachedBy, Dies, FileChange, FileOutcome, FileScene, FileState, FileStep, FileWords, Flag, Free, GiveBack, HeldBy, Moves, OnFlag, OnLock, OnSlot, PoolStep, Receives, Refused, TryAt, file_after, file_step, left_by, nobody, opening_state, outcomes_of, process_of}
+use Rattle.bb_memory_file_machine.specs.FileMachine.{Addresses, AttachFrom, Detach, DetachedBy, Dies, FileChange, FileOutcome, FileScene, FileState, FileStep, FileWords, Flag, Free, GiveBack, HeldBy, Moves, OnFlag, OnLife, OnLock, OnSlot, PoolStep, PutsBack, Receives, Refused, TryAt, file_after, file_step, left_by, nobody, opening_state, outcomes_of, process_of}
 use Rattle.bb_memory_file_machine.specs.FilePool.{IsPool, IsTaken, flag_steps, flag_steps_in, pool_of}
 use Rattle.bb_memory_lists.proofs.SliceGets.{length-set_at, slice_get-replicate, slice_get-set_same}
 use Rattle.bb_memory_pool_machine.proofs.PoolRuns.{taken_is_held}
@@ -15,7 +15,7 @@ use Rattle.bb_memory_pool_machine.specs.PoolMachine.{PoolMove, PoolState, attach
 use Rattle.bb_memory_pool_machine.specs.declared.steps.pool.PoolOutcome.TheVariants.{Misses}
 use Rattle.bb_memory_traits.specs.Chunk.{Chunk}
 use Rattle.bb_memory_traits.specs.PoolObject.{IsHeld, IsPoolGeometry, PoolGeometry}
-use Rattle.std.proofs.Common.{Bool, List, None, Option, Some, [], ap, arith, length, refl, replicate, subst, suc, sym, zero, ℕ, ◌+◌, ◌<◌, ◌↔◌, ◌∷◌, ◌≡◌}
+use Rattle.std.proofs.Common.{Bool, List, None, Option, Some, [], ap, arith, length, refl, replicate, subst, suc, sym, zero, ℕ, ◌+◌, ◌<◌, ◌↔◌, ◌∙◌, ◌∷◌, ◌≡◌}
 use Rattle.std.proofs.lemmas.Bool.{cond_both, ltb-false}
 use Rattle.std.proofs.lemmas.List.{length-replicate}
 use Rattle.std.proofs.lemmas.List.Elements.{All-cons, All-nil}
@@ -111,7 +111,9 @@ agree_quiet : (parties : ℕ) (flags end : List Flag) (outcome : FileOutcome) (o
     Agree parties flags (flag_steps_in outcomes) end → Agree parties flags (flag_steps_in (outcome ∷ outcomes)) end
 agree_quiet parties flags end (OnFlag step) outcomes quiet rest = absurd quiet
 agree_quiet parties flags end (Addresses bucket from to) outcomes quiet rest = absurd quiet
+agree_quiet parties flags end (PutsBack bucket party from) outcomes quiet rest = absurd quiet
 agree_quiet parties flags end (OnSlot slot) outcomes quiet rest = rest
+agree_quiet parties flags end (OnLife party) outcomes quiet rest = rest
 agree_quiet parties flags end (OnLock party) outcomes quiet rest = rest
 agree_quiet parties flags end Refused outcomes quiet rest = rest
 agree_quiet parties flags end Moves outcomes quiet rest = rest
@@ -151,42 +153,73 @@ agree_address parties words party bucket process steps end many own is rest =
     (detach_leaves parties held to bucket below more there))
     rest)
 
+-- a bucket that is put back is detached by its holder, and attached and detached by the party that
+-- had detached it
+agree_put_back : (parties : ℕ) (words : FileWords) (party bucket from process : ℕ) (steps : List PoolStep) (end : List Flag) →
+    length words.locks + 1 ≡ parties → IsLock words party process → IsHolder words bucket party → from < length words.locks →
+    Agree parties (slice_set words.flags bucket (DetachedBy from)) steps end →
+    Agree parties words.flags (Detach party bucket ∷ AttachFrom from bucket party ∷ Detach from bucket ∷ steps) end
+agree_put_back parties words party bucket from process steps end many own held known rest =
+    let away : List Flag = slice_set words.flags bucket (DetachedBy party) in
+    let back : List Flag = slice_set away bucket (HeldBy from) in
+    let more : 1 < parties = more_parties words parties party process many own in
+    let below : from < parties = omega (arith, many, known) in
+    let first : slice_get away bucket ≡ Some (DetachedBy party) =
+    slice_get-set_same words.flags bucket (DetachedBy party) (HeldBy party) held in
+    let second : slice_get back bucket ≡ Some (HeldBy from) =
+    slice_get-set_same away bucket (HeldBy from) (DetachedBy party) first in
+    let same : slice_set back bucket (DetachedBy from) ≡ slice_set words.flags bucket (DetachedBy from) =
+    set_twice away bucket (HeldBy from) (DetachedBy from) ∙ set_twice words.flags bucket (DetachedBy party) (DetachedBy from) in
+    agree_cons parties words.flags away (Detach party bucket) (AttachFrom from bucket party ∷ Detach from bucket ∷ steps) end
+    (detach_leaves parties words.flags party bucket (number_below words parties party process many own) more held)
+    (agree_cons parties away back (AttachFrom from bucket party) (Detach from bucket ∷ steps) end
+    (attach_leaves parties away from bucket below more party first)
+    (agree_cons parties back (slice_set words.flags bucket (DetachedBy from)) (Detach from bucket) steps end
+    (subst (λ (later : List Flag). Leaves parties later (pool_step (pool_at parties back) (Detach from bucket))) same
+    (detach_leaves parties back from bucket below more second))
+    rest))
+
 agree_effect : (parties : ℕ) (words later : FileWords) (process : ℕ) (outcome : FileOutcome) (outcomes : List FileOutcome)
     (end : List Flag) → Effect words process outcome later → length words.locks + 1 ≡ parties →
+    ((bucket party : ℕ) → IsSentBy words bucket party → party < length words.locks) →
     Agree parties later.flags (flag_steps_in outcomes) end → Agree parties words.flags (flag_steps_in (outcome ∷ outcomes)) end
-agree_effect parties words later process outcome outcomes end (laws.none said quiet) many rest =
+agree_effect parties words later process outcome outcomes end (laws.none said quiet) many senders rest =
     agree_quiet parties words.flags end said outcomes quiet rest
-agree_effect parties words later process outcome outcomes end (laws.takes_lock party free) many rest = rest
-agree_effect parties words later process outcome outcomes end (laws.frees_lock party own) many rest = rest
-agree_effect parties words later process outcome outcomes end (laws.fills party slot bucket size own held not_in empty) many rest =
+agree_effect parties words later process outcome outcomes end (laws.takes_lock party free) many senders rest = rest
+agree_effect parties words later process outcome outcomes end (laws.frees_lock party own) many senders rest = rest
+agree_effect parties words later process outcome outcomes end (laws.counts party life more own is less) many senders rest = rest
+agree_effect parties words later process outcome outcomes end (laws.fills party slot bucket size own held not_in empty) many senders rest =
     rest
-agree_effect parties words later process outcome outcomes end (laws.empties party slot bucket size own held is) many rest = rest
-agree_effect parties words later process outcome outcomes end (laws.takes party bucket own free) many rest =
+agree_effect parties words later process outcome outcomes end (laws.empties party slot bucket size own held is) many senders rest = rest
+agree_effect parties words later process outcome outcomes end (laws.takes party bucket own free) many senders rest =
     agree_cons parties words.flags (slice_set words.flags bucket (HeldBy party)) (TryAt party bucket) (flag_steps_in outcomes) end
     (take_leaves parties words.flags party bucket (number_below words parties party process many own)
     (more_parties words parties party process many own) free) rest
-agree_effect parties words later process outcome outcomes end (laws.gives_back party bucket own held not_in) many rest =
+agree_effect parties words later process outcome outcomes end (laws.gives_back party bucket own held not_in) many senders rest =
     agree_cons parties words.flags (slice_set words.flags bucket Free) (GiveBack party bucket) (flag_steps_in outcomes) end
     (give_leaves parties words.flags party bucket (number_below words parties party process many own)
     (more_parties words parties party process many own) held) rest
-agree_effect parties words later process outcome outcomes end (laws.detaches party bucket own held known) many rest =
+agree_effect parties words later process outcome outcomes end (laws.detaches party bucket own held known) many senders rest =
     agree_cons parties words.flags (slice_set words.flags bucket (DetachedBy party)) (Detach party bucket)
     (flag_steps_in outcomes) end
     (detach_leaves parties words.flags party bucket (number_below words parties party process many own)
     (more_parties words parties party process many own) held) rest
-agree_effect parties words later process outcome outcomes end (laws.detaches_number party bucket own held not_in) many rest =
+agree_effect parties words later process outcome outcomes end (laws.detaches_number party bucket own held not_in) many senders rest =
     agree_cons parties words.flags (slice_set words.flags bucket (DetachedBy party)) (Detach party bucket)
     (flag_steps_in outcomes) end
     (detach_leaves parties words.flags party bucket (number_below words parties party process many own)
     (more_parties words parties party process many own) held) rest
-agree_effect parties words later process outcome outcomes end (laws.addresses party bucket own is has) many rest =
+agree_effect parties words later process outcome outcomes end (laws.puts_back party bucket from own held not_in sent) many senders
+    rest =
+    agree_put_back parties words party bucket from process (flag_steps_in outcomes) end many own held (senders bucket from sent) rest
+agree_effect parties words later process outcome outcomes end (laws.addresses party bucket own is has) many senders rest =
     agree_address parties words party bucket process (flag_steps_in outcomes) end many own is rest
-agree_effect parties words later process outcome outcomes end (laws.attaches party bucket from own is) many rest =
+agree_effect parties words later process outcome outcomes end (laws.attaches party bucket from own is) many senders rest =
     agree_cons parties words.flags (slice_set words.flags bucket (HeldBy party)) (AttachFrom party bucket from)
     (flag_steps_in outcomes) end
     (attach_leaves parties words.flags party bucket (number_below words parties party process many own)
     (more_parties words parties party process many own) from is) rest
-agree_effect parties words later process outcome outcomes end (laws.attaches_number party bucket from own is) many rest =
+agree_effect parties words later process outcome outcomes end (laws.attaches_number party bucket from own is) many senders rest =
     agree_cons parties words.flags (slice_set words.flags bucket (HeldBy party)) (AttachFrom party bucket from)
     (flag_steps_in outcomes) end
     (attach_leaves parties words.flags party bucket (number_below words parties party process many own)
@@ -208,7 +241,7 @@ agree_after parties state (step ∷ steps) holds many =
     let effect : Effect state.words (process_of step) change.outcome change.state.words = effect_in state step holds in
     let same = locks_effect state.words change.state.words (process_of step) change.outcome effect in
     agree_effect parties state.words change.state.words (process_of step) change.outcome (outcomes_of change.state steps)
-    (file_after change.state steps).words.flags effect many
+    (file_after change.state steps).words.flags effect many holds.sound.senders
     (agree_after parties change.state steps (holds_step state step holds) (omega (arith, same, many)))
 
 pub pool_always : (scene : FileScene) (steps : List FileStep) (geometry : PoolGeometry) → geometry.buckets ≡ scene.buckets →

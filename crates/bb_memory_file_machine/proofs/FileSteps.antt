@@ -1,13 +1,13 @@
 -- The invariant of a state holds after each step.
 use Rattle.bb_memory_file_machine.proofs.FileEffects.{below_end, detached_apart, nobody_apart, one_value, place_rests, rests, same_message, set_cases}
-use Rattle.bb_memory_file_machine.proofs.FileInvariant.{Holds, IsCleared, IsGiven, Names, PlaceHas, Sound}
-use Rattle.bb_memory_file_machine.proofs.FileKinds.{Kind, addresses, all_flags, all_slots, allocates, anothers, attaches, begins_done, detaches, dies, empties, empty_slot, exchanges, full_slot, gives, has_sent, is_gone, is_holder, is_kept, is_late, is_unheld, keeps, kind_of, leaves, locks, posted, posts, puts_back, puts_late, receives, recovers, refuses, releases, sees, sends, settles, unlocks, unlocks_first}
+use Rattle.bb_memory_file_machine.proofs.FileInvariant.{Holds, IsCleared, IsGiven, IsInNoneBefore, Names, PlaceHas, Sound}
+use Rattle.bb_memory_file_machine.proofs.FileKinds.{Kind, addresses, all_flags, all_slots, allocates, anothers, attaches, begins_done, counts, counts_again, detaches, dies, empties, empty_slot, exchanges, full_slot, gives, has_sent, is_gone, is_holder, is_kept, is_late, is_unheld, keeps, kind_of, late_ends, late_finds, late_passes, leaves, locks, posted, posts, puts_back, puts_late, receives, recovers, refuses, releases, sees, sends, settles, unlocks, unlocks_first}
 use Rattle.bb_memory_file_machine.proofs.FileSound.{sound_after}
-use Rattle.bb_memory_file_machine.specs.FileLaws.{Effect, IsFlag, IsHolder, IsIn, IsInSome, IsKnown, IsLock, IsPlace, IsSlot}
+use Rattle.bb_memory_file_machine.specs.FileLaws.{Effect, IsFlag, IsHolder, IsIn, IsInSome, IsLock, IsPlace, IsSlot}
 use Rattle.bb_memory_file_machine.specs.FileLaws as laws
 use Rattle.bb_memory_file_machine.specs.FileMachine.{DetachedBy, Dies, Empty, FileMove, FileScene, FileState, FileStep, FileWords, Flag, Free, HeldBy, Message, Moves, Outside, Place, Receives, Refused, after_slot, change_at, file_after, file_step, left_by, move_at, nobody, opening_state, process_of, with_flag, with_outside}
 use Rattle.bb_memory_lists.proofs.SliceGets.{slice_get-replicated, slice_get-set_same}
-use Rattle.std.proofs.Common.{List, None, Option, Some, [], ap, arith, false, inl, inr, length, refl, subst, suc, sym, zero, ℕ, ◌+◌, ◌<◌, ◌∙◌, ◌∷◌, ◌≡◌, ◌≢◌}
+use Rattle.std.proofs.Common.{List, None, Option, Some, [], ap, arith, inl, inr, length, refl, subst, suc, sym, zero, ℕ, ◌+◌, ◌<◌, ◌∙◌, ◌∷◌, ◌≡◌, ◌≢◌}
 use Rattle.std.proofs.lemmas.Bool.{cond_both}
 use Rattle.std.proofs.lemmas.List.{length-replicate}
 use Rattle.std.specs.Prelude.{nat_lt, replicate, slice_get, ◌⊎◌}
@@ -18,23 +18,28 @@ use Rattle.std.specs.Prelude.{nat_lt, replicate, slice_get, ◌⊎◌}
 pub effect_of : (words : FileWords) (place : Place) (step : FileStep) (move : FileMove) → Kind words place step move →
     PlaceHas words (process_of step) place → Effect words (process_of step) move.outcome move.words
 effect_of words place step move (locks process party free) has = laws.takes_lock party free
+effect_of words place step move (counts process party life more is less) has = laws.counts party life more has is less
+effect_of words place step move (counts_again process party life more is less) (own, given, no_message) =
+    laws.counts party life more own is less
 effect_of words place step move (allocates process party bucket own free) has = laws.takes party bucket own free
 effect_of words place step move (gives process party bucket own held not_in) has = laws.gives_back party bucket own held not_in
 effect_of words place step move (puts_back process party bucket own held known) has =
-    laws.detaches party bucket own held (inl known)
+    laws.detaches party bucket own held known
 effect_of words place step move (detaches process party bucket own held not_in) has =
     laws.detaches_number party bucket own held not_in
 effect_of words place step move (attaches process party bucket from own is) has = laws.attaches_number party bucket from own is
 effect_of words place step move (posts process party slot bucket size own held not_in empty) has =
     laws.fills party slot bucket size own held not_in empty
 effect_of words place step move (exchanges process party slot bucket size from is) has = laws.attaches party bucket from has is
-effect_of words place step move (posted process party bucket) (own, held, known) = laws.detaches party bucket own held (inl known)
-effect_of words place step move (sends process party bucket is) (own, known) = laws.addresses party bucket own is (known is)
-effect_of words place step move (puts_late process party bucket) (own, held, known) = laws.detaches party bucket own held known
+effect_of words place step move (posted process party bucket) (own, held, known) = laws.detaches party bucket own held known
+effect_of words place step move (sends process party bucket is) (own, known, unsent) =
+    laws.addresses party bucket own is (known is)
+effect_of words place step move (puts_late process party bucket from) (own, held, not_in, sent) =
+    laws.puts_back party bucket from own held not_in sent
 effect_of words place step move (empties process party slot bucket) (own, held, (size, is)) =
     laws.empties party slot bucket size own held is
 effect_of words place step move (is_kept process party slot bucket) (has, held) =
-    laws.detaches party bucket has.own held (inl (slot, has.found (inl held)))
+    laws.detaches party bucket has.own held (slot, has.found (inl held))
 effect_of words place step move (addresses process party slot bucket is) (has, unheld) =
     laws.addresses party bucket has.own is (slot, has.found (inr is))
 effect_of words place step move (settles process party bucket held) (own, no_message, given) =
@@ -44,7 +49,7 @@ effect_of words place step move (recovers process party at bucket is) (own, no_m
 effect_of words place step move (unlocks_first process party) (own, cleared) = laws.frees_lock party own
 effect_of words place step move (unlocks process party) (own, given, no_message) = laws.frees_lock party own
 effect_of words place step move (releases process party own) has = laws.frees_lock party own
-effect_of words place step move (receives process party slot bucket size is) has = laws.none (Receives slot) tt
+effect_of words place step move (receives process party slot bucket size from is) has = laws.none (Receives slot) tt
 effect_of words place step move (dies process at) has = laws.none Dies tt
 effect_of words place step move (refuses at taken) has = laws.none Refused tt
 effect_of words place step move _ has = laws.none Moves tt
@@ -53,6 +58,9 @@ effect_of words place step move _ has = laws.none Moves tt
 
 no_slot_before : (words : FileWords) (party : ℕ) → IsCleared words party 0
 no_slot_before words party before bucket less = absurd (omega (arith, less))
+
+in_none_before : (words : FileWords) (bucket : ℕ) → IsInNoneBefore words bucket 0
+in_none_before words bucket before less = absurd (omega (arith, less))
 
 no_bucket_before : (words : FileWords) (party : ℕ) → IsGiven words party 0
 no_bucket_before words party before less = absurd (omega (arith, less))
@@ -134,16 +142,35 @@ unnamed_there words other bucket party unheld undetached same (inr detached) =
 pub place_after : (words : FileWords) (place : Place) (step : FileStep) (move : FileMove) → Kind words place step move →
     Sound words → PlaceHas words (process_of step) place → PlaceHas move.words (process_of step) move.place
 place_after words place step move (locks process party free) sound has =
-    (slice_get-set_same words.locks party (Some process) None free, (λ before bucket less. absurd (omega (arith, less))))
+    slice_get-set_same words.locks party (Some process) None free
+place_after words place step move (counts process party life more is less) sound has = (has, no_slot_before words party)
+place_after words place step move (counts_again process party life more is less) sound has = has
 place_after words place step move (leaves process party own) sound has = (own, no_slot_before words party)
 place_after words place step move (posts process party slot bucket size own held not_in empty) sound has =
     (own, held, (slot, (size, slice_get-set_same words.slots slot (Message bucket size) Empty empty)))
 place_after words place step move (sees process party slot bucket size own is) sound has = own
-place_after words place step move (posted process party bucket) sound (own, held, known) = (own, (λ is. known))
+place_after words place step move (posted process party bucket) sound (own, held, known) =
+    (own, (λ is. known), sound.unsent bucket party known)
 place_after words place step move (exchanges process party slot bucket size from is) sound has =
     (has, slice_get-set_same words.flags bucket (HeldBy party) (DetachedBy from) is, sound.known bucket from is)
 place_after words place step move (begins_done process party slot bucket size own is) sound has = (own, (λ held. (size, is)))
-place_after words place step move (is_late process party slot bucket size) sound has = has
+place_after words place step move (is_late process party slot bucket size from) sound (own, held, known) =
+    (own, held, known, in_none_before words bucket)
+place_after words place step move (late_ends process party bucket from slot end) sound (own, held, known, unseen) =
+    let not_in : ¬ IsInSome words bucket =
+    λ has. unseen has.0 (before_end words.slots slot has.0 (Message bucket has.1.0) end has.1.1) has.1 in
+    (own, held, not_in, (elim known [ inl has ↦ absurd (not_in has) | inr sent ↦ sent ]))
+place_after words place step move (late_finds process party bucket from slot has_it) sound (own, held, known, unseen) =
+    (own, held, (slot, has_it))
+place_after words place step move (late_passes process party bucket from slot not_here) sound (own, held, known, unseen) = (
+  own,
+  held,
+  known,
+  (λ before less has. elim (below_or_at before slot (after_at_most words slot before less)) [
+    | inl earlier ↦ unseen before earlier has
+    | inr same ↦ not_here (has.0, ap (slice_get words.slots) same ∙ has.1)
+  ]),
+)
 place_after words place step move (is_holder process party slot bucket held) sound (own, found) = (own, held, found held)
 place_after words place step move (all_slots process party slot end) sound (own, cleared) = (
   own,
@@ -160,6 +187,7 @@ place_after words place step move (full_slot process party slot bucket size is) 
   cleared = cleared;
   found = λ named. (size, is);
   one = λ other here named. same_message words slot other bucket here (size, is);
+  unsent = sound.unsent bucket party (slot, (size, is));
 }
 place_after words place step move (keeps process party slot bucket held) sound has = (has, held)
 place_after words place step move (has_sent process party slot bucket unheld is) sound has = (has, unheld)
@@ -177,6 +205,7 @@ place_after words place step move (is_kept process party slot bucket) sound (has
         cleared = λ before other less here now. has.cleared before other less here (was other now);
         found = λ now. has.found (inl held);
         one = λ other here now. has.one other here (was other now);
+        unsent = has.unsent;
       },
       (λ now.
           let flag = one_value later.flags bucket (HeldBy party) (DetachedBy party) now
@@ -229,9 +258,9 @@ place_after words place step move (all_flags process party bucket end) sound (ow
   no_message,
 )
 place_after words place step move (recovers process party at bucket is) sound (own, no_message, given) =
-    let later : FileWords = with_flag (with_outside words bucket false) bucket (HeldBy party) in
+    let later : FileWords = with_flag (with_outside words bucket None) bucket (HeldBy party) in
     let was : (other : ℕ) → Names later other party → Names words other party =
-    λ other now. named_still (with_outside words bucket false) bucket party other (DetachedBy party) (HeldBy party) is (inr is) now in (
+    λ other now. named_still (with_outside words bucket None) bucket party other (DetachedBy party) (HeldBy party) is (inr is) now in (
       own,
       (λ slot other has now. no_message slot other has (was other now)),
       no_bucket_before later party,
@@ -280,13 +309,18 @@ pub holds_at_opening : (scene : FileScene) → Holds (opening_state scene)
 holds_at_opening scene =
     let no_message : (slot bucket size : ℕ) → ¬ (slice_get (replicate scene.slots Empty) slot ≡ Some (Message bucket size)) =
     λ slot bucket size is. let same = slice_get-replicated scene.slots slot Empty (Message bucket size) is in absurd (cc) in
+    let none_sent : (bucket party : ℕ) → ¬ (slice_get (replicate {A = Option ℕ} scene.buckets None) bucket ≡ Some (Some party)) =
+    λ bucket party is. let same = slice_get-replicated scene.buckets bucket None (Some party) is in absurd (cc) in
     record {
       sound = record {
-        same_length = length-replicate scene.buckets false ∙ sym (length-replicate scene.buckets Free);
+        same_length = length-replicate {A = Option ℕ} scene.buckets None ∙ sym (length-replicate scene.buckets Free);
+        same_lives = length-replicate scene.parties zero ∙ sym (length-replicate {A = Option ℕ} scene.parties None);
         one_slot = λ bucket slot other has too. absurd (no_message slot bucket has.0 has.1);
         taken = λ bucket slot has. absurd (no_message slot bucket has.0 has.1);
         known = λ bucket party is.
             let same = slice_get-replicated scene.buckets bucket Free (DetachedBy party) is in absurd (cc);
+        unsent = λ bucket party has is. absurd (none_sent bucket party is);
+        senders = λ bucket party is. absurd (none_sent bucket party is);
       };
       each = λ process place is. at_opening (opening_state scene).words process place
           (slice_get-replicated scene.processes process Outside place is);

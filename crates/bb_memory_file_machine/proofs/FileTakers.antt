@@ -1,12 +1,12 @@
 -- A party that says it is done with a message has attached its bucket since the post.
 use Rattle.bb_memory_file_machine.proofs.FileEffects.{one_value, same_holder, same_message, same_process, set_cases}
 use Rattle.bb_memory_file_machine.proofs.FileInvariant.{Holds, Sound}
-use Rattle.bb_memory_file_machine.proofs.FileKinds.{Kind, addresses, all_slots, anothers, dies, empty_slot, full_slot, has_sent, is_gone, is_kept, keeps, kind_of, locks, posted, posts, refuses, releases, unlocks, unlocks_first}
+use Rattle.bb_memory_file_machine.proofs.FileKinds.{Kind, addresses, all_slots, anothers, counts, dies, empty_slot, full_slot, has_sent, is_gone, is_kept, keeps, kind_of, locks, posted, posts, refuses, releases, unlocks, unlocks_first}
 use Rattle.bb_memory_file_machine.proofs.FileSteps.{after_at_most, before_end, effect_of, holds_always, holds_step}
 use Rattle.bb_memory_file_machine.proofs.FileTests.{flag_missing, flag_there}
 use Rattle.bb_memory_file_machine.specs.FileLaws.{Effect, HasAttached, IsFlag, IsHolder, IsIn, IsLock, IsPlace, IsSlot, StaysIn, after_post}
 use Rattle.bb_memory_file_machine.specs.FileLaws as laws
-use Rattle.bb_memory_file_machine.specs.FileMachine.{Addressing, AttachFrom, Checking, Dead, DetachedBy, Empty, Ending, FileChange, FileMove, FileOutcome, FileScene, FileState, FileStep, FileWords, Free, HeldBy, Keeping, Message, OnFlag, OnSlot, Outside, Place, Post, Posting, Slots, after_slot, change_at, change_by, file_after, file_step, is_flag, left_by, move_at, nobody, outcomes_of, process_of}
+use Rattle.bb_memory_file_machine.specs.FileMachine.{Addressing, AttachFrom, Checking, Counting, Dead, DetachedBy, Empty, Ending, FileChange, FileMove, FileOutcome, FileScene, FileState, FileStep, FileWords, Free, HeldBy, Keeping, Message, OnFlag, OnSlot, Outside, Place, Post, Posting, Slots, after_slot, change_at, change_by, file_after, file_step, is_flag, left_by, move_at, nobody, outcomes_of, process_of}
 use Rattle.bb_memory_lists.proofs.ListEntries.{contains-behind, contains-first}
 use Rattle.bb_memory_lists.proofs.SliceGets.{slice_get-set, slice_get-set_apart, slice_get-set_at, slice_get-set_same}
 use Rattle.std.proofs.Common.{List, None, Option, Some, [], ap, arith, inl, inr, refl, subst, sym, ℕ, ◌+◌, ◌<◌, ◌∙◌, ◌∷◌, ◌≡◌, ◌≢◌, ◌≤◌}
@@ -15,10 +15,12 @@ use Rattle.std.specs.Prelude.{slice_get, slice_set, ◌⊎◌}
 
 module _ (party slot bucket size : ℕ) where
   -- A process that has the party's lock, and has come so far, hasn't taken the message: it posts
-  -- it, or it settles the party's number and has come to the slot at most, or it is dead.
+  -- it, or it has just taken the lock, or it settles the party's number and has come to the slot at
+  -- most, or it is dead.
   abbrev IsBefore : Place → Type 0
   IsBefore Dead = Unit {0}
   IsBefore (Posting number at) = (number ≡ party) × (at ≡ bucket)
+  IsBefore (Counting number) = number ≡ party
   IsBefore (Slots number at) = (number ≡ party) × (at ≤ slot)
   IsBefore (Checking number at other) = (number ≡ party) × (at ≤ slot) × (at ≡ slot → other ≡ bucket)
   IsBefore (Keeping number at other) = (number ≡ party) × (at ≤ slot) × (at ≡ slot → other ≡ bucket)
@@ -43,7 +45,7 @@ module _ (party slot bucket size : ℕ) where
       ]
 
   -- nobody has a lock that was freed
-  number_unlocked : (words : FileWords) (number process : ℕ) → IsLock words party process → number ≡ party →
+  pub number_unlocked : (words : FileWords) (number process : ℕ) → IsLock words party process → number ≡ party →
       ¬ (slice_get (slice_set words.locks number None) party ≡ Some (Some process))
   number_unlocked words number process lock same now =
       let freed = slice_get-set_at words.locks number party None (Some process) same
@@ -57,10 +59,11 @@ module _ (party slot bucket size : ℕ) where
       IsHolder words bucket party → IsHolder move.words bucket party → IsSlot words slot (Message bucket size) →
       IsBefore move.place
   own_before words place step move (locks process number free) was lock held now is = elim (cases_eq number party) [
-    | inl same ↦ (same, omega arith)
+    | inl same ↦ same
     | inr apart ↦
         let before = sym (slice_get-set_apart words.locks number party (Some process) apart) ∙ lock in absurd (was before)
   ]
+  own_before words place step move (counts process number life more there less) was lock held now is = (was lock, omega arith)
   own_before words place step move (unlocks_first process number) was lock held now is =
       elim (slice_get-set words.locks number party None (Some process) lock) [
         | inl before ↦ let own = was before in absurd (number_unlocked words number process before own.0 lock)
@@ -165,6 +168,11 @@ module _ (party slot bucket size : ℕ) where
         | inl before ↦ inl before.1
         | inr this ↦ let flags = this.1 in absurd (cc)
       ]
+  held_or_attaches words later process outcome (laws.puts_back number at from own held not_in sent) sound is now =
+      elim (set_cases words.flags at bucket (DetachedBy from) (HeldBy number) (HeldBy party) held now) [
+        | inl before ↦ inl before.1
+        | inr this ↦ let flags = this.1 in absurd (cc)
+      ]
   held_or_attaches words later process outcome (laws.addresses number at own there has) sound is now =
       elim (set_cases words.flags at bucket (DetachedBy (nobody words)) (DetachedBy number) (HeldBy party) there now) [
         | inl before ↦ inl before.1
@@ -183,7 +191,7 @@ module _ (party slot bucket size : ℕ) where
   held_or_attaches words later process outcome _ sound is now = inl now
 
   -- another process that has a lock after an effect had it before
-  lock_before : (words later : FileWords) (process other : ℕ) (outcome : FileOutcome) → Effect words process outcome later →
+  pub lock_before : (words later : FileWords) (process other : ℕ) (outcome : FileOutcome) → Effect words process outcome later →
       process ≢ other → IsLock later party other → IsLock words party other
   lock_before words later process other outcome (laws.takes_lock number free) apart lock =
       elim (set_cases words.locks number party (Some process) None (Some other) free lock) [

@@ -1,9 +1,9 @@
 -- The machine's tests, and what they find.
 use Rattle.bb_memory_file_machine.specs.FileLaws.{IsFlag, IsInSome, IsLock, IsSlot}
-use Rattle.bb_memory_file_machine.specs.FileMachine.{DetachedBy, Empty, FileWords, Flag, Free, HeldBy, Message, Slot, finds_flag, finds_free, finds_own, finds_slot, has_bucket, is_flag, is_own, is_slot, same_flag, same_slot, some_has}
+use Rattle.bb_memory_file_machine.specs.FileMachine.{DetachedBy, Empty, FileWords, Flag, Free, HeldBy, Message, Slot, finds_flag, finds_free, finds_less, finds_own, finds_slot, has_bucket, is_flag, is_own, is_slot, same_flag, same_slot, some_has}
 use Rattle.bb_memory_pool_machine.proofs.PoolSteps.{test_same}
-use Rattle.std.proofs.Common.{Bool, List, None, Option, Some, [], ap, false, refl, suc, true, zero, ℕ, ◌∙◌, ◌∷◌, ◌≡◌}
-use Rattle.std.proofs.lemmas.Bool.{eqb-true}
+use Rattle.std.proofs.Common.{Bool, List, None, Option, Some, [], ap, false, refl, suc, true, zero, ℕ, ◌<◌, ◌∙◌, ◌∷◌, ◌≡◌}
+use Rattle.std.proofs.lemmas.Bool.{eqb-true, ltb-true}
 use Rattle.std.specs.Prelude.{if◌then◌else◌, slice_get, ◌==◌}
 
 -- FLAGS
@@ -57,7 +57,7 @@ slot_there words slot word e = slot_found word (slice_get words.slots slot) e
 
 -- which slots have a bucket
 
-has_own : (bucket : ℕ) (word : Slot) → has_bucket bucket word ≡ true → (length : ℕ) × (word ≡ Message bucket length)
+pub has_own : (bucket : ℕ) (word : Slot) → has_bucket bucket word ≡ true → (length : ℕ) × (word ≡ Message bucket length)
 has_own bucket Empty e = absurd (cc)
 has_own bucket (Message other length) e = (length, ap (λ (b : ℕ). Message b length) (eqb-true other bucket e))
 
@@ -109,6 +109,14 @@ pub free_found : (found : Option (Option ℕ)) → finds_free found ≡ true →
 free_found None e = absurd (cc)
 free_found (Some None) e = refl
 free_found (Some (Some process)) e = absurd (cc)
+
+-- LIVES
+
+pub less_found : (life : ℕ) (found : Option ℕ) → finds_less life found ≡ true → (old : ℕ) × (found ≡ Some old) × (old < life)
+less_found life None e = absurd (cc)
+less_found life (Some old) e = (old, refl, ltb-true old life e)
+
+-- OWN LOCKS
 
 own_found : (process : ℕ) (found : Option (Option ℕ)) → finds_own process found ≡ true → found ≡ Some (Some process)
 own_found process None e = absurd (cc)

@@ -2,6 +2,7 @@ pub mod FileCounterexamples
 pub mod FileEffects
 pub mod FileInvariant
 pub mod FileKinds
+pub mod FileLives
 pub mod FilePools
 pub mod FileSettles
 pub mod FileSound

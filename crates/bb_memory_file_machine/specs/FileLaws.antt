@@ -1,6 +1,6 @@
 -- The terms of the theorem about the words of a pool in a file, and about its processes.
-use Rattle.bb_memory_file_machine.specs.FileMachine.{Addresses, Addressing, AttachFrom, AttachNumber, Attached, Checking, Dead, Detach, DetachedBy, Empty, Ending, FileOutcome, FileScene, FileState, FileStep, FileWords, Finding, Flag, Flags, Free, GiveBack, HeldBy, Keeping, Late, Message, Next, OnFlag, OnLock, OnSlot, Place, Posting, Recover, Seen, Sent, Settled, Slot, Slots, TryAt, file_after, file_step, left_by, nobody, process_of, with_flag, with_lock, with_outside, with_slot}
-use Rattle.std.specs.Prelude.{Contains, List, None, Option, Some, [], false, replicate, slice_get, true, ℕ, ◌∷◌, ◌≡◌, ◌⊎◌}
+use Rattle.bb_memory_file_machine.specs.FileMachine.{Addresses, Addressing, AttachFrom, AttachNumber, Attached, Checking, Count, Counting, Dead, Detach, DetachedBy, Empty, Ending, FileOutcome, FileScene, FileState, FileStep, FileWords, Finding, Flag, Flags, Free, GiveBack, HeldBy, Keeping, Late, Message, Next, OnFlag, OnLife, OnLock, OnSlot, Place, Posting, PutsBack, Recover, Returning, Seen, Sent, Settled, Slot, Slots, TryAt, file_after, file_step, left_by, nobody, process_of, with_flag, with_life, with_lock, with_outside, with_slot}
+use Rattle.std.specs.Prelude.{Contains, List, None, Option, Some, [], replicate, slice_get, ℕ, ◌<◌, ◌∷◌, ◌≡◌, ◌≢◌, ◌⊎◌}
 
 -- there is such a bucket, and its flag is this one
 abbrev pub IsFlag : FileWords → ℕ → Flag → Type 0
@@ -14,6 +14,10 @@ IsSlot words slot word = slice_get words.slots slot ≡ Some word
 abbrev pub IsLock : FileWords → ℕ → ℕ → Type 0
 IsLock words party process = slice_get words.locks party ≡ Some (Some process)
 
+-- there is such a number, and this is its life
+abbrev pub IsLife : FileWords → ℕ → ℕ → Type 0
+IsLife words party life = slice_get words.lives party ≡ Some life
+
 -- the party holds the bucket
 abbrev pub IsHolder : FileWords → ℕ → ℕ → Type 0
 IsHolder words bucket party = IsFlag words bucket (HeldBy party)
@@ -26,9 +30,13 @@ IsIn words bucket slot = (length : ℕ) × IsSlot words slot (Message bucket len
 abbrev pub IsInSome : FileWords → ℕ → Type 0
 IsInSome words bucket = (slot : ℕ) × IsIn words bucket slot
 
+-- the party has sent this bucket's number through a channel outside the file
+abbrev pub IsSentBy : FileWords → ℕ → ℕ → Type 0
+IsSentBy words bucket party = slice_get words.outside bucket ≡ Some (Some party)
+
 -- a channel outside the file knows this bucket's number
 abbrev pub IsOutside : FileWords → ℕ → Type 0
-IsOutside words bucket = slice_get words.outside bucket ≡ Some true
+IsOutside words bucket = (party : ℕ) × IsSentBy words bucket party
 
 -- some slot or a channel outside the file knows this bucket's number
 abbrev pub IsKnown : FileWords → ℕ → Type 0
@@ -43,10 +51,12 @@ abbrev pub number_of : Place → Option ℕ
 number_of (Posting party bucket) = Some party
 number_of (Sent party bucket) = Some party
 number_of (Seen party slot bucket length) = Some party
-number_of (Attached party slot bucket length) = Some party
-number_of (Late party bucket) = Some party
+number_of (Attached party slot bucket length from) = Some party
+number_of (Late party bucket from slot) = Some party
+number_of (Returning party bucket from) = Some party
 number_of (Finding party slot bucket) = Some party
 number_of (Ending party slot bucket) = Some party
+number_of (Counting party) = Some party
 number_of (Slots party slot) = Some party
 number_of (Checking party slot bucket) = Some party
 number_of (Keeping party slot bucket) = Some party
@@ -61,13 +71,16 @@ number_of _ = None
 abbrev pub ChangesNone : FileOutcome → Type 0
 ChangesNone (OnFlag step) = ⊥
 ChangesNone (Addresses bucket from to) = ⊥
+ChangesNone (PutsBack bucket party from) = ⊥
 ChangesNone (OnSlot slot) = ⊥
 ChangesNone (OnLock party) = ⊥
+ChangesNone (OnLife party) = ⊥
 ChangesNone _ = Unit {0}
 
 -- The effect of a step of this process on the words and locks is one of these. Each changes at most
--- one flag, slot or lock; one that changes a flag may also change whether a channel outside knows
--- the bucket's number. A process steps on flags and slots only by a number whose lock it has.
+-- one flag, slot, lock or life; one that changes a flag or fills a slot may also change whether a
+-- channel outside knows the bucket's number. A process steps on flags, slots and lives only by a
+-- number whose lock it has.
 pub data Effect (words : FileWords) (process : ℕ) : FileOutcome → FileWords → Type 0 where
   -- no word and no lock changes
   none : (outcome : FileOutcome) → ChangesNone outcome → Effect words process outcome words
@@ -76,6 +89,9 @@ pub data Effect (words : FileWords) (process : ℕ) : FileOutcome → FileWords 
       Effect words process (OnLock party) (with_lock words party (Some process))
   -- a lock of the process becomes free
   frees_lock : (party : ℕ) → IsLock words party process → Effect words process (OnLock party) (with_lock words party None)
+  -- the life of a number whose lock the process has becomes greater
+  counts : (party life more : ℕ) → IsLock words party process → IsLife words party life → life < more →
+      Effect words process (OnLife party) (with_life words party more)
   -- the party takes a free bucket
   takes : (party bucket : ℕ) → IsLock words party process → IsFlag words bucket Free →
       Effect words process (OnFlag (TryAt party bucket)) (with_flag words bucket (HeldBy party))
@@ -83,12 +99,16 @@ pub data Effect (words : FileWords) (process : ℕ) : FileOutcome → FileWords 
   -- number
   gives_back : (party bucket : ℕ) → IsLock words party process → IsHolder words bucket party → ¬ IsInSome words bucket →
       Effect words process (OnFlag (GiveBack party bucket)) (with_flag words bucket Free)
-  -- the party's bucket is detached, and its number is known
-  detaches : (party bucket : ℕ) → IsLock words party process → IsHolder words bucket party → IsKnown words bucket →
+  -- the party's bucket, which some slot has, is detached
+  detaches : (party bucket : ℕ) → IsLock words party process → IsHolder words bucket party → IsInSome words bucket →
       Effect words process (OnFlag (Detach party bucket)) (with_flag words bucket (DetachedBy party))
   -- the party's bucket is detached, and a channel outside knows its number from now on
   detaches_number : (party bucket : ℕ) → IsLock words party process → IsHolder words bucket party → ¬ IsInSome words bucket →
-      Effect words process (OnFlag (Detach party bucket)) (with_flag (with_outside words bucket true) bucket (DetachedBy party))
+      Effect words process (OnFlag (Detach party bucket)) (with_flag (with_outside words bucket (Some party)) bucket (DetachedBy party))
+  -- the party's bucket, which is in no slot, is detached by the party that has sent its number, as
+  -- a take found it that came too late
+  puts_back : (party bucket from : ℕ) → IsLock words party process → IsHolder words bucket party → ¬ IsInSome words bucket →
+      IsSentBy words bucket from → Effect words process (PutsBack bucket party from) (with_flag words bucket (DetachedBy from))
   -- the party addresses a bucket that it has detached, and that some slot has, to the number that
   -- nobody joins
   addresses : (party bucket : ℕ) → IsLock words party process → IsFlag words bucket (DetachedBy party) → IsInSome words bucket →
@@ -100,10 +120,12 @@ pub data Effect (words : FileWords) (process : ℕ) : FileOutcome → FileWords 
   -- more: as an attach by number does, or a settler
   attaches_number : (party bucket from : ℕ) → IsLock words party process → IsFlag words bucket (DetachedBy from) →
       Effect words process (OnFlag (AttachFrom party bucket from))
-      (with_flag (with_outside words bucket false) bucket (HeldBy party))
-  -- the party fills an empty slot with a bucket that it holds, and that is in no slot
+      (with_flag (with_outside words bucket None) bucket (HeldBy party))
+  -- the party fills an empty slot with a bucket that it holds, and that is in no slot; no channel
+  -- outside counts as knowing its number any more
   fills : (party slot bucket size : ℕ) → IsLock words party process → IsHolder words bucket party → ¬ IsInSome words bucket →
-      IsSlot words slot Empty → Effect words process (OnSlot slot) (with_slot words slot (Message bucket size))
+      IsSlot words slot Empty → Effect words process (OnSlot slot)
+      (with_slot (with_outside words bucket None) slot (Message bucket size))
   -- the party empties a slot whose bucket it holds
   empties : (party slot bucket size : ℕ) → IsLock words party process → IsHolder words bucket party →
       IsSlot words slot (Message bucket size) → Effect words process (OnSlot slot) (with_slot words slot Empty)
@@ -173,6 +195,23 @@ IsSettling state process party = (place : Place) × IsPlace state process place 
 abbrev pub CanSettle : FileState → ℕ → ℕ → Type 0
 CanSettle state process party =
     (steps : ℕ) × IsPlace (file_after state (replicate steps (Next process))) process (Settled party)
+
+-- by counting a life of the number, the process begins to settle the number
+abbrev pub CanCount : FileState → ℕ → ℕ → Type 0
+CanCount state process party =
+    (life : ℕ) × IsPlace (file_step state (Count process life)).state process (Slots party 0)
+
+-- LIVES
+
+-- The process has the number with this life: it has the number's lock, isn't dead, and has counted
+-- since it took the lock.
+pub record HasCounted (state : FileState) (process party life : ℕ) : Type 0 where
+  pub lock : IsLock state.words party process
+  pub has_life : IsLife state.words party life
+  pub place : Place
+  pub there : IsPlace state process place
+  pub living : place ≢ Dead
+  pub counted : place ≢ Counting party
 
 -- NUMBERS
 

@@ -1,11 +1,11 @@
 -- The machine of a pool in a file: what any number of processes do to the words and locks of the
 -- file, one atomic step at a time. Processes, party numbers, buckets and slots are numbered from 0.
 pub use Rattle.bb_memory_file_machine.specs.declared.steps.file.FileOutcome.{FileOutcome}
-pub use Rattle.bb_memory_file_machine.specs.declared.steps.file.FileOutcome.TheVariants.{Addresses, Dies, Moves, OnFlag, OnLock, OnSlot, Receives, Refused}
+pub use Rattle.bb_memory_file_machine.specs.declared.steps.file.FileOutcome.TheVariants.{Addresses, Dies, Moves, OnFlag, OnLife, OnLock, OnSlot, PutsBack, Receives, Refused}
 pub use Rattle.bb_memory_file_machine.specs.declared.steps.file.FileStep.{FileStep}
-pub use Rattle.bb_memory_file_machine.specs.declared.steps.file.FileStep.TheVariants.{Allocate, AttachNumber, Deallocate, DetachNumber, Done, Exchange, Kill, Leave, Lock, Next, Post, Recover, Release, Take, Unlock}
+pub use Rattle.bb_memory_file_machine.specs.declared.steps.file.FileStep.TheVariants.{Allocate, AttachNumber, Count, Deallocate, DetachNumber, Done, Exchange, Kill, Leave, Lock, Next, Post, Recover, Release, Take, Unlock}
 pub use Rattle.bb_memory_file_machine.specs.declared.steps.file.Place.{Place}
-pub use Rattle.bb_memory_file_machine.specs.declared.steps.file.Place.TheVariants.{Addressing, Attached, Checking, Dead, Ending, Finding, Flags, Keeping, Late, Outside, Posting, Seen, Sent, Settled, Slots}
+pub use Rattle.bb_memory_file_machine.specs.declared.steps.file.Place.TheVariants.{Addressing, Attached, Checking, Counting, Dead, Ending, Finding, Flags, Keeping, Late, Outside, Posting, Returning, Seen, Sent, Settled, Slots}
 pub use Rattle.bb_memory_file_machine.specs.declared.steps.file.Slot.{Slot}
 pub use Rattle.bb_memory_file_machine.specs.declared.steps.file.Slot.TheVariants.{Empty, Message}
 pub use Rattle.bb_memory_pool_machine.specs.declared.steps.pool.Flag.{Flag}
@@ -16,15 +16,17 @@ use Rattle.std.specs.Prelude.{Bool, List, None, Option, Some, [], false, if◌th
 
 -- WORDS
 
--- The words and locks of the file: the flag of each bucket, the word of each slot, and the lock of
--- each party number, which is free or some process's. `outside` isn't in the file: it says for each
--- bucket whether a channel outside the file knows the bucket's number. A detach by number sets
--- that, and an attach by number or a settler's recovery clears it.
+-- The words and locks of the file: the flag of each bucket, the word of each slot, and of each party
+-- number the life and the lock, which is free or some process's. `outside` isn't in the file: it
+-- says for each bucket which party has sent the bucket's number through a channel outside the file,
+-- or None if no such channel knows the number. A detach by number sets that. An attach by number, a
+-- settler's recovery, or a post clears it.
 pub record FileWords : Type 0 where
   pub flags : List Flag
   pub slots : List Slot
+  pub lives : List ℕ
   pub locks : List (Option ℕ)
-  pub outside : List Bool
+  pub outside : List (Option ℕ)
 
 -- the state of a machine: the words, and the progress of each process in its current call
 pub record FileState : Type 0 where
@@ -38,15 +40,16 @@ pub record FileScene : Type 0 where
   pub parties : ℕ
   pub processes : ℕ
 
--- the state in which a machine begins: all flags and locks are free, all slots empty, and no
--- process is in a call
+-- the state in which a machine begins: all flags and locks are free, all slots empty, all lives 0,
+-- and no process is in a call
 abbrev pub opening_state : FileScene → FileState
 opening_state scene = record {
   words = record {
     flags = replicate scene.buckets Free;
     slots = replicate scene.slots Empty;
+    lives = replicate scene.parties 0;
     locks = replicate scene.parties None;
-    outside = replicate scene.buckets false;
+    outside = replicate scene.buckets None;
   };
   places = replicate scene.processes Outside;
 }
@@ -63,9 +66,13 @@ with_slot words slot word = record words { slots = slice_set words.slots slot wo
 abbrev pub with_lock : FileWords → ℕ → Option ℕ → FileWords
 with_lock words party lock = record words { locks = slice_set words.locks party lock }
 
--- the words in which `known` says whether a channel outside knows this bucket's number
-abbrev pub with_outside : FileWords → ℕ → Bool → FileWords
-with_outside words bucket known = record words { outside = slice_set words.outside bucket known }
+-- the words in which this number's life is replaced
+abbrev pub with_life : FileWords → ℕ → ℕ → FileWords
+with_life words party life = record words { lives = slice_set words.lives party life }
+
+-- the words in which `sender` says who has sent this bucket's number through a channel outside
+abbrev pub with_outside : FileWords → ℕ → Option ℕ → FileWords
+with_outside words bucket sender = record words { outside = slice_set words.outside bucket sender }
 
 -- the number after the parties' numbers, which nobody joins
 abbrev pub nobody : FileWords → ℕ
@@ -128,6 +135,11 @@ finds_own process _ = false
 abbrev pub is_own : FileWords → ℕ → ℕ → Bool
 is_own words process party = finds_own process (slice_get words.locks party)
 
+-- the life that was found is less than this one
+abbrev pub finds_less : ℕ → Option ℕ → Bool
+finds_less life (Some found) = nat_lt found life
+finds_less life None = false
+
 -- the process may begin a call by this number: it is in no call, and has the lock
 abbrev pub may_call : FileWords → ℕ → Place → ℕ → Bool
 may_call words process Outside party = is_own words process party
@@ -171,15 +183,33 @@ attaching words party bucket from next =
 abbrev pub giving_back : FileWords → ℕ → ℕ → Place → FileMove
 giving_back words party bucket next = move_of (OnFlag (GiveBack party bucket)) (with_flag words bucket Free) next
 
--- a process takes the lock of a number, and begins to settle the number: `bb_pool_file_join` and
--- `bb_pool_file_reap`
+-- a party puts back the flag of a bucket that it holds: detached by the party `from`
+abbrev pub putting_back : FileWords → ℕ → ℕ → ℕ → Place → FileMove
+putting_back words party bucket from next = move_of (PutsBack bucket party from) (with_flag words bucket (DetachedBy from)) next
+
+-- a process takes the lock of a number: `bb_pool_file_join` and `bb_pool_file_reap`
 abbrev pub lock : FileWords → ℕ → Place → ℕ → FileMove
 lock words process Outside party =
-    if finds_free (slice_get words.locks party) then move_of (OnLock party) (with_lock words party (Some process)) (Slots party 0)
+    if finds_free (slice_get words.locks party) then move_of (OnLock party) (with_lock words party (Some process)) (Counting party)
     else refused words Outside
 lock words process place party = refused words place
 
--- a process begins to settle a number whose lock it has: `bb_pool_file_leave`
+-- a process at this place makes the number's life greater, and goes on there
+abbrev pub counting : FileWords → ℕ → ℕ → Place → Place → FileMove
+counting words party life place next =
+    if finds_less life (slice_get words.lives party) then move_of (OnLife party) (with_life words party life) next
+    else refused words place
+
+-- A process counts a life of the number whose lock it has taken, and then settles the number:
+-- `bb_pool_file_join` and `bb_pool_file_reap`. A process that has settled a number may count once
+-- more: `bb_pool_file_leave`.
+abbrev pub count : FileWords → Place → ℕ → FileMove
+count words (Counting party) life = counting words party life (Counting party) (Slots party 0)
+count words (Settled party) life = counting words party life (Settled party) (Settled party)
+count words place life = refused words place
+
+-- a process begins to settle a number whose lock it has: `bb_pool_file_leave` and
+-- `bb_pool_file_give_all_back`
 abbrev pub leave : FileWords → ℕ → Place → ℕ → FileMove
 leave words process place party =
     if may_call words process place party then move_of Moves words (Slots party 0) else refused words place
@@ -206,7 +236,7 @@ abbrev pub detach_number : FileWords → ℕ → Place → ℕ → ℕ → FileM
 detach_number words process place party bucket =
     if may_call words process place party then (if is_flag words bucket (HeldBy party)
     then (if some_has bucket words.slots then detaching words party bucket Outside
-    else detaching (with_outside words bucket true) party bucket Outside)
+    else detaching (with_outside words bucket (Some party)) party bucket Outside)
     else refused words place) else refused words place
 
 -- a party attaches, by its number, a bucket that the party `from` has detached:
@@ -214,18 +244,18 @@ detach_number words process place party bucket =
 abbrev pub attach_number : FileWords → ℕ → Place → ℕ → ℕ → ℕ → FileMove
 attach_number words process place party bucket from =
     if may_call words process place party then (if is_flag words bucket (DetachedBy from)
-    then attaching (with_outside words bucket false) party bucket from Outside
+    then attaching (with_outside words bucket None) party bucket from Outside
     else refused words place) else refused words place
 
 -- A party fills an empty slot with a bucket that it holds, and that is in no slot:
--- `bb_pool_file_post`. The look at all slots is part of this one step, since it models a duty of the
--- host.
+-- `bb_pool_file_post`. From now on the slot has the bucket's number, and no channel outside. The
+-- look at all slots is part of this one step, since it models a duty of the host.
 abbrev pub post : FileWords → ℕ → Place → ℕ → ℕ → ℕ → ℕ → FileMove
 post words process place party slot bucket length =
     if may_call words process place party then (if is_flag words bucket (HeldBy party)
     then (if some_has bucket words.slots then refused words place
     else (if is_slot words slot Empty
-    then move_of (OnSlot slot) (with_slot words slot (Message bucket length)) (Posting party bucket)
+    then move_of (OnSlot slot) (with_slot (with_outside words bucket None) slot (Message bucket length)) (Posting party bucket)
     else refused words place))
     else refused words place) else refused words place
 
@@ -242,7 +272,7 @@ begin_take words process place party slot =
 -- in a take the process attaches the bucket that it has seen
 abbrev pub exchange : FileWords → Place → ℕ → FileMove
 exchange words (Seen party slot bucket length) from =
-    if is_flag words bucket (DetachedBy from) then attaching words party bucket from (Attached party slot bucket length)
+    if is_flag words bucket (DetachedBy from) then attaching words party bucket from (Attached party slot bucket length from)
     else refused words (Seen party slot bucket length)
 exchange words place from = refused words place
 
@@ -261,13 +291,20 @@ begin_done words process place party slot =
 abbrev pub recover : FileWords → Place → ℕ → FileMove
 recover words (Flags party next) bucket =
     if is_flag words bucket (DetachedBy party)
-    then attaching (with_outside words bucket false) party bucket party (Flags party 0)
+    then attaching (with_outside words bucket None) party bucket party (Flags party 0)
     else refused words (Flags party next)
 recover words place bucket = refused words place
 
 -- the slot after this one, at which a settler looks next
 abbrev pub after_slot : FileWords → ℕ → ℕ
 after_slot words slot = if nat_lt slot (length words.slots) then slot + 1 else slot
+
+-- a take that is late has found this word in a slot, or has been over all slots
+abbrev pub late_slot : FileWords → ℕ → ℕ → ℕ → ℕ → Option Slot → FileMove
+late_slot words party bucket from slot None = move_of Moves words (Returning party bucket from)
+late_slot words party bucket from slot (Some word) =
+    if has_bucket bucket word then move_of Moves words (Posting party bucket)
+    else move_of Moves words (Late party bucket from (after_slot words slot))
 
 -- a settler has found this word in a slot, or has been over all slots
 abbrev pub settle_slot : FileWords → ℕ → ℕ → Option Slot → FileMove
@@ -289,21 +326,24 @@ settle_message words party slot bucket =
     else move_of Moves words (Slots party (after_slot words slot)))
 
 -- The next step of the call that the process is in. `Posting` and `Sent` are places in
--- `bb_pool_file_post`; `Seen`, `Attached` and `Late` in `bb_pool_file_take`; `Finding` and `Ending` in
--- `bb_pool_file_done`. The others are places of a settler, in `settle` of `bb_pool_file.c`.
+-- `bb_pool_file_post` and in `bb_pool_file_take`; `Seen`, `Attached`, `Late` and `Returning` in
+-- `bb_pool_file_take`; `Finding` and `Ending` in `bb_pool_file_done`. The others are places of a
+-- settler, in `settle` of `bb_pool_file.c`. A process at `Counting` takes no next step: it counts.
 abbrev pub next : FileWords → Place → FileMove
 next words Outside = refused words Outside
 next words Dead = refused words Dead
 next words (Posting party bucket) = detaching words party bucket (Sent party bucket)
 next words (Sent party bucket) = addressing words party bucket Outside
 next words (Seen party slot bucket length) = move_of Moves words Outside
-next words (Attached party slot bucket length) =
+next words (Attached party slot bucket length from) =
     if is_slot words slot (Message bucket length) then move_of (Receives slot) words Outside
-    else move_of Moves words (Late party bucket)
-next words (Late party bucket) = detaching words party bucket Outside
+    else move_of Moves words (Late party bucket from 0)
+next words (Late party bucket from slot) = late_slot words party bucket from slot (slice_get words.slots slot)
+next words (Returning party bucket from) = putting_back words party bucket from Outside
 next words (Finding party slot bucket) =
     if is_flag words bucket (HeldBy party) then move_of Moves words (Ending party slot bucket) else move_of Moves words Outside
 next words (Ending party slot bucket) = move_of (OnSlot slot) (with_slot words slot Empty) Outside
+next words (Counting party) = refused words (Counting party)
 next words (Slots party slot) = settle_slot words party slot (slice_get words.slots slot)
 next words (Checking party slot bucket) = settle_message words party slot bucket
 next words (Keeping party slot bucket) = detaching words party bucket (Addressing party slot bucket)
@@ -334,6 +374,7 @@ release words process place party = refused words place
 -- the process that takes a step
 abbrev pub process_of : FileStep → ℕ
 process_of (Lock process party) = process
+process_of (Count process life) = process
 process_of (Leave process party) = process
 process_of (Allocate process party bucket) = process
 process_of (Deallocate process party bucket) = process
@@ -352,6 +393,7 @@ process_of (Release process party) = process
 -- the move that a step makes if its process is at this place
 abbrev pub move_at : FileWords → Place → FileStep → FileMove
 move_at words place (Lock process party) = lock words process place party
+move_at words place (Count process life) = count words place life
 move_at words place (Leave process party) = leave words process place party
 move_at words place (Allocate process party bucket) = allocate words process place party bucket
 move_at words place (Deallocate process party bucket) = deallocate words process place party bucket

@@ -1,6 +1,6 @@
 -- The flags of a pool in a file are those of a shared pool, whose parties are the file's numbers.
 use Rattle.bb_memory_file_machine.specs.FileLaws.{IsFlag, IsHolder}
-use Rattle.bb_memory_file_machine.specs.FileMachine.{Addresses, AttachFrom, Detach, DetachedBy, FileOutcome, FileScene, FileStep, FileWords, OnFlag, PoolStep, left_by, opening_state, outcomes_of}
+use Rattle.bb_memory_file_machine.specs.FileMachine.{Addresses, AttachFrom, Detach, DetachedBy, FileOutcome, FileScene, FileStep, FileWords, OnFlag, PoolStep, PutsBack, left_by, opening_state, outcomes_of}
 use Rattle.bb_memory_pool_machine.specs.PoolLogs.{AllAllowed, history_of}
 use Rattle.bb_memory_pool_machine.specs.PoolMachine.{PoolScene}
 use Rattle.bb_memory_pool_machine.specs.PoolMachine as pools
@@ -9,10 +9,13 @@ use Rattle.std.specs.Prelude.{List, [], ℕ, ◌+◌, ◌∷◌, ◌≡◌, ◌�
 
 -- The steps on flags among these outcomes, in order. What a settler gives back is a return by the
 -- settled number. A bucket that is addressed to a number is attached and detached by that number.
+-- So is a bucket that a take puts back as it was found.
 abbrev pub flag_steps_in : List FileOutcome → List PoolStep
 flag_steps_in [] = []
 flag_steps_in (OnFlag step ∷ outcomes) = step ∷ flag_steps_in outcomes
 flag_steps_in (Addresses bucket from to ∷ outcomes) = AttachFrom to bucket from ∷ Detach to bucket ∷ flag_steps_in outcomes
+flag_steps_in (PutsBack bucket party from ∷ outcomes) =
+    Detach party bucket ∷ AttachFrom from bucket party ∷ Detach from bucket ∷ flag_steps_in outcomes
 flag_steps_in (_ ∷ outcomes) = flag_steps_in outcomes
 
 -- the steps on flags that these steps from the opening take

@@ -1,6 +1,6 @@
 -- Protocols that differ from the machine's at one step, and what goes wrong with each.
-use Rattle.bb_memory_file_machine.specs.FileLaws.{IsFlag, IsHolder, IsInCallBy, IsInSome, IsKnown, IsLock, IsSlot}
-use Rattle.bb_memory_file_machine.specs.FileMachine.{Addressing, Attached, Dead, DetachedBy, Empty, FileChange, FileMove, FileOutcome, FileScene, FileState, FileStep, FileWords, Flag, Flags, Free, Leave, Lock, Moves, Next, OnLock, OnSlot, Outside, Place, Post, Receives, Recover, Refused, Slots, after_slot, attaching, change_by, detaching, finds_free, may_call, move_at, move_of, opening_state, post, process_of, with_lock, with_outside}
+use Rattle.bb_memory_file_machine.specs.FileLaws.{HasCounted, IsAlive, IsFlag, IsHolder, IsInCallBy, IsInSome, IsKnown, IsLock, IsSentBy, IsSlot}
+use Rattle.bb_memory_file_machine.specs.FileMachine.{Addressing, AttachFrom, Attached, Dead, DetachedBy, Empty, FileChange, FileMove, FileOutcome, FileScene, FileState, FileStep, FileWords, Flag, Flags, Free, Late, Leave, Lock, Moves, Next, OnFlag, OnLock, OnSlot, Outside, Place, Post, Receives, Recover, Refused, Returning, Slots, after_slot, attaching, change_by, detaching, finds_free, may_call, move_at, move_of, opening_state, post, process_of, putting_back, with_lock, with_outside}
 use Rattle.std.specs.Prelude.{Bool, List, None, Option, Some, [], false, if◌then◌else◌, slice_get, true, ℕ, ◌∷◌, ◌≡◌, ◌≢◌}
 
 -- a protocol: its move at each step at which it differs from the machine, and None at all other
@@ -17,7 +17,7 @@ fills_slot outcome = false
 -- bucket is detached
 abbrev pub attach_any : FileWords → ℕ → ℕ → Option Flag → Option FileMove
 attach_any words party bucket (Some (DetachedBy from)) =
-    Some (attaching (with_outside words bucket false) party bucket from (Flags party 0))
+    Some (attaching (with_outside words bucket None) party bucket from (Flags party 0))
 attach_any words party bucket _ = None
 
 -- a settler that has been over all slots attaches a detached bucket, whoever has detached it
@@ -27,7 +27,7 @@ attach_from_any words place step = None
 
 -- a take doesn't look at its slot again
 abbrev pub no_second_look : Variant
-no_second_look words (Attached party slot bucket size) (Next process) = Some (move_of (Receives slot) words Outside)
+no_second_look words (Attached party slot bucket size from) (Next process) = Some (move_of (Receives slot) words Outside)
 no_second_look words place step = None
 
 -- a settler doesn't go over the slots
@@ -58,6 +58,23 @@ abbrev pub reaps_the_living : Variant
 reaps_the_living words Outside (Lock process party) =
     if finds_free (slice_get words.locks party) then None else Some (move_of Moves words (Slots party 0))
 reaps_the_living words place step = None
+
+-- a take that is late, and has found the bucket in no slot, leaves its own name in the flag
+abbrev pub late_take_keeps_name : Variant
+late_take_keeps_name words (Returning party bucket from) (Next process) = Some (detaching words party bucket Outside)
+late_take_keeps_name words place step = None
+
+-- a take that is late puts the flag back as it found it, without a look at the slots
+abbrev pub late_take_looks_not : Variant
+late_take_looks_not words (Late party bucket from slot) (Next process) = Some (putting_back words party bucket from Outside)
+late_take_looks_not words place step = None
+
+-- a process that has taken a number's lock settles the number without counting a life
+abbrev pub join_counts_not : Variant
+join_counts_not words Outside (Lock process party) =
+    if finds_free (slice_get words.locks party)
+    then Some (move_of (OnLock party) (with_lock words party (Some process)) (Slots party 0)) else None
+join_counts_not words place step = None
 
 -- a process that leaves frees the lock before it settles the number
 abbrev pub unlock_before : Variant
@@ -139,3 +156,32 @@ pub record SharesNumber (variant : Variant) : Type 0 where
   pub apart : process ≢ other
   pub one : IsInCallBy (wrong_left_by variant scene steps) process party
   pub two : IsInCallBy (wrong_left_by variant scene steps) other party
+
+-- after some steps of the variant a settler takes back a bucket whose number another, living party
+-- has sent
+pub record RecoversAnothers (variant : Variant) : Type 0 where
+  pub scene : FileScene
+  pub steps : List FileStep
+  pub process : ℕ
+  pub bucket : ℕ
+  pub party : ℕ
+  pub sender : ℕ
+  pub recovered : (wrong_step variant (wrong_left_by variant scene steps) (Recover process bucket)).outcome
+      ≡ OnFlag (AttachFrom party bucket party)
+  pub sent : IsSentBy (wrong_left_by variant scene steps).words bucket sender
+  pub living : IsAlive (wrong_left_by variant scene steps) sender
+  pub apart : sender ≢ party
+
+-- after some steps of the variant a process has a number, and after some further steps another
+-- process has the number with the same life
+pub record SharesLife (variant : Variant) : Type 0 where
+  pub scene : FileScene
+  pub before : List FileStep
+  pub after : List FileStep
+  pub process : ℕ
+  pub other : ℕ
+  pub party : ℕ
+  pub life : ℕ
+  pub apart : process ≢ other
+  pub one : HasCounted (wrong_left_by variant scene before) process party life
+  pub two : HasCounted (wrong_after variant (wrong_left_by variant scene before) after) other party life

@@ -1,6 +1,6 @@
 -- A file world: the machine of a pool in a file.
 use Rattle.bb_memory_file_machine.specs.FileMachine.{FileMove, FileOutcome, FileState, FileStep, Flag, Place, Slot, file_after, file_step, outcomes_of}
-use Rattle.std.specs.Prelude.{Bool, IfOk, List, OnErr, OnOk, Option, Result, length, ℕ, ◌<◌, ◌^◌, ◌≡◌}
+use Rattle.std.specs.Prelude.{IfOk, List, OnErr, OnOk, Option, Result, length, ℕ, ◌<◌, ◌^◌, ◌≡◌}
 use Rattle.std.specs.declared.vec.Vec.{Vec}
 
 -- the value of a world: the state of its machine
@@ -8,9 +8,9 @@ abbrev pub FileWorld : Type 0
 FileWorld = FileState
 
 -- the world with these words and processes
-abbrev pub world_of : List Flag → List Slot → List (Option ℕ) → List Bool → List Place → FileWorld
-world_of flags slots locks outside places =
-    record { words = record { flags = flags; slots = slots; locks = locks; outside = outside }; places = places }
+abbrev pub world_of : List Flag → List Slot → List ℕ → List (Option ℕ) → List (Option ℕ) → List Place → FileWorld
+world_of flags slots lives locks outside places =
+    record { words = record { flags = flags; slots = slots; lives = lives; locks = locks; outside = outside }; places = places }
 
 -- the invariant of a world: each bucket and each slot has a number that a step can name, and so has
 -- the party that nobody joins

@@ -19,6 +19,9 @@ pub enum Call {
     Leave {
         party: u32,
     },
+    GiveAllBack {
+        party: u32,
+    },
     Flush {
         party: u32,
     },
@@ -53,11 +56,13 @@ pub enum Call {
     },
 }
 
-/// A change of a word or of a lock.
+/// A change of a word, of a lock or of a life.
 #[derive(Debug, Clone, Copy, PartialEq, Eq)]
 pub enum Change {
     Flag { bucket: u32, from: Flag, to: Flag },
     Slot { slot: u32, from: Slot, to: Slot },
+    /// The life of this number.
+    Life { party: u32, from: u64, to: u64 },
     /// The lock of this number is the process's now.
     Lock { party: u32 },
     /// The lock of this number was the process's, and is free now.
@@ -93,7 +98,7 @@ pub struct Line {
 }
 
 impl Line {
-    /// Returns whether the event is a change of a word or of a lock.
+    /// Returns whether the event is a change of a word, of a lock or of a life.
     pub fn is_change(self) -> bool {
         match self.event {
             Event::Changes(_) => true,
@@ -186,6 +191,8 @@ fn event_of_one(name: &[u8]) -> Option<Event> {
 fn event_of_two(name: &[u8], number: u32) -> Option<Event> {
     if is_word(name, b"leave") {
         Some(Event::Begins(Call::Leave { party: number }))
+    } else if is_word(name, b"give_all_back") {
+        Some(Event::Begins(Call::GiveAllBack { party: number }))
     } else if is_word(name, b"flush") {
         Some(Event::Begins(Call::Flush { party: number }))
     } else if is_word(name, b"allocate") {
@@ -233,7 +240,7 @@ fn event_of_three(name: &[u8], party: u32, number: u32) -> Option<Event> {
     }
 }
 
-/// Returns the event of a line with the change of a flag or a slot.
+/// Returns the event of a line with the change of a flag, a slot or a life.
 fn event_of_four(name: &[u8], number: u32, from: usize, to: usize) -> Option<Event> {
     if is_word(name, b"flag") {
         let change = Change::Flag {
@@ -247,6 +254,13 @@ fn event_of_four(name: &[u8], number: u32, from: usize, to: usize) -> Option<Eve
             slot: number,
             from: slot_of(from)?,
             to: slot_of(to)?,
+        };
+        Some(Event::Changes(change))
+    } else if is_word(name, b"life") {
+        let change = Change::Life {
+            party: number,
+            from: from as u64,
+            to: to as u64,
         };
         Some(Event::Changes(change))
     } else {

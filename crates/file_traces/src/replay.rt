@@ -1,7 +1,7 @@
 //! A replay: the machine follows the lines of a trace.
 //!
-//! If a line has a change of a word or of a lock, the process takes steps of the machine until one
-//! changes something, and that has to be the same change.
+//! If a line has a change of a word, of a lock or of a life, the process takes steps of the machine
+//! until one changes something, and that has to be the same change.
 
 use crate::lines::{Call, Change, Event, Figures, Line, Returned};
 use bb_memory_file_machine::steps::{FileOutcome, FileStep, FileWorld, Place, Slot};
@@ -18,7 +18,7 @@ pub enum Difference {
     /// There is no such process, or the event doesn't fit the call that the process is in, or it is
     /// in no call.
     NotInTurn,
-    /// Before the change, the word or the lock wasn't as the line says.
+    /// Before the change, the word, the lock or the life wasn't as the line says.
     OtherBefore,
     /// The machine's process, which is at this place, takes this step with this outcome. The C code
     /// did something else.
@@ -27,7 +27,7 @@ pub enum Difference {
         step: FileStep,
         outcome: FileOutcome,
     },
-    /// The machine's process takes no step that changes a word or a lock.
+    /// The machine's process takes no step that changes a word, a lock or a life.
     NoChange,
     /// The call returned, but the machine's process is at this place.
     OtherReturn(Place),
@@ -157,6 +157,10 @@ impl Replay {
             Call::Reap | Call::Recover | Call::Flush { .. } => {
                 self.expect_outside(process, !is_refused)
             }
+            Call::GiveAllBack { .. } => {
+                self.move_on(process)?;
+                self.expect_outside(process, !has_changed || !is_refused)
+            }
             Call::Deallocate { .. } => { self.expect_outside(process, !is_refused || !has_changed) }
             Call::Leave { .. } | Call::Detach { .. } | Call::Attach { .. } => {
                 self.expect_outside(process, has_changed != is_refused)
@@ -266,21 +270,23 @@ impl Replay {
         self.world.place(process).ok_or(Difference::NotInTurn)
     }
 
-    /// Returns whether the word or the lock is as it was before the change.
+    /// Returns whether the word, the lock or the life is as it was before the change.
     fn is_before(&self, process: u32, change: Change) -> bool {
         match change {
             Change::Flag { bucket, from, .. } => self.world.flag(bucket) == Some(from),
             Change::Slot { slot, from, .. } => self.world.slot(slot) == Some(from),
+            Change::Life { party, from, .. } => self.world.life(party) == Some(from),
             Change::Lock { party } => self.world.lock(party) == Some(None),
             Change::Unlock { party } => self.world.lock(party) == Some(Some(process)),
         }
     }
 
-    /// Returns whether the word or the lock is as it is after the change.
+    /// Returns whether the word, the lock or the life is as it is after the change.
     fn is_after(&self, process: u32, change: Change) -> bool {
         match change {
             Change::Flag { bucket, to, .. } => self.world.flag(bucket) == Some(to),
             Change::Slot { slot, to, .. } => self.world.slot(slot) == Some(to),
+            Change::Life { party, to, .. } => self.world.life(party) == Some(to),
             Change::Lock { party } => self.world.lock(party) == Some(Some(process)),
             Change::Unlock { party } => self.world.lock(party) == Some(None),
         }
@@ -293,8 +299,9 @@ fn step_for(process: u32, found: Process, place: Place, change: Change) -> FileS
         Place::Outside => first_step(process, found, change),
         Place::Dead => released(process, change),
         Place::Seen { .. } => exchanged(process, change),
+        Place::Counting { .. } => counted(process, change),
         Place::Flags { .. } => recovered(process, found, change),
-        Place::Settled { .. } => unlocked(process, found, change),
+        Place::Settled { .. } => settled(process, found, change),
         _ => FileStep::Next { process },
     }
 }
@@ -312,7 +319,8 @@ fn first_step(process: u32, found: Process, change: Change) -> FileStep {
         }
         (Call::Reap | Call::Recover, Change::Lock { party }) => FileStep::Lock { process, party },
         (Call::Close, _) => leaving(process, change),
-        (Call::Leave { party }, _) if !found.has_changed => FileStep::Leave { process, party },
+        (Call::Leave { party } | Call::GiveAllBack { party }, _) if !found.has_changed =>
+            FileStep::Leave { process, party },
         (Call::Allocate { party }, Change::Flag { bucket, .. }) => FileStep::Allocate {
             process,
             party,
@@ -369,7 +377,9 @@ fn first_step(process: u32, found: Process, change: Change) -> FileStep {
 /// the change names.
 fn leaving(process: u32, change: Change) -> FileStep {
     match change {
-        Change::Unlock { party } => FileStep::Leave { process, party },
+        Change::Life { party, .. } | Change::Unlock { party } => {
+            FileStep::Leave { process, party }
+        }
         Change::Flag {
             from: Flag::HeldBy(party) | Flag::DetachedBy(party),
             ..
@@ -413,13 +423,26 @@ fn recovered(process: u32, found: Process, change: Change) -> FileStep {
     }
 }
 
-/// Returns the step of a settler that is done: one that joins keeps the lock.
-fn unlocked(process: u32, found: Process, change: Change) -> FileStep {
+/// Returns the step of a process that has taken the lock of a number: it counts.
+fn counted(process: u32, change: Change) -> FileStep {
+    match change {
+        Change::Life { to, .. } => FileStep::Count { process, life: to },
+        _ => FileStep::Next { process },
+    }
+}
+
+/// Returns the step of a settler that is done: one that joins or leaves counts, and one that joins
+/// or gives all back keeps the lock.
+fn settled(process: u32, found: Process, change: Change) -> FileStep {
     match (found.call, change) {
         (
             Some(Call::Leave { .. } | Call::Close | Call::Reap | Call::Recover),
             Change::Unlock { .. },
         ) => FileStep::Unlock { process },
+        (
+            Some(Call::Join | Call::Leave { .. } | Call::Close),
+            Change::Life { to, .. },
+        ) => FileStep::Count { process, life: to },
         _ => FileStep::Next { process },
     }
 }

@@ -242,10 +242,23 @@ static bb_pool_file_figures info_of(bb_pool_file *file) {
     return figures;
 }
 
-static uint32_t reap(bb_pool_file *file, bool detached) {
+static uint32_t reap(bb_pool_file *file, uint32_t what) {
     uint32_t given = 0;
-    EXPECT(bb_pool_file_reap(file, detached, &given) == BB_OK);
+    EXPECT(bb_pool_file_reap(file, what, &given) == BB_OK);
     return given;
+}
+
+static uint64_t life_of(bb_pool_file *file, uint32_t party) {
+    const bb_number life = bb_pool_file_life(file, party);
+    EXPECT(life.code == BB_OK);
+    return life.number;
+}
+
+// Returns whether the process with this life of the party is alive.
+static bool is_alive(bb_pool_file *file, uint32_t party, uint64_t life) {
+    const bb_number alive = bb_pool_file_is_alive(file, party, life);
+    EXPECT(alive.code == BB_OK);
+    return alive.number == 1;
 }
 
 // Returns the code of an open, and closes the file again.
@@ -713,9 +726,9 @@ static void refused_memory(void) {
     end_killed(dying);
     to_refuse = 1;
     memory_requests = 0;
-    EXPECT(bb_pool_file_reap(file, false, NULL) == BB_MALLOC_REFUSED);
+    EXPECT(bb_pool_file_reap(file, BB_REAP_HELD, NULL) == BB_MALLOC_REFUSED);
     to_refuse = 0;
-    EXPECT(reap(file, false) == 2);
+    EXPECT(reap(file, BB_REAP_HELD) == 2);
     close_it(file);
     EXPECT(blocks == 0);
     bb_use_memory(allocate_plainly, release_plainly, NULL);
@@ -895,14 +908,20 @@ static void parties(void) {
     EXPECT(bb_pool_party_deallocate(joined[3], place) == BB_NOT_HELD);
     EXPECT(bb_pool_file_deallocate(one, joined[3], place) == BB_NOT_HELD);
     EXPECT(bb_pool_file_leave(two, joined[1]) == BB_UNINITIALIZED);
-    EXPECT(bb_pool_file_is_alive(two, 1).number == 1);
+    const uint64_t life = life_of(two, 1);
+    EXPECT(is_alive(two, 1, life) && is_alive(one, 1, life));
+    EXPECT(!is_alive(two, 1, life + 1) && !is_alive(two, 1, life - 1) && !is_alive(two, 1, 0));
     EXPECT(bb_pool_file_leave(one, joined[1]) == BB_OK);
     EXPECT(bb_pool_file_leave(one, joined[1]) == BB_UNINITIALIZED);
     EXPECT(info_of(two).held == 0 && info_of(two).alive == 5);
-    EXPECT(bb_pool_file_is_alive(two, 1).number == 0 && bb_pool_file_is_alive(two, 0).number == 1);
-    EXPECT(bb_pool_file_is_alive(two, 6).code == BB_NO_PARTY);
+    EXPECT(!is_alive(two, 1, life) && !is_alive(two, 1, life_of(two, 1)));
+    EXPECT(is_alive(two, 0, life_of(two, 0)));
+    EXPECT(bb_pool_file_is_alive(two, 6, life).code == BB_NO_PARTY);
+    EXPECT(bb_pool_file_life(two, 6).code == BB_NO_PARTY);
     EXPECT(bb_pool_file_post(one, joined[1], 0, place, 1) == BB_UNINITIALIZED);
     joined[1] = join_it(two);
+    EXPECT(number_of(joined[1]) == 1 && life_of(two, 1) > life);
+    EXPECT(!is_alive(two, 1, life) && is_alive(one, 1, life_of(one, 1)));
     close_it(one);
     EXPECT(info_of(two).alive == 4);
     close_it(two);
@@ -995,6 +1014,128 @@ static void cached(void) {
     remove_it();
 }
 
+// Forks a child that joins with the first free number, detaches a bucket by number, and either
+// leaves or dies.
+static void detach_in_child(bool leaves) {
+    const pid_t child = child_of();
+    if (child == 0) {
+        bb_pool_file *own = open_it();
+        bb_pool_party *party = join_it(own);
+        EXPECT(bb_pool_file_detach(own, party, take_one(party)).code == BB_OK);
+        if (leaves)
+            EXPECT(bb_pool_file_leave(own, party) == BB_OK);
+        _exit(0);
+    }
+    end(child);
+}
+
+// A reap frees what it says of what dead parties have detached, and of what parties have detached
+// that left. It doesn't change which is which.
+static void reaps_detached(void) {
+    bb_pool_file *file = open_it();
+    detach_in_child(false);
+    EXPECT(reap(file, BB_REAP_HELD) == 0 && reap(file, BB_REAP_LEFT) == 0);
+    EXPECT(reap(file, BB_REAP_DEAD) == 1 && info_of(file).detached == 0);
+    detach_in_child(true);
+    EXPECT(reap(file, BB_REAP_HELD) == 0 && reap(file, BB_REAP_DEAD) == 0);
+    EXPECT(reap(file, BB_REAP_DEAD) == 0 && info_of(file).detached == 1);
+    EXPECT(reap(file, BB_REAP_LEFT) == 1 && info_of(file).detached == 0);
+    // Number 0 is used by a living party, with a bucket that an earlier one had detached.
+    detach_in_child(true);
+    bb_pool_party *party = join_it(file);
+    EXPECT(number_of(party) == 0 && reap(file, BB_REAP_DEAD | BB_REAP_LEFT) == 0);
+    detach_in_child(false);  // with number 1
+    EXPECT(info_of(file).detached == 2 && reap(file, BB_REAP_DEAD) == 1);
+    EXPECT(bb_pool_file_leave(file, party) == BB_OK);
+    EXPECT(reap(file, BB_REAP_DEAD) == 0 && reap(file, BB_REAP_DEAD | BB_REAP_LEFT) == 1);
+    EXPECT(info_of(file).detached == 0);
+    // A later party with the number has died, so that it counts as dead.
+    detach_in_child(true);
+    detach_in_child(false);
+    EXPECT(info_of(file).detached == 2 && reap(file, BB_REAP_LEFT) == 0);
+    EXPECT(reap(file, BB_REAP_DEAD) == 2 && info_of(file).detached == 0);
+    close_it(file);
+    remove_it();
+}
+
+// A party has another life each time that a process joins, and no process is taken for another one
+// with the same number, nor a reap for a dead process.
+static void lives(void) {
+    bb_pool_file *file = open_it();
+    int ready[2];
+    uint64_t last = 0;
+    for (int round = 0; round < 3; round++) {
+        EXPECT(pipe(ready) == 0);
+        const pid_t child = child_of();
+        if (child == 0) {
+            bb_pool_file *own = open_it();
+            take_one(join_it(own));
+            tell(ready[1]);
+            pause();
+        }
+        hear(ready[0]);
+        const uint64_t life = life_of(file, 0);
+        EXPECT(life > last && is_alive(file, 0, life) && !is_alive(file, 0, last));
+        end_killed(child);
+        EXPECT(!is_alive(file, 0, life) && life_of(file, 0) == life);
+        if (round == 1) {
+            EXPECT(reap(file, BB_REAP_HELD) == 1);
+            EXPECT(life_of(file, 0) > life && !is_alive(file, 0, life));
+        }
+        last = life_of(file, 0);
+        close(ready[0]);
+        close(ready[1]);
+    }
+    bb_pool_party *party = join_it(file);
+    const uint64_t life = life_of(file, 0);
+    EXPECT(number_of(party) == 0 && life > last && !is_alive(file, 0, last));
+    EXPECT(reap(file, BB_REAP_DEAD | BB_REAP_LEFT) == 0 && life_of(file, 0) == life);
+    EXPECT(bb_pool_file_give_all_back(file, party) == BB_OK && life_of(file, 0) == life);
+    bb_pool_file *other = open_it();
+    EXPECT(number_of(join_it(other)) == 1 && life_of(file, 0) == life);
+    close_it(other);
+    EXPECT(is_alive(file, 0, life) && bb_pool_file_leave(file, party) == BB_OK);
+    EXPECT(!is_alive(file, 0, life) && life_of(file, 0) > life);
+    close_it(file);
+    remove_it();
+}
+
+// A party that gives all back stays joined, and a message that it had taken can be taken again,
+// with its bytes.
+static void gives_all_back(void) {
+    bb_pool_file *file = open_it();
+    bb_pool_file *other = open_it();
+    bb_pool_party *sender = join_it(file);
+    bb_pool_party *party = join_it(file);
+    const bb_place hello = take_one(sender);
+    memcpy(hello, "hello", 6);
+    EXPECT(bb_pool_file_post(file, sender, 0, hello, 6) == BB_OK);
+    EXPECT(bb_pool_party_cache(party, 4) == BB_OK);
+    take_one(party);
+    EXPECT(bb_pool_file_deallocate(file, party, take_one(party)) == BB_OK);
+    EXPECT(bb_pool_file_take(file, party, 0).code == BB_OK);
+    const bb_number sent = bb_pool_file_detach(file, party, take_one(party));
+    EXPECT(bb_pool_file_give_all_back(other, party) == BB_UNINITIALIZED);
+    EXPECT(info_of(file).held >= 2);
+    EXPECT(bb_pool_file_give_all_back(file, party) == BB_OK);
+    EXPECT(info_of(file).held == 0 && info_of(file).detached == 2 && info_of(file).alive == 2);
+    // Whoever takes all other buckets doesn't get the message's.
+    for (int at = 0; at < 18; at++)
+        memcpy(take_one(sender), "private", 8);
+    EXPECT(bb_pool_party_take(sender).code == BB_OUT_OF_MEMORY);
+    const bb_message again = bb_pool_file_take(file, party, 0);
+    EXPECT(again.code == BB_OK && again.len == 6 && strcmp(again.place, "hello") == 0);
+    EXPECT(bb_pool_file_give_all_back(file, sender) == BB_OK && info_of(file).held == 1);
+    EXPECT(bb_pool_file_done(file, party, 0) == BB_OK);
+    EXPECT(bb_pool_file_give_all_back(file, party) == BB_OK && info_of(file).held == 0);
+    EXPECT(bb_pool_file_attach(file, party, (uint32_t)sent.number).code == BB_OK);
+    EXPECT(bb_pool_file_leave(file, party) == BB_OK);
+    EXPECT(bb_pool_file_give_all_back(file, party) == BB_UNINITIALIZED);
+    close_it(other);
+    close_it(file);
+    remove_it();
+}
+
 static void slots(void) {
     bb_pool_file *one = open_it();
     bb_pool_file *two = open_it();
@@ -1065,10 +1206,14 @@ static void by_number(void) {
     bucket = take_one(sender);
     EXPECT(bb_pool_file_detach(one, sender, bucket).code == BB_OK);
     two = open_it();
-    EXPECT(reap(two, true) == 0 && info_of(two).detached == 1);
+    EXPECT(reap(two, BB_REAP_DEAD | BB_REAP_LEFT) == 0 && info_of(two).detached == 1);
     close_it(one);
-    EXPECT(reap(two, false) == 0 && info_of(two).detached == 1);
-    EXPECT(reap(two, true) == 1 && info_of(two).detached == 0);
+    // What a party has detached that left since is freed only by BB_REAP_LEFT.
+    EXPECT(reap(two, BB_REAP_HELD) == 0 && reap(two, BB_REAP_DEAD) == 0);
+    EXPECT(info_of(two).detached == 1);
+    EXPECT(reap(two, BB_REAP_LEFT) == 1 && info_of(two).detached == 0);
+    EXPECT(bb_pool_file_reap(two, 4, NULL) == BB_INVALID_ARGUMENT);
+    EXPECT(bb_pool_file_reap(two, UINT32_MAX, NULL) == BB_INVALID_ARGUMENT);
     // A dead party's message in a slot stays, though it was put back by `detach`.
     const pid_t child = child_of();
     if (child == 0) {
@@ -1080,7 +1225,7 @@ static void by_number(void) {
         _exit(0);
     }
     end(child);
-    EXPECT(reap(two, true) == 0 && info_of(two).full_slots == 1);
+    EXPECT(reap(two, BB_REAP_DEAD) == 0 && info_of(two).full_slots == 1);
     EXPECT(bb_pool_file_take(two, join_it(two), 2).len == 7);
     close_it(two);
     remove_it();
@@ -1130,7 +1275,7 @@ static void one_wins(void) {
     }
     for (int at = 0; at < CHILDREN; at++)
         end(children[at]);
-    EXPECT(reap(file, false) == 0 && info_of(file).held == 0);
+    EXPECT(reap(file, BB_REAP_HELD) == 0 && info_of(file).held == 0);
     close_it(file);
     munmap(shared, PAGE);
     remove_it();
@@ -1210,7 +1355,7 @@ static void waits(void) {
     const pid_t dying = holder(1);
     child = sleeper(wait_bucket, 0);
     end_killed(dying);
-    EXPECT(reap(file, false) == 1);
+    EXPECT(reap(file, BB_REAP_HELD) == 1);
     end(child);
     close_it(file);
     file = open_it();
@@ -1274,7 +1419,7 @@ static uint32_t reaped;
 
 static void *reap_in_thread(void *unused) {
     for (int at = 0; at < 50; at++)
-        __atomic_fetch_add(&reaped, reap(shared_file, false), __ATOMIC_SEQ_CST);
+        __atomic_fetch_add(&reaped, reap(shared_file, BB_REAP_HELD), __ATOMIC_SEQ_CST);
     return unused;
 }
 
@@ -1315,7 +1460,7 @@ static void reapers(void) {
             if (children[at] == 0) {
                 bb_pool_file *own = open_it();
                 for (int time = 0; time < 50; time++)
-                    reap(own, false);
+                    reap(own, BB_REAP_HELD);
                 _exit(0);
             }
         }
@@ -1339,14 +1484,14 @@ static void reaps(void) {
     const bb_place mine = take_one(party);
     const pid_t living = holder(2);
     const pid_t dying = holder(3);
-    EXPECT(reap(file, true) == 0);
+    EXPECT(reap(file, BB_REAP_DEAD) == 0);
     EXPECT(info_of(file).held == 6 && info_of(file).lost == 0 && info_of(file).alive == 3);
     end_killed(dying);
     EXPECT(info_of(file).lost == 3 && info_of(file).alive == 2);
-    EXPECT(reap(file, false) == 3 && info_of(file).held == 3);
-    EXPECT(bb_pool_file_reap(file, false, NULL) == BB_OK);
+    EXPECT(reap(file, BB_REAP_HELD) == 3 && info_of(file).held == 3);
+    EXPECT(bb_pool_file_reap(file, BB_REAP_HELD, NULL) == BB_OK);
     kill(living, SIGSTOP);  // a stopped process is alive
-    EXPECT(reap(file, true) == 0 && info_of(file).held == 3);
+    EXPECT(reap(file, BB_REAP_DEAD) == 0 && info_of(file).held == 3);
     end_killed(living);
     bb_pool_party *next = join_it(file);  // it has the dead one's number, with nothing left
     EXPECT(number_of(next) == 1 && info_of(file).held == 1);
@@ -1460,8 +1605,9 @@ static void forked(void) {
         EXPECT(bb_pool_file_attach(file, party, 0).code == BB_UNINITIALIZED);
         EXPECT(bb_pool_file_look(file, 0).code == BB_UNINITIALIZED);
         EXPECT(bb_pool_file_holder(file, 0, &flag) == BB_UNINITIALIZED);
-        EXPECT(bb_pool_file_is_alive(file, 0).code == BB_UNINITIALIZED);
-        EXPECT(bb_pool_file_reap(file, true, NULL) == BB_UNINITIALIZED);
+        EXPECT(bb_pool_file_is_alive(file, 0, 1).code == BB_UNINITIALIZED);
+        EXPECT(bb_pool_file_life(file, 0).code == BB_UNINITIALIZED);
+        EXPECT(bb_pool_file_reap(file, BB_REAP_DEAD, NULL) == BB_UNINITIALIZED);
         EXPECT(bb_pool_file_wait_full(file, 0, 0) == BB_UNINITIALIZED);
         EXPECT(bb_pool_file_wait_empty(file, 0, 0) == BB_UNINITIALIZED);
         EXPECT(bb_pool_file_wait_bucket(file, 0) == BB_UNINITIALIZED);
@@ -1534,18 +1680,18 @@ static void orphans(void) {
         EXPECT(read(ready[0], &started, sizeof started) == sizeof started);
         EXPECT(info_of(file).held == 1);
         end_killed(child);
-        uint32_t freed = reap(file, false);
+        uint32_t freed = reap(file, BB_REAP_HELD);
         // The started process may not have come to its handler yet, or to the end of its exec.
         for (int tries = 0; way != BY_CLONE && freed == 0; tries++) {
             EXPECT(tries < 5000);
             usleep(1000);
-            freed = reap(file, false);
+            freed = reap(file, BB_REAP_HELD);
         }
         EXPECT(freed == (way == BY_CLONE ? 0 : 1));
         EXPECT(kill(started, SIGKILL) == 0);
         for (int tries = 0; info_of(file).held > 0 && tries < 2000; tries++) {
             usleep(1000);
-            reap(file, false);
+            reap(file, BB_REAP_HELD);
         }
         EXPECT(info_of(file).held == 0);
         close(ready[0]);
@@ -1563,7 +1709,7 @@ static void executed(void) {
         take_one(join_it(open_it()));
         execl("/bin/sleep", "sleep", "120", (char *)NULL);
     }
-    for (int tries = 0; reap(file, false) == 0; tries++) {
+    for (int tries = 0; reap(file, BB_REAP_HELD) == 0; tries++) {
         EXPECT(tries < 5000);
         usleep(1000);
     }
@@ -1587,20 +1733,20 @@ static void closed(void) {
         EXPECT(syscall(SYS_close_range, 3, 99, 0) == 0);
         EXPECT(bb_pool_party_deallocate(party, take_one(party)) == BB_OK);
         bb_pool_file_figures figures;
-        EXPECT(bb_pool_file_is_alive(own, 0).number == 1);  // it is this process's own
-        EXPECT(bb_pool_file_is_alive(own, 1).code == BB_FILE_SYSTEM && errno == EBADF);
+        EXPECT(is_alive(own, 0, life_of(own, 0)));  // it is this process's own
+        EXPECT(bb_pool_file_is_alive(own, 1, 1).code == BB_FILE_SYSTEM && errno == EBADF);
         EXPECT(bb_pool_file_info(own, &figures) == BB_FILE_SYSTEM && errno == EBADF);
         tell(100);
         pause();
     }
     EXPECT(close(ready[1]) == 0 && close(100) == 0);  // the read ends if the child does
     hear(ready[0]);
-    EXPECT(info_of(file).held == 1 && info_of(file).lost == 0 && reap(file, true) == 0);
+    EXPECT(info_of(file).held == 1 && info_of(file).lost == 0 && reap(file, BB_REAP_DEAD) == 0);
     end_killed(child);
     const int reader = open(path, O_RDONLY | O_CLOEXEC);
     EXPECT(reader >= 0 && info_of(file).lost == 1);
-    EXPECT(lock_byte(reader, F_RDLCK, 2) == 0 && reap(file, true) == 0);
-    EXPECT(close(reader) == 0 && reap(file, true) == 1 && info_of(file).held == 0);
+    EXPECT(lock_byte(reader, F_RDLCK, 2) == 0 && reap(file, BB_REAP_DEAD) == 0);
+    EXPECT(close(reader) == 0 && reap(file, BB_REAP_DEAD) == 1 && info_of(file).held == 0);
     close(ready[0]);
     close_it(file);
     remove_it();
@@ -1622,7 +1768,7 @@ static void namespaces(void) {
             EXPECT(getpid() == 1);
             bb_pool_file *own = open_it();
             bb_pool_party *mine = join_it(own);
-            EXPECT(number_of(mine) == 1 && reap(own, true) == 0);
+            EXPECT(number_of(mine) == 1 && reap(own, BB_REAP_DEAD) == 0);
             take_one(mine);
             EXPECT(info_of(own).alive == 2);
             tell(ready[1]);
@@ -1635,13 +1781,13 @@ static void namespaces(void) {
         puts("cases: no process namespace is allowed, skipped");
         end(child);
     } else {
-        EXPECT(info_of(file).alive == 2 && info_of(file).held == 2 && reap(file, true) == 0);
+        EXPECT(info_of(file).alive == 2 && info_of(file).held == 2 && reap(file, BB_REAP_DEAD) == 0);
         end_killed(child);  // the inner process ends with it
         for (int tries = 0; info_of(file).lost == 0; tries++) {
             EXPECT(tries < 5000);
             usleep(1000);
         }
-        EXPECT(reap(file, false) == 1 && info_of(file).held == 1);
+        EXPECT(reap(file, BB_REAP_HELD) == 1 && info_of(file).held == 1);
     }
     close(ready[0]);
     close_it(file);
@@ -1692,7 +1838,7 @@ static void passed(void) {
     hear(pair[0]);
     EXPECT(info_of(file).alive == 2 && info_of(file).held == 1 && number_of(party) == 0);
     end_killed(child);
-    EXPECT(info_of(file).alive == 1 && reap(file, false) == 1 && ftruncate(fd, 0) != 0);
+    EXPECT(info_of(file).alive == 1 && reap(file, BB_REAP_HELD) == 1 && ftruncate(fd, 0) != 0);
     close_it(file);
     close(fd);
     close(pair[0]);
@@ -1740,7 +1886,7 @@ static void garbage(void) {
             EXPECT(bb_pool_file_wait_empty(file, slot, 0) <= BB_FILE_TIMED_OUT);
             EXPECT(bb_pool_file_wait_full(file, slot, 0) <= BB_FILE_TIMED_OUT);
         }
-        reap(file, round % 4 < 2);
+        reap(file, (uint32_t)round % 4);
         EXPECT(bb_pool_file_leave(file, party) == BB_OK);
         party = join_it(file);
     }
@@ -1785,6 +1931,9 @@ int main(int argc, char **argv) {
         many_parties();
         moving_parties();
         cached();
+        reaps_detached();
+        lives();
+        gives_all_back();
         slots();
         by_number();
         one_wins();

@@ -292,7 +292,7 @@ static void wait_a_little(void) {
 
 static void reap(void) {
     uint32_t given = 0;
-    EXPECT(bb_pool_file_reap(file, next(&seed) % 2 == 0, &given) == BB_OK);
+    EXPECT(bb_pool_file_reap(file, next(&seed) % 4, &given) == BB_OK);
     ADD(reaped, given);
 }
 
@@ -429,12 +429,12 @@ static uint32_t finish(uint32_t lives) {
     life = lives;
     cached = 0;
     enter();
-    EXPECT(bb_pool_file_reap(file, false, NULL) == BB_OK);
+    EXPECT(bb_pool_file_reap(file, BB_REAP_HELD, NULL) == BB_OK);
     for (uint32_t round = 0; round < 64; round++)
         for (uint32_t slot = 0; slot < SLOTS; slot++)
             receive(slot);
     EXPECT(bb_pool_file_leave(file, mine) == BB_OK);
-    EXPECT(bb_pool_file_reap(file, true, NULL) == BB_OK);
+    EXPECT(bb_pool_file_reap(file, BB_REAP_DEAD | BB_REAP_LEFT, NULL) == BB_OK);
     EXPECT(bb_pool_file_info(file, &figures) == BB_OK);
     return figures.held + figures.detached + figures.wrong + figures.full_slots;
 }
@@ -505,10 +505,10 @@ static void make_once(void) {
     for (uint32_t at = 0; at < 2; at++)
         EXPECT(waitpid(makers[at], &status, 0) > 0 && WIFSIGNALED(status));
     EXPECT(bb_pool_file_open(&file, path, &OPTIONS) == BB_OK);
-    EXPECT(bb_pool_file_reap(file, true, NULL) == BB_OK);
+    EXPECT(bb_pool_file_reap(file, BB_REAP_DEAD, NULL) == BB_OK);
     kill(makers[2], SIGKILL);
     EXPECT(waitpid(makers[2], &status, 0) > 0 && WIFSIGNALED(status));
-    EXPECT(bb_pool_file_reap(file, true, NULL) == BB_OK);
+    EXPECT(bb_pool_file_reap(file, BB_REAP_DEAD, NULL) == BB_OK);
     EXPECT(bb_pool_file_info(file, &figures) == BB_OK);
     EXPECT(figures.options.buckets == BUCKETS && figures.alive == 0);
     EXPECT(figures.held + figures.detached + figures.wrong == 0);
@@ -648,11 +648,11 @@ static void operate(int what, struct prepared with) {
         break;
     case DETACHES: EXPECT(bb_pool_file_detach(file, mine, with.place).code == BB_OK); break;
     case ATTACHES: EXPECT(bb_pool_file_attach(file, mine, with.number).code == BB_OK); break;
-    case REAPS: EXPECT(bb_pool_file_reap(file, false, NULL) == BB_OK); break;
+    case REAPS: EXPECT(bb_pool_file_reap(file, BB_REAP_HELD, NULL) == BB_OK); break;
     case LEAVES: EXPECT(bb_pool_file_leave(file, mine) == BB_OK); break;
     case NOTES_TAKE: *noted = bb_pool_file_take(file, mine, 0).code; break;
     case NOTES_OPEN: note_open(); break;
-    case REAPS_DETACHED: EXPECT(bb_pool_file_reap(file, true, NULL) == BB_OK); break;
+    case REAPS_DETACHED: EXPECT(bb_pool_file_reap(file, BB_REAP_DEAD, NULL) == BB_OK); break;
     default: EXPECT(bb_pool_file_close(file) == BB_OK);
     }
 }
@@ -753,7 +753,7 @@ static void check_number(bb_pool_file *ours, int what, uint32_t detached, struct
     }
     // The living sender's bucket stays detached, the dead one's is given back.
     const uint32_t living = what == ATTACHES && detached == 1 ? 1 : 0;
-    EXPECT(bb_pool_file_reap(ours, true, NULL) == BB_OK);
+    EXPECT(bb_pool_file_reap(ours, BB_REAP_DEAD, NULL) == BB_OK);
     EXPECT(bb_pool_file_info(ours, &figures) == BB_OK);
     EXPECT(figures.full_slots == messages && figures.detached == messages + living);
 }
@@ -777,7 +777,7 @@ static bool step_once(int what, uint32_t steps, struct outcome *outcome) {
     if (has_dead)
         leave_dead_party();
     const bool ended = run_steps(what, steps, number);
-    EXPECT(bb_pool_file_reap(ours, false, NULL) == BB_OK);
+    EXPECT(bb_pool_file_reap(ours, BB_REAP_HELD, NULL) == BB_OK);
     EXPECT(bb_pool_file_info(ours, &figures) == BB_OK);
     EXPECT(figures.held == 0 && figures.wrong == 0 && figures.alive == 1);
     if (what == ATTACHES || what == DETACHES)
@@ -875,8 +875,16 @@ static bool pause_reap(bb_pool_file *ours, bb_pool_party *party, uint32_t steps)
     return ended;
 }
 
+// Expects that the flag of the bucket with this number says that this party has detached it.
+static void expect_detached(bb_pool_file *ours, uint32_t number, size_t by) {
+    bb_holder flag;
+    EXPECT(bb_pool_file_holder(ours, number, &flag) == BB_OK);
+    EXPECT(flag.state == BB_DETACHED && flag.party == by);
+}
+
 // While a take is stopped, another party takes the message, is done with it, and detaches its
-// bucket by number. The take gets nothing then, and the bucket stays detached.
+// bucket by number. The take gets nothing then, and the bucket stays detached by its sender: a reap
+// after the taker has died doesn't free it.
 static bool pause_take(bb_pool_file *ours, bb_pool_party *party, uint32_t steps) {
     const bb_chunk chunk = bb_pool_party_take(party);
     fill(chunk.place, 99);
@@ -892,9 +900,42 @@ static bool pause_take(bb_pool_file *ours, bb_pool_party *party, uint32_t steps)
     if (!ended)
         go_on(child);
     if (message.code == BB_OK) {
+        uint32_t freed = 1;
         EXPECT(*noted == BB_NOT_HELD || *noted == BB_DETACHED_EMPTY);
+        expect_detached(ours, message.number, bb_pool_party_number(party).number);
+        end_killed(child);
+        EXPECT(bb_pool_file_reap(ours, BB_REAP_DEAD, &freed) == BB_OK && freed == 0);
         const bb_chunk back = bb_pool_file_attach(ours, party, message.number);
         EXPECT(back.code == BB_OK && is_filled(back.place, 55));
+    } else {
+        EXPECT(*noted == BB_OK);
+        end_killed(child);
+    }
+    return ended;
+}
+
+// While a take is stopped, another party takes the message, is done with it, and posts its bucket
+// to another slot. The take gets nothing then, and the message can be taken from there.
+static bool pause_late(bb_pool_file *ours, bb_pool_party *party, uint32_t steps) {
+    const bb_chunk chunk = bb_pool_party_take(party);
+    fill(chunk.place, 99);
+    EXPECT(bb_pool_file_post(ours, party, 0, chunk.place, 44) == BB_OK);
+    const pid_t child = start(NOTES_TAKE, 0);
+    const bool ended = go(child, steps);
+    const bb_message message = bb_pool_file_take(ours, party, 0);
+    if (message.code == BB_OK) {
+        EXPECT(bb_pool_file_done(ours, party, 0) == BB_OK);
+        fill(message.place, 55);
+        EXPECT(bb_pool_file_post(ours, party, 1, message.place, 17) == BB_OK);
+    }
+    if (!ended)
+        go_on(child);
+    if (message.code == BB_OK) {
+        EXPECT(*noted == BB_NOT_HELD || *noted == BB_DETACHED_EMPTY);
+        expect_detached(ours, message.number, OPTIONS.parties);
+        const bb_message again = bb_pool_file_take(ours, party, 1);
+        EXPECT(again.code == BB_OK && again.len == 17 && is_filled(again.place, 55));
+        EXPECT(bb_pool_file_done(ours, party, 1) == BB_OK);
     } else {
         EXPECT(*noted == BB_OK);
     }
@@ -957,13 +998,13 @@ static bool pause_open(bb_pool_file *ours, bb_pool_party *party, uint32_t steps)
 }
 
 static int run_pause(uint32_t long_stride) {
-    bool (*const scenes[])(bb_pool_file *, bb_pool_party *, uint32_t) = {pause_take, pause_reap,
-                                                                         pause_leave, pause_open};
-    const char *const names[] = {"take", "reap", "leave", "open"};
+    bool (*const scenes[])(bb_pool_file *, bb_pool_party *, uint32_t) = {
+        pause_take, pause_late, pause_reap, pause_leave, pause_open};
+    const char *const names[] = {"take", "take, posted again", "reap", "leave", "open"};
     noted = mmap(NULL, 4096, PROT_READ | PROT_WRITE, MAP_SHARED | MAP_ANONYMOUS, -1, 0);
     EXPECT(noted != MAP_FAILED);
-    for (int scene = 0; scene < 4; scene++) {
-        const uint32_t stride = scene == 0 ? 1 : long_stride;
+    for (int scene = 0; scene < 5; scene++) {
+        const uint32_t stride = scene < 2 ? 1 : long_stride;
         uint32_t steps = 1;
         for (bool ended = false; !ended; steps += stride) {
             bb_pool_file *ours;
@@ -976,7 +1017,7 @@ static int run_pause(uint32_t long_stride) {
             EXPECT(bb_pool_file_done(ours, party, 0) != BB_INVALID_ARGUMENT);
             EXPECT(bb_pool_file_close(ours) == BB_OK);
             EXPECT(bb_pool_file_open(&ours, path, NULL) == BB_OK);
-            EXPECT(bb_pool_file_reap(ours, true, NULL) == BB_OK);
+            EXPECT(bb_pool_file_reap(ours, BB_REAP_DEAD, NULL) == BB_OK);
             EXPECT(bb_pool_file_info(ours, &figures) == BB_OK);
             EXPECT(figures.held + figures.wrong == 0 && figures.detached == figures.full_slots);
             EXPECT(bb_pool_file_close(ours) == BB_OK);

@@ -1,6 +1,6 @@
 // Writes a trace of processes that share a pool in a file. It has one process at a time go on by
-// single instructions. After each instruction it looks at each flag, slot and lock in the file, and
-// writes a line for each change. The program `file_replay` reads the trace, and has the proved
+// single instructions. After each instruction it looks at each flag, slot, life and lock in the
+// file, and writes a line for each change. The program `file_replay` reads the trace, and has the proved
 // machine take the same steps.
 //
 //     trace random FOLDER SEED CALLS CACHED
@@ -15,13 +15,15 @@
 // The lines, in which P is a process, K a party's number, B a bucket, S a slot and L a length:
 //
 //     file PROCESSES PARTIES BUCKETS SLOTS    the first line; at most this many processes
-//     open P, join P, show P, close P, reap P, recover P, leave P K, flush P K, allocate P K,
-//     deallocate P K B, detach P K B, attach P K B, post P K S B L, take P K S, done P K S
+//     open P, join P, show P, close P, reap P, recover P, leave P K, give_all_back P K, flush P K,
+//     allocate P K, deallocate P K B, detach P K B, attach P K B, post P K S B L, take P K S,
+//     done P K S
 //                         a call begins; `recover` is a reap with detached buckets, `show` any call
 //                         that only looks, and `close` has each party of P leave
 //     look P              a hint: at this moment, the slot of P's take has what the take found there
 //     flag P B FROM TO    P's instruction changed the word of a flag
 //     slot P S FROM TO    or that of a slot
+//     life P K FROM TO    or the life of a number
 //     lock P K, unlock P K    or the lock of a number
 //     ok P, ok P B, ok P B L, refused P    the call returned; with the bucket that an allocation
 //                         got, or with the bucket and the length of a message
@@ -48,7 +50,8 @@
 #include "bb_pool_file.h"
 
 // The pool, and where its words are in the file: after a page for the header come 16 words that
-// are no flag, and then the flags. After their page comes a line of events, and then the slots.
+// are no flag, and then the flags. After their page comes a line of events, then the slots, and
+// then the lives.
 enum {
     PARTIES = 4,
     SLOTS = 3,
@@ -58,6 +61,7 @@ enum {
     FIRST_FLAG = 16,
     FIRST_SLOT = (PAGE + 128) / 8,
     WORDS_IN_SLOT = 16,
+    FIRST_LIFE = FIRST_SLOT + SLOTS * WORDS_IN_SLOT,
     // The byte of the file whose lock is that of number 0.
     FIRST_LOCK = 2
 };
@@ -66,7 +70,7 @@ enum {
     // Processes that live at one time, over all, and over all in a random trace.
     LIVING = 3,
     PROCESSES = 1024,
-    LIVES = 64,
+    PROCESSES_AT_RANDOM = 64,
     // The most numbers that one process has joined with.
     JOINED = 2,
     // The most instructions of a turn.
@@ -88,6 +92,7 @@ enum call {
     REAP,
     RECOVER,
     LEAVE,
+    GIVE_ALL_BACK,
     FLUSH,
     ALLOCATE,
     DEALLOCATE,
@@ -100,8 +105,9 @@ enum call {
 };
 
 static const char *const NAMES[CALLS] = {
-    "open",     "join",       "show",   "close",  "reap", "recover", "leave", "flush",
-    "allocate", "deallocate", "detach", "attach", "post", "take",    "done",
+    "open",          "join",  "show",     "close",      "reap",   "recover", "leave",
+    "give_all_back", "flush", "allocate", "deallocate", "detach", "attach",  "post",
+    "take",          "done",
 };
 
 // A call of a process, in memory that the process shares with this program.
@@ -112,6 +118,8 @@ struct shared {
     uint32_t slot;
     uint32_t bucket;
     uint32_t len;
+    // What a reap with detached buckets frees.
+    uint32_t what;
     // What the call returned.
     uint32_t code;
     uint32_t got;
@@ -222,6 +230,8 @@ static void choose_call(void) {
         mine->call = JOIN;
     } else if (what < 110 && cached > 0) {
         mine->call = FLUSH;
+    } else if (what < 113) {
+        mine->call = GIVE_ALL_BACK;
     }
     // Some calls are refused: those with a bucket that the party doesn't have. A bucket that is in a
     // slot may not be given back or posted.
@@ -246,6 +256,7 @@ static void choose(void) {
     while (count_joined() > 0 && handles[party] == NULL)
         party = (party + 1) % PARTIES;
     mine->party = party;
+    mine->what = 1 + next(&seed) % 3;
     if (file == NULL)
         mine->call = OPEN;
     else if (count_joined() > 0)
@@ -297,9 +308,10 @@ static void operate(void) {
         break;
     case SHOW: mine->code = show(); break;
     case CLOSE: mine->code = bb_pool_file_close(file); break;
-    case REAP: mine->code = bb_pool_file_reap(file, false, NULL); break;
-    case RECOVER: mine->code = bb_pool_file_reap(file, true, NULL); break;
+    case REAP: mine->code = bb_pool_file_reap(file, BB_REAP_HELD, NULL); break;
+    case RECOVER: mine->code = bb_pool_file_reap(file, mine->what, NULL); break;
     case LEAVE: mine->code = bb_pool_file_leave(file, party); break;
+    case GIVE_ALL_BACK: mine->code = bb_pool_file_give_all_back(file, party); break;
     case FLUSH:
         mine->code = bb_pool_party_flush(party);
         if (mine->len % 2 == 0)
@@ -343,6 +355,7 @@ static void note_hands(void) {
         memset(handles, 0, sizeof handles);
         break;
     case LEAVE: handles[mine->party] = NULL; break;
+    case GIVE_ALL_BACK: memset(hand, 0, BUCKETS * sizeof *hand); break;
     case ALLOCATE: hand[mine->got] = OUT; break;
     case DEALLOCATE:
     case DETACH:
@@ -431,6 +444,7 @@ enum kind {
     BEGINS,
     FLAG,
     SLOT,
+    LIFE,
     LOCK,
     RETURNS,
     KILL,
@@ -477,6 +491,7 @@ static void write_call(uint32_t process, const struct shared *call) {
     printf("%s %u", NAMES[call->call], process);
     switch (call->call) {
     case LEAVE:
+    case GIVE_ALL_BACK:
     case FLUSH:
     case ALLOCATE: printf(" %u\n", call->party); break;
     case DEALLOCATE:
@@ -514,6 +529,7 @@ static void write_event(size_t at) {
     case BEGINS: write_call(event->process, &event->call); break;
     case FLAG: write_change("flag", event); break;
     case SLOT: write_change("slot", event); break;
+    case LIFE: write_change("life", event); break;
     case LOCK:
         printf("%s %u %u\n", event->to != 0 ? "lock" : "unlock", event->process, event->at);
         break;
@@ -530,6 +546,7 @@ static const uint64_t *words;
 static int watching;
 static uint64_t flags[BUCKETS];
 static uint64_t slots[SLOTS];
+static uint64_t lives[PARTIES];
 static bool locks[PARTIES];
 
 struct process {
@@ -565,7 +582,8 @@ static void change(enum kind kind, uint32_t process, uint32_t at, uint64_t from,
     event->to = to;
 }
 
-// Adds an event for each word and lock that has changed.
+// Adds an event for each word and lock that has changed: for flags, slots, locks and lives in this
+// order.
 static void compare(uint32_t process) {
     for (uint32_t bucket = 0; bucket < BUCKETS; bucket++) {
         const uint64_t word = __atomic_load_n(&words[FIRST_FLAG + bucket], __ATOMIC_SEQ_CST);
@@ -585,6 +603,12 @@ static void compare(uint32_t process) {
         if (is_taken != locks[party])
             change(LOCK, process, party, locks[party], is_taken);
         locks[party] = is_taken;
+    }
+    for (uint32_t party = 0; party < PARTIES; party++) {
+        const uint64_t word = __atomic_load_n(&words[FIRST_LIFE + party], __ATOMIC_SEQ_CST);
+        if (word != lives[party])
+            change(LIFE, process, party, lives[party], word);
+        lives[party] = word;
     }
 }
 
@@ -738,7 +762,7 @@ static void run_random(uint32_t random, uint32_t calls) {
         go(of, choose_turn(&random));
         if (of->is_in_call && next(&random) % 4 == 0)
             of->rests_until = turns + next(&random) % 64;
-        if (started < LIVES && next(&random) % 48 == 0) {
+        if (started < PROCESSES_AT_RANDOM && next(&random) % 48 == 0) {
             end_killed(of);
             start(of, first_seed);
         }
@@ -760,6 +784,7 @@ static void order(const struct process *of, enum call call, uint32_t slot, uint3
     next_call->slot = slot;
     next_call->bucket = bucket;
     next_call->len = 1 + bucket;
+    next_call->what = BB_REAP_DEAD;
 }
 
 // Has a process make a call to its end. Returns whether it succeeded.
@@ -770,7 +795,8 @@ static bool make(struct process *of, enum call call, uint32_t slot, uint32_t buc
     return shared[of->number].code == BB_OK;
 }
 
-// Has a process make a call that changes one word at most, without stepping it.
+// Has a process make a call without stepping it: a join, whose lock comes before its life, or a call
+// that changes one word at most.
 static void make_unstepped(struct process *of, enum call call, uint32_t bucket) {
     order(of, call, 0, bucket);
     add(BEGINS, of->number)->call = shared[of->number];
@@ -957,7 +983,7 @@ int main(int argc, char **argv) {
     watching = open(path, O_RDWR | O_CLOEXEC);
     inherited = open(path, O_RDWR | O_CLOEXEC);
     EXPECT(watching >= 0 && inherited >= 0);
-    // The words and the slots, after as much of the header as a mapping has to begin with.
+    // The words, the slots and the lives, after as much of the header as a mapping has to begin with.
     const size_t lead = PAGE % (size_t)sysconf(_SC_PAGESIZE);
     char *first = map(lead + 2 * PAGE, watching, (off_t)(PAGE - lead));
     words = (void *)(first + lead);

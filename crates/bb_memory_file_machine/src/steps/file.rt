@@ -1,12 +1,12 @@
 //! The steps of the machine of a pool in a file, and the theorem about every list of them.
-ghost use Rattle.bb_memory_file_machine.specs.FileLaws.{AreSettled, CanSettle, Effect, HasAttached, HasReceived, IsAccountedFor, IsFlag, IsHolder, IsIn, IsInCallBy, IsInSome, IsKnown, IsLock, IsOutside, IsPlace, IsSettling, IsSlot, SaysDone, StaysIn, UsesNumber, after_post};
-ghost use Rattle.bb_memory_file_machine.specs.FileMachine.{DetachedBy, Ending, FileScene, FileStep, Free, Message, OnSlot, Place, Post, Receives, Refused, Settled, file_after, file_step, left_by, opening_state, outcomes_of, process_of};
+ghost use Rattle.bb_memory_file_machine.specs.FileLaws.{AreSettled, CanCount, CanSettle, Effect, HasCounted, HasAttached, HasReceived, IsAccountedFor, IsFlag, IsHolder, IsIn, IsInCallBy, IsInSome, IsKnown, IsLife, IsLock, IsOutside, IsSentBy, IsPlace, IsSettling, IsSlot, SaysDone, StaysIn, UsesNumber, after_post};
+ghost use Rattle.bb_memory_file_machine.specs.FileMachine.{Counting, DetachedBy, Ending, FileScene, FileStep, Free, Lock, Message, OnLock, OnSlot, Place, Post, Receives, Refused, Settled, file_after, file_step, left_by, opening_state, outcomes_of, process_of};
 ghost use Rattle.bb_memory_file_machine.specs.FilePool.{IsPool, IsTaken, flag_steps, pool_of};
-ghost use Rattle.bb_memory_file_machine.specs.FileVariants.{FreesMessage, LosesBucket, ReceivesNothing, SharesNumber, TakesAway, attach_from_any, detach_then_post, no_second_look, reaps_the_living, settle_addresses_not, settle_forgets_slots, unlock_before};
+ghost use Rattle.bb_memory_file_machine.specs.FileVariants.{FreesMessage, LosesBucket, ReceivesNothing, RecoversAnothers, SharesLife, SharesNumber, TakesAway, attach_from_any, detach_then_post, join_counts_not, late_take_keeps_name, late_take_looks_not, no_second_look, reaps_the_living, settle_addresses_not, settle_forgets_slots, unlock_before};
 ghost use Rattle.bb_memory_pool_machine.specs.PoolLogs.{AreAsked, IsPoolRun, Layout};
 ghost use Rattle.bb_memory_traits.specs.Chunk.{Chunk, IsSound};
 ghost use Rattle.bb_memory_traits.specs.PoolObject.{IsHeld, IsPoolGeometry, PoolGeometry};
-ghost use Rattle.std.specs.Prelude.{List, Some, slice_get, ℕ, ◌<◌, ◌↔◌, ◌≡◌, ◌≢◌, ◌⊎◌};
+ghost use Rattle.std.specs.Prelude.{List, Some, slice_get, ℕ, ◌<◌, ◌↔◌, ◌≡◌, ◌≢◌, ◌≤◌, ◌⊎◌};
 
 use bb_memory_pool_machine::steps::PoolStep;
 
@@ -27,13 +27,14 @@ pub enum Place {
     Outside,
     /// The process was killed. It takes no step, and its locks become free one by one.
     Dead,
-    /// A post has filled its slot. Next it detaches the bucket.
+    /// The bucket that the party holds is in a slot: a post has filled the slot, or a take that is
+    /// late has found the bucket there. Next the process detaches the bucket.
     Posting {
         party: u32,
         bucket: u32,
     },
-    /// A post has detached its bucket. Next it addresses the bucket to the number that nobody
-    /// joins.
+    /// The bucket in a slot is detached. Next the process addresses the bucket to the number that
+    /// nobody joins.
     Sent {
         party: u32,
         bucket: u32,
@@ -45,18 +46,29 @@ pub enum Place {
         bucket: u32,
         length: u32,
     },
-    /// A take has attached the bucket. Next it looks at its slot again.
+    /// A take has attached the bucket, which the party `from` had detached. Next it looks at its
+    /// slot again.
     Attached {
         party: u32,
         slot: u32,
         bucket: u32,
         length: u32,
+        from: u32,
     },
-    /// A take has found another word in its slot at the second look. Next it detaches the bucket
-    /// again.
+    /// A take has found another word in its slot at the second look, so it is late. It goes over
+    /// the slots, to find out whether one has the bucket. Next it looks at the slot `next`.
     Late {
         party: u32,
         bucket: u32,
+        from: u32,
+        next: u32,
+    },
+    /// A take that is late has found the bucket in no slot. Next it puts the flag back as it was
+    /// found: detached by the party `from`.
+    Returning {
+        party: u32,
+        bucket: u32,
+        from: u32,
     },
     /// A `done` has found this bucket in its slot. Next it looks at the bucket's flag.
     Finding {
@@ -69,6 +81,11 @@ pub enum Place {
         party: u32,
         slot: u32,
         bucket: u32,
+    },
+    /// A process has taken the lock of the number. Next it counts the number's life, and begins to
+    /// settle the number.
+    Counting {
+        party: u32,
     },
     /// A settler goes over the slots. Next it looks at this one.
     Slots {
@@ -112,11 +129,16 @@ pub enum Place {
 /// `party` is the number by which it does so.
 #[derive(Debug, Clone, Copy, PartialEq, Eq)]
 pub enum FileStep {
-    /// The process, which is in no call, takes the free lock of the number and begins to settle the
-    /// number.
+    /// The process, which is in no call, takes the free lock of the number.
     Lock {
         process: u32,
         party: u32,
+    },
+    /// The process makes the life of a number greater: after it has taken the number's lock, before
+    /// it settles the number; or when it has settled the number, as one that leaves does.
+    Count {
+        process: u32,
+        life: u64,
     },
     /// The process begins to settle a number whose lock it has, as one that leaves does.
     Leave {
@@ -216,10 +238,15 @@ pub enum FileOutcome {
     /// The flag of a bucket that the party `from` had detached changed. The bucket now counts as
     /// detached by the number `to`, which nobody joins.
     Addresses { bucket: u32, from: u32, to: u32 },
+    /// The flag of a bucket that the party held changed. A take that was late has put it back as it
+    /// had found it: detached by the party `from`.
+    PutsBack { bucket: u32, party: u32, from: u32 },
     /// The word of this slot changed.
     OnSlot(u32),
     /// The lock of this number was taken or became free.
     OnLock(u32),
+    /// The life of this number became greater.
+    OnLife(u32),
     /// The process is dead.
     Dies,
 }
@@ -231,8 +258,8 @@ pub enum FileOutcome {
 /// A process can be killed after any step. As each clause holds for every list of steps, it holds
 /// for each beginning of a list.
 pub fn file_theorem()
-    // Each step of a process has one of the effects: it changes at most one flag, one slot or one
-    // lock.
+    // Each step of a process has one of the effects: it changes at most one flag, one slot, one
+    // lock or one life.
     ensures effect { (scene : FileScene) (steps : List FileStep) (step : FileStep) (place : Place)
         → IsPlace (left_by scene steps) (process_of step) place
         → (let state = left_by scene steps in
@@ -288,6 +315,13 @@ pub fn file_theorem()
         → IsFlag (left_by scene steps).words bucket (DetachedBy party)
         → IsKnown (left_by scene steps).words bucket }
 
+    // A detached bucket that is in no slot is detached by the party that sent its number: a take
+    // that came too late has put the flag back.
+    ensures sender { (scene : FileScene) (steps : List FileStep) (bucket party : ℕ)
+        → IsFlag (left_by scene steps).words bucket (DetachedBy party)
+        → ¬ IsInSome (left_by scene steps).words bucket
+        → IsSentBy (left_by scene steps).words bucket party }
+
     // At the opening, no channel outside knows a number.
     ensures unknown { (scene : FileScene) (bucket : ℕ) → ¬ IsOutside (opening_state scene).words bucket }
 
@@ -330,6 +364,31 @@ pub fn file_theorem()
     ensures locked { (scene : FileScene) (steps : List FileStep) (process party : ℕ)
         → IsInCallBy (left_by scene steps) process party
         → IsLock (left_by scene steps).words party process }
+
+    // A process that has taken a number's lock can count the number's life, and then begins to
+    // settle the number.
+    ensures counts { (scene : FileScene) (steps : List FileStep) (process party : ℕ)
+        → IsPlace (left_by scene steps) process (Counting party)
+        → CanCount (left_by scene steps) process party }
+
+    // The life of a number never becomes less.
+    ensures lives { (scene : FileScene) (steps : List FileStep) (step : FileStep) (party life more : ℕ)
+        → IsLife (left_by scene steps).words party life
+        → IsLife (file_step (left_by scene steps) step).state.words party more → life ≤ more }
+
+    // If a process has a number's lock, no step of another process changes the number's life.
+    ensures own_life { (scene : FileScene) (steps : List FileStep) (step : FileStep) (process party life : ℕ)
+        → IsLock (left_by scene steps).words party process
+        → IsLife (left_by scene steps).words party life → process_of step ≢ process
+        → IsLife (file_step (left_by scene steps) step).state.words party life }
+
+    // A number and a life name one process at most, from when it took the number's lock: whoever
+    // takes the lock later counts a greater life.
+    ensures one_life { (scene : FileScene) (before after : List FileStep) (process other party life more : ℕ)
+        → IsLife (left_by scene before).words party life
+        → (let taken = file_step (left_by scene before) (Lock process party) in
+        taken.outcome ≡ OnLock party → HasCounted (file_after taken.state after) other party more
+        → life < more) }
 
     // The flags are those of a shared pool whose parties are the file's numbers: each step on a
     // flag is one that the machine of such a pool allows. What a settler gives back for a dead
@@ -382,6 +441,18 @@ pub fn file_variants_theorem()
     // A process that settles a number whose lock another process has takes away that process's
     // buckets.
     ensures reaps_the_living { TakesAway reaps_the_living }
+
+    // If a take that is late leaves its own name in the flag, a settler takes back a bucket whose
+    // number another, living party has sent.
+    ensures late_take_keeps_name { RecoversAnothers late_take_keeps_name }
+
+    // If a take that is late puts the flag back without a look at the slots, a settler gives back a
+    // bucket that is in one.
+    ensures late_take_looks_not { FreesMessage late_take_looks_not }
+
+    // If a process that joins counts no life, two processes have one number with one life, one
+    // after the other.
+    ensures join_counts_not { SharesLife join_counts_not }
 
     // A process that leaves, and frees the lock before it settles the number, shares the number
     // with the next process.

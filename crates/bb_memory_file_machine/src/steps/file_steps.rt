@@ -1,8 +1,8 @@
 //! The law about the kinds of steps of the machine of a pool in a file: each is possible.
-ghost use Rattle.bb_memory_file_machine.specs.FileLaws.{IsFlag, IsHolder, IsInSome, IsLock, IsPlace, IsSlot};
-ghost use Rattle.bb_memory_file_machine.specs.FileMachine.{Addresses, Addressing, Allocate, AttachFrom, AttachNumber, Attached, Checking, Dead, Deallocate, Detach, DetachNumber, DetachedBy, Dies, Done, Empty, Ending, Exchange, FileState, Finding, Flags, Free, GiveBack, HeldBy, Keeping, Kill, Late, Leave, Lock, Message, Moves, Next, OnFlag, OnLock, OnSlot, Outside, Place, Post, Posting, Receives, Recover, Release, Seen, Sent, Settled, Slots, Take, TryAt, Unlock, nobody, with_flag, with_lock, with_outside, with_slot};
+ghost use Rattle.bb_memory_file_machine.specs.FileLaws.{IsFlag, IsHolder, IsIn, IsInSome, IsLife, IsLock, IsPlace, IsSlot};
+ghost use Rattle.bb_memory_file_machine.specs.FileMachine.{Addresses, Addressing, Allocate, AttachFrom, AttachNumber, Attached, Checking, Count, Counting, Dead, Deallocate, Detach, DetachNumber, DetachedBy, Dies, Done, Empty, Ending, Exchange, FileState, Finding, Flags, Free, GiveBack, HeldBy, Keeping, Kill, Late, Leave, Lock, Message, Moves, Next, OnFlag, OnLife, OnLock, OnSlot, Outside, Place, Post, Posting, PutsBack, Receives, Recover, Release, Returning, Seen, Sent, Settled, Slots, Take, TryAt, Unlock, nobody, with_flag, with_life, with_lock, with_outside, with_slot};
 ghost use Rattle.bb_memory_file_machine.specs.FileMoves.{IsUnlocked, Makes, MayBegin};
-ghost use Rattle.std.specs.Prelude.{None, Some, false, length, true, ℕ, ◌+◌, ◌<◌, ◌≤◌};
+ghost use Rattle.std.specs.Prelude.{None, Some, length, ℕ, ◌+◌, ◌<◌, ◌≤◌};
 
 /// States that each kind of step is possible: if the places, locks, flags and slots are as its clause
 /// requires, the step makes the change of its clause, and no other. The function does nothing: its
@@ -13,11 +13,17 @@ ghost use Rattle.std.specs.Prelude.{None, Some, false, length, true, ℕ, ◌+�
 pub fn file_steps_law()
     // LOCKS
 
-    // A process in no call takes a free lock, and begins to settle its number.
+    // A process in no call takes a free lock.
     ensures locks { (state : FileState) (process party : ℕ) → IsPlace state process Outside
         → IsUnlocked state.words party
         → Makes state (Lock process party)
-        (OnLock party) (with_lock state.words party (Some process)) (Slots party 0) }
+        (OnLock party) (with_lock state.words party (Some process)) (Counting party) }
+
+    // A process that has taken a number's lock counts any greater life, and begins to settle the
+    // number.
+    ensures counts { (state : FileState) (process party life more : ℕ) → IsPlace state process (Counting party)
+        → IsLife state.words party life → life < more
+        → Makes state (Count process more) (OnLife party) (with_life state.words party more) (Slots party 0) }
 
     // A process begins to settle a number whose lock it has.
     ensures leaves { (state : FileState) (process party : ℕ) → MayBegin state process party
@@ -42,7 +48,7 @@ pub fn file_steps_law()
     ensures detaches { (state : FileState) (process party bucket : ℕ) → MayBegin state process party
         → IsHolder state.words bucket party → ¬ IsInSome state.words bucket
         → Makes state (DetachNumber process party bucket) (OnFlag (Detach party bucket))
-        (with_flag (with_outside state.words bucket true) bucket (DetachedBy party)) Outside }
+        (with_flag (with_outside state.words bucket (Some party)) bucket (DetachedBy party)) Outside }
 
     // A party that has taken a message puts it back: it detaches the bucket, which is in a slot.
     ensures puts_back { (state : FileState) (process party bucket : ℕ) → MayBegin state process party
@@ -55,29 +61,31 @@ pub fn file_steps_law()
     ensures attaches { (state : FileState) (process party bucket from : ℕ) → MayBegin state process party
         → IsFlag state.words bucket (DetachedBy from)
         → Makes state (AttachNumber process party bucket from) (OnFlag (AttachFrom party bucket from))
-        (with_flag (with_outside state.words bucket false) bucket (HeldBy party)) Outside }
+        (with_flag (with_outside state.words bucket None) bucket (HeldBy party)) Outside }
 
     // POSTS
 
-    // A party fills an empty slot with a bucket that it holds and that is in no slot.
+    // A party fills an empty slot with a bucket that it holds and that is in no slot. No channel
+    // outside counts as knowing the number any more.
     ensures posts { (state : FileState) (process party slot bucket size : ℕ) → MayBegin state process party
         → IsHolder state.words bucket party → ¬ IsInSome state.words bucket → IsSlot state.words slot Empty
         → Makes state (Post process party slot bucket size)
-        (OnSlot slot) (with_slot state.words slot (Message bucket size)) (Posting party bucket) }
+        (OnSlot slot) (with_slot (with_outside state.words bucket None) slot (Message bucket size)) (Posting party bucket) }
 
-    // A post detaches the bucket.
+    // A post, or a take that is late, detaches the bucket that is in a slot.
     ensures post_detaches { (state : FileState) (process party bucket : ℕ)
         → IsPlace state process (Posting party bucket)
         → Makes state (Next process)
         (OnFlag (Detach party bucket)) (with_flag state.words bucket (DetachedBy party)) (Sent party bucket) }
 
-    // A post addresses its bucket to the number that nobody joins.
+    // A post, or a take that is late, addresses the bucket in a slot to the number that nobody
+    // joins.
     ensures post_addresses { (state : FileState) (process party bucket : ℕ)
         → IsPlace state process (Sent party bucket) → IsFlag state.words bucket (DetachedBy party)
         → Makes state (Next process) (Addresses bucket party (nobody state.words))
         (with_flag state.words bucket (DetachedBy (nobody state.words))) Outside }
 
-    // A post whose bucket has been attached already changes nothing more.
+    // A post, or a take that is late, changes nothing more if its bucket has been attached already.
     ensures post_is_taken { (state : FileState) (process party bucket : ℕ)
         → IsPlace state process (Sent party bucket) → ¬ IsFlag state.words bucket (DetachedBy party)
         → Makes state (Next process) Moves state.words Outside }
@@ -93,7 +101,7 @@ pub fn file_steps_law()
     ensures take_attaches { (state : FileState) (process party slot bucket size from : ℕ)
         → IsPlace state process (Seen party slot bucket size) → IsFlag state.words bucket (DetachedBy from)
         → Makes state (Exchange process from) (OnFlag (AttachFrom party bucket from))
-        (with_flag state.words bucket (HeldBy party)) (Attached party slot bucket size) }
+        (with_flag state.words bucket (HeldBy party)) (Attached party slot bucket size from) }
 
     // A take that hasn't attached its bucket ends.
     ensures take_ends { (state : FileState) (process party slot bucket size : ℕ)
@@ -101,19 +109,36 @@ pub fn file_steps_law()
         → Makes state (Next process) Moves state.words Outside }
 
     // A take has received the message if the slot still has it at the second look.
-    ensures take_receives { (state : FileState) (process party slot bucket size : ℕ)
-        → IsPlace state process (Attached party slot bucket size) → IsSlot state.words slot (Message bucket size)
+    ensures take_receives { (state : FileState) (process party slot bucket size from : ℕ)
+        → IsPlace state process (Attached party slot bucket size from) → IsSlot state.words slot (Message bucket size)
         → Makes state (Next process) (Receives slot) state.words Outside }
 
-    // A take is late if the slot has another word at the second look.
-    ensures take_is_late { (state : FileState) (process party slot bucket size : ℕ)
-        → IsPlace state process (Attached party slot bucket size) → ¬ IsSlot state.words slot (Message bucket size)
-        → Makes state (Next process) Moves state.words (Late party bucket) }
+    // A take is late if the slot has another word at the second look. It goes over the slots.
+    ensures take_is_late { (state : FileState) (process party slot bucket size from : ℕ)
+        → IsPlace state process (Attached party slot bucket size from) → ¬ IsSlot state.words slot (Message bucket size)
+        → Makes state (Next process) Moves state.words (Late party bucket from 0) }
 
-    // A take that is late detaches the bucket again.
-    ensures take_detaches { (state : FileState) (process party bucket : ℕ) → IsPlace state process (Late party bucket)
+    // A take that is late passes a slot that hasn't the bucket.
+    ensures take_passes { (state : FileState) (process party bucket from slot : ℕ)
+        → IsPlace state process (Late party bucket from slot) → ¬ IsIn state.words bucket slot
+        → slot < length state.words.slots
+        → Makes state (Next process) Moves state.words (Late party bucket from (slot + 1)) }
+
+    // A take that is late, and finds the bucket in a slot, goes on as a post that has filled it.
+    ensures take_finds { (state : FileState) (process party bucket from slot : ℕ)
+        → IsPlace state process (Late party bucket from slot) → IsIn state.words bucket slot
+        → Makes state (Next process) Moves state.words (Posting party bucket) }
+
+    // A take that is late has been over all slots.
+    ensures take_ends_slots { (state : FileState) (process party bucket from slot : ℕ)
+        → IsPlace state process (Late party bucket from slot) → length state.words.slots ≤ slot
+        → Makes state (Next process) Moves state.words (Returning party bucket from) }
+
+    // A take that is late, and has found the bucket in no slot, puts the flag back as it found it.
+    ensures take_puts_back { (state : FileState) (process party bucket from : ℕ)
+        → IsPlace state process (Returning party bucket from)
         → Makes state (Next process)
-        (OnFlag (Detach party bucket)) (with_flag state.words bucket (DetachedBy party)) Outside }
+        (PutsBack bucket party from) (with_flag state.words bucket (DetachedBy from)) Outside }
 
     // A party begins a `done` at a slot that has a message.
     ensures says_done { (state : FileState) (process party slot bucket size : ℕ) → MayBegin state process party
@@ -209,7 +234,12 @@ pub fn file_steps_law()
     ensures settler_recovers { (state : FileState) (process party at bucket : ℕ)
         → IsPlace state process (Flags party at) → IsFlag state.words bucket (DetachedBy party)
         → Makes state (Recover process bucket) (OnFlag (AttachFrom party bucket party))
-        (with_flag (with_outside state.words bucket false) bucket (HeldBy party)) (Flags party 0) }
+        (with_flag (with_outside state.words bucket None) bucket (HeldBy party)) (Flags party 0) }
+
+    // A settler that is done counts any greater life, as one that leaves does.
+    ensures settler_counts { (state : FileState) (process party life more : ℕ) → IsPlace state process (Settled party)
+        → IsLife state.words party life → life < more
+        → Makes state (Count process more) (OnLife party) (with_life state.words party more) (Settled party) }
 
     // A settler that is done keeps the lock, as one that joins does.
     ensures settler_joins { (state : FileState) (process party : ℕ) → IsPlace state process (Settled party)

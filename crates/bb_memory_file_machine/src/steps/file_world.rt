@@ -1,6 +1,6 @@
 //! A machine of a pool in a file that can be run: the words and locks, and the progress of each
 //! process.
-ghost use Rattle.bb_memory_file_machine.specs.FileMachine.{Checking, Flags, Slots, addressing, after_slot, allocate, attach_number, attaching, begin_done, begin_take, deallocate, detach_number, detaching, exchange, giving_back, has_bucket, is_flag, is_own, is_slot, kill, leave, lock, may_call, move_at, move_of, next, nobody, opening_state, post, process_of, recover, release, same_flag, same_slot, some_has, unlock, with_flag, with_lock, with_slot};
+ghost use Rattle.bb_memory_file_machine.specs.FileMachine.{Checking, Flags, Late, Outside, Slots, addressing, after_slot, allocate, attach_number, attaching, begin_done, begin_take, count, counting, deallocate, detach_number, detaching, exchange, giving_back, has_bucket, is_flag, is_own, is_slot, kill, leave, lock, may_call, move_at, move_of, next, nobody, opening_state, post, process_of, putting_back, recover, release, same_flag, same_slot, some_has, unlock, with_flag, with_lock, with_slot};
 ghost use Rattle.bb_memory_file_machine.specs.FileWorld.{FileWorld, IsFileWorld, IsMove, Replays, Steps, world_of};
 ghost use Rattle.std.specs.Prelude.{IfOk, IsSome, length, slice_get, slice_set, ◌<◌, ◌≡◌};
 
@@ -15,23 +15,24 @@ pub struct FileWorld {
     alloc: Global,
     flags: Vec<Flag>,
     slots: Vec<Slot>,
+    lives: Vec<u64>,
     locks: Vec<Option<u32>>,
-    outside: Vec<bool>,
+    outside: Vec<Option<u32>>,
     places: Vec<Place>,
 }
 
 impl Model for FileWorld {
     ghost Value = { FileWorld };
 
-    ghost view = { λ w. world_of w.flags.items w.slots.items w.locks.items w.outside.items w.places.items };
+    ghost view = { λ w. world_of w.flags.items w.slots.items w.lives.items w.locks.items w.outside.items w.places.items };
 
-    ghost invariant = { λ w. IsFileWorld (world_of w.flags.items w.slots.items w.locks.items w.outside.items w.places.items) };
+    ghost invariant = { λ w. IsFileWorld (world_of w.flags.items w.slots.items w.lives.items w.locks.items w.outside.items w.places.items) };
 }
 
 impl FileWorld {
     /// Makes the machine over that many buckets, slots and party numbers, with that many processes,
-    /// none of them in a call. All flags and locks are free, and all slots are empty. Fails only if
-    /// memory ran out.
+    /// none of them in a call. All flags and locks are free, all slots are empty, and all lives are
+    /// 0. Fails only if memory ran out.
     pub fn new(
         alloc: Global,
         buckets: u32,
@@ -48,13 +49,15 @@ impl FileWorld {
     {
         let flags = vec![in alloc; Flag::Free; buckets as usize]?;
         let words = vec![in alloc; Slot::Empty; slots as usize]?;
+        let lives = vec![in alloc; 0; parties as usize]?;
         let locks = vec![in alloc; None; parties as usize]?;
-        let outside = vec![in alloc; false; buckets as usize]?;
+        let outside = vec![in alloc; None; buckets as usize]?;
         let places = vec![in alloc; Place::Outside; processes as usize]?;
         Ok(FileWorld {
             alloc,
             flags,
             slots: words,
+            lives,
             locks,
             outside,
             places,
@@ -102,6 +105,13 @@ impl FileWorld {
         found_at(&self.slots, slot as usize)
     }
 
+    /// Returns the life of the number, or `None` if there is no such number.
+    pub fn life(&self, party: u32) -> Option<u64>
+        ensures { result ≡ slice_get self.now.words.lives party }
+    {
+        found_at(&self.lives, party as usize)
+    }
+
     /// Returns the lock of the number: `Some(None)` if the lock is free, `Some(Some(process))` if a
     /// process has it, and `None` if there is no such number.
     pub fn lock(&self, party: u32) -> Option<Option<u32>>
@@ -125,6 +135,7 @@ impl FileWorld {
     {
         match step {
             FileStep::Lock { process, party } => self.take_lock(process, place, party),
+            FileStep::Count { process: _, life } => self.count(place, life),
             FileStep::Leave { process, party } => self.leave(process, place, party),
             FileStep::Allocate {
                 process,
@@ -173,7 +184,7 @@ impl FileWorld {
         }
     }
 
-    /// Makes a process take the lock of a number, and begin to settle the number.
+    /// Makes a process take the lock of a number.
     fn take_lock(&mut self, process: u32, place: Place, party: u32) -> (FileOutcome, Place)
         ensures { IsMove self.old (lock self.old.words process place party) result.0 result.1 self.new }
     {
@@ -184,7 +195,41 @@ impl FileWorld {
             return (FileOutcome::Refused, place);
         };
         self.locks[party as usize] = Some(process);
-        (FileOutcome::OnLock(party), Place::Slots { party, slot: 0 })
+        (FileOutcome::OnLock(party), Place::Counting { party })
+    }
+
+    /// Makes a process that has taken the lock of a number, or has settled the number, count a life
+    /// of it.
+    fn count(&mut self, place: Place, life: u64) -> (FileOutcome, Place)
+        ensures { IsMove self.old (count self.old.words place life) result.0 result.1 self.new }
+    {
+        match place {
+            Place::Counting { party } => {
+                let next = Place::Slots { party, slot: 0 };
+                self.make_greater(party, life, place, next)
+            }
+            Place::Settled { party } => self.make_greater(party, life, place, place),
+            _ => (FileOutcome::Refused, place),
+        }
+    }
+
+    /// Makes the life of a number greater, and moves the process from `place` to `next`.
+    fn make_greater(
+        &mut self,
+        party: u32,
+        life: u64,
+        place: Place,
+        next: Place,
+    ) -> (FileOutcome, Place)
+        ensures { IsMove self.old (counting self.old.words party life place next) result.0 result.1 self.new }
+    {
+        match found_at(&self.lives, party as usize) {
+            Some(found) if found < life => {
+                set_at(&mut self.lives, party as usize, life);
+                (FileOutcome::OnLife(party), next)
+            }
+            Some(_) | None => (FileOutcome::Refused, place),
+        }
     }
 
     /// Makes a process begin to settle a number whose lock it has.
@@ -264,7 +309,7 @@ impl FileWorld {
             return (FileOutcome::Refused, place);
         }
         if !some_has(bucket, &self.slots) {
-            set_at(&mut self.outside, bucket as usize, true);
+            set_at(&mut self.outside, bucket as usize, Some(party));
         }
         self.set_flag(bucket, Flag::DetachedBy(party));
         (
@@ -290,7 +335,7 @@ impl FileWorld {
         if !self.is_flag(bucket, Flag::DetachedBy(from)) {
             return (FileOutcome::Refused, place);
         }
-        set_at(&mut self.outside, bucket as usize, false);
+        set_at(&mut self.outside, bucket as usize, None);
         self.set_flag(bucket, Flag::HeldBy(party));
         (
             FileOutcome::OnFlag(PoolStep::AttachFrom {
@@ -327,6 +372,7 @@ impl FileWorld {
             return (FileOutcome::Refused, place);
         }
         let message = Slot::Message { bucket, length };
+        set_at(&mut self.outside, bucket as usize, None);
         set_at(&mut self.slots, slot as usize, message);
         (FileOutcome::OnSlot(slot), Place::Posting { party, bucket })
     }
@@ -386,6 +432,7 @@ impl FileWorld {
                 slot,
                 bucket,
                 length,
+                from,
             },
         )
     }
@@ -427,7 +474,7 @@ impl FileWorld {
         if !self.is_flag(bucket, Flag::DetachedBy(party)) {
             return (FileOutcome::Refused, place);
         }
-        set_at(&mut self.outside, bucket as usize, false);
+        set_at(&mut self.outside, bucket as usize, None);
         self.set_flag(bucket, Flag::HeldBy(party));
         (
             FileOutcome::OnFlag(PoolStep::AttachFrom {
@@ -444,26 +491,45 @@ impl FileWorld {
         ensures { IsMove self.old (next self.old.words place) result.0 result.1 self.new }
     {
         match place {
-            Place::Outside | Place::Dead => (FileOutcome::Refused, place),
+            Place::Outside | Place::Dead | Place::Counting { .. } => (FileOutcome::Refused, place),
             Place::Seen { .. } => (FileOutcome::Moves, Place::Outside),
             Place::Settled { .. } => (FileOutcome::Moves, Place::Outside),
             Place::Posting { party, bucket } => {
                 self.detach(party, bucket, Place::Sent { party, bucket })
             }
             Place::Sent { party, bucket } => self.address(party, bucket, Place::Outside),
-            Place::Late { party, bucket } => self.detach(party, bucket, Place::Outside),
             Place::Attached {
                 party,
                 slot,
                 bucket,
                 length,
+                from,
             } => {
                 if self.is_slot(slot, Slot::Message { bucket, length }) {
                     (FileOutcome::Receives(slot), Place::Outside)
                 } else {
-                    (FileOutcome::Moves, Place::Late { party, bucket })
+                    (
+                        FileOutcome::Moves,
+                        Place::Late {
+                            party,
+                            bucket,
+                            from,
+                            next: 0,
+                        },
+                    )
                 }
             }
+            Place::Late {
+                party,
+                bucket,
+                from,
+                next,
+            } => self.late_slot(party, bucket, from, next),
+            Place::Returning {
+                party,
+                bucket,
+                from,
+            } => self.put_back(party, bucket, from),
             Place::Finding {
                 party,
                 slot,
@@ -580,6 +646,48 @@ impl FileWorld {
                 to,
             },
             next,
+        )
+    }
+
+    /// Makes a take that is late look at a slot.
+    fn late_slot(&mut self, party: u32, bucket: u32, from: u32, slot: u32) -> (FileOutcome, Place)
+        ensures { IsMove self.old (next self.old.words (Late party bucket from slot)) result.0 result.1 self.new }
+    {
+        let found = found_at(&self.slots, slot as usize);
+        let place = match found {
+            None => Place::Returning {
+                party,
+                bucket,
+                from,
+            },
+            Some(word) => {
+                if has_bucket(bucket, word) {
+                    Place::Posting { party, bucket }
+                } else {
+                    Place::Late {
+                        party,
+                        bucket,
+                        from,
+                        next: self.after_slot(slot),
+                    }
+                }
+            }
+        };
+        (FileOutcome::Moves, place)
+    }
+
+    /// Makes a take that is late put the flag back as it was found.
+    fn put_back(&mut self, party: u32, bucket: u32, from: u32) -> (FileOutcome, Place)
+        ensures { IsMove self.old (putting_back self.old.words party bucket from Outside) result.0 result.1 self.new }
+    {
+        self.set_flag(bucket, Flag::DetachedBy(from));
+        (
+            FileOutcome::PutsBack {
+                bucket,
+                party,
+                from,
+            },
+            Place::Outside,
         )
     }
 
@@ -780,6 +888,7 @@ fn process_of(step: FileStep) -> u32
 {
     match step {
         FileStep::Lock { process, .. } => process,
+        FileStep::Count { process, .. } => process,
         FileStep::Leave { process, .. } => process,
         FileStep::Allocate { process, .. } => process,
         FileStep::Deallocate { process, .. } => process,

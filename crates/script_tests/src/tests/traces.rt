@@ -33,6 +33,8 @@ fn words_of_slots(rt: HostRuntime) {
 const POSTED: &[u8] = b"file 2 1 1 1
 join 0
 lock 0 0
+life 0 0 0 2
+life 0 0 2 3
 ok 0
 allocate 0 0
 flag 0 0 0 1
@@ -47,8 +49,8 @@ ok 0
 #[test]
 fn each_change_is_allowed(rt: HostRuntime) {
     let end = End::Same {
-        lines: 12,
-        changes: 5,
+        lines: 14,
+        changes: 7,
     };
     same(&rt, end_of(rt.alloc(), POSTED), end);
 }
@@ -58,6 +60,7 @@ fn a_detach_before_the_post_is_refused(rt: HostRuntime) {
     let text = b"file 2 1 1 1
 join 0
 lock 0 0
+life 0 0 0 2
 ok 0
 allocate 0 0
 flag 0 0 0 1
@@ -76,7 +79,7 @@ flag 0 0 1 2
         },
         outcome: FileOutcome::OnSlot(0),
     };
-    differs(&rt, text, 9, difference);
+    differs(&rt, text, 10, difference);
 }
 
 #[test]
@@ -90,11 +93,104 @@ fn a_join_without_a_lock_is_refused(rt: HostRuntime) {
 }
 
 #[test]
+fn a_join_that_counts_no_life_is_refused(rt: HostRuntime) {
+    let uncounted = Difference::OtherStep {
+        place: Place::Counting { party: 0 },
+        step: FileStep::Next { process: 0 },
+        outcome: FileOutcome::Refused,
+    };
+    differs(&rt, b"file 2 1 1 1\njoin 0\nlock 0 0\nok 0\n", 4, uncounted);
+    let unlocked = Difference::OtherStep {
+        place: Place::Outside,
+        step: FileStep::Next { process: 0 },
+        outcome: FileOutcome::Refused,
+    };
+    differs(&rt, b"file 2 1 1 1\njoin 0\nlife 0 0 0 2\n", 3, unlocked);
+    differs(
+        &rt,
+        b"file 2 1 1 1\njoin 0\nlock 0 0\nlife 0 0 1 2\n",
+        4,
+        Difference::OtherBefore,
+    );
+}
+
+/// A take has seen a message; its receiver has sent the bucket on by number, and the take attaches
+/// it.
+const LATE: &[u8] = b"file 2 2 1 1
+join 0
+lock 0 0
+life 0 0 0 2
+life 0 0 2 3
+ok 0
+join 1
+lock 1 1
+life 1 1 0 2
+life 1 1 2 3
+ok 1
+allocate 0 0
+flag 0 0 0 1
+ok 0 0
+post 0 0 0 0 8
+slot 0 0 0 34359738369
+flag 0 0 1 2
+flag 0 0 2 6
+ok 0
+take 1 1 0
+look 1
+take 0 0 0
+look 0
+flag 0 0 6 1
+ok 0 0 8
+done 0 0 0
+slot 0 0 34359738369 0
+ok 0
+detach 0 0 0
+flag 0 0 1 2
+ok 0
+flag 1 0 2 3
+";
+
+#[test]
+fn a_late_take_puts_the_flag_back(rt: HostRuntime) {
+    let mut put_back = Vec::new(rt.alloc());
+    let mut renamed = Vec::new(rt.alloc());
+    for byte in LATE {
+        put_back.push(*byte).abort(&rt);
+        renamed.push(*byte).abort(&rt);
+    }
+    for byte in b"flag 1 0 3 2\nrefused 1\n" {
+        put_back.push(*byte).abort(&rt);
+    }
+    for byte in b"flag 1 0 3 4\n" {
+        renamed.push(*byte).abort(&rt);
+    }
+    let end = End::Same {
+        lines: 34,
+        changes: 15,
+    };
+    same(&rt, end_of(rt.alloc(), &put_back), end);
+    let difference = Difference::OtherStep {
+        place: Place::Returning {
+            party: 1,
+            bucket: 0,
+            from: 0,
+        },
+        step: FileStep::Next { process: 1 },
+        outcome: FileOutcome::PutsBack {
+            bucket: 0,
+            party: 1,
+            from: 0,
+        },
+    };
+    differs(&rt, &renamed, 33, difference);
+}
+
+#[test]
 fn a_lock_of_another_process_is_refused(rt: HostRuntime) {
     differs(
         &rt,
-        b"file 2 1 1 1\njoin 0\nlock 0 0\nok 0\nreap 1\nlock 1 0\n",
-        6,
+        b"file 2 1 1 1\njoin 0\nlock 0 0\nlife 0 0 0 2\nok 0\nreap 1\nlock 1 0\n",
+        7,
         Difference::OtherBefore,
     );
 }
@@ -103,8 +199,8 @@ fn a_lock_of_another_process_is_refused(rt: HostRuntime) {
 fn a_lock_that_outlives_its_process_is_refused(rt: HostRuntime) {
     differs(
         &rt,
-        b"file 2 1 1 1\njoin 0\nlock 0 0\nok 0\nkill 0\ngone 0\n",
-        6,
+        b"file 2 1 1 1\njoin 0\nlock 0 0\nlife 0 0 0 2\nok 0\nkill 0\ngone 0\n",
+        7,
         Difference::KeepsLock(0),
     );
 }

@@ -1,28 +1,23 @@
-use Rattle.bb_memory_file_machine.proofs.FileEffects.{same_holder}
+use Rattle.bb_memory_file_machine.proofs.FileEffects.{cleared_there, same_holder}
+use Rattle.bb_memory_file_machine.proofs.FileLives.{one_life}
 use Rattle.bb_memory_file_machine.proofs.FilePools.{pool_always, taken_always}
 use Rattle.bb_memory_file_machine.proofs.FileSettles.{can_settle}
 use Rattle.bb_memory_file_machine.proofs.FileSteps.{holds_always}
 use Rattle.bb_memory_file_machine.proofs.FileTakers.{taker_attached}
-use Rattle.bb_memory_file_machine.proofs.FileTheorem.{addressed_always, effect_always, kept_always, locked_always, never_free_always, nothing_lost, one_process, received_always, settled_always, stays_always}
+use Rattle.bb_memory_file_machine.proofs.FileTheorem.{addressed_always, can_count, effect_always, kept_always, known_always, lives_always, locked_always, never_free_always, nothing_lost, one_process, own_life_always, received_always, sender_always, settled_always, stays_always}
 use Rattle.bb_memory_file_machine.proofs.steps.file.file_theorem.Goals as goal
 use Rattle.bb_memory_file_machine.specs.FileLaws.{IsOutside, UsesNumber}
 use Rattle.bb_memory_file_machine.specs.FileMachine.{AttachNumber, DetachedBy, FileMove, FileScene, FileState, FileStep, FileWords, Flags, Outside, Place, Recover, Refused, attach_number, change_at, is_flag, is_own, left_by, move_at, opening_state, process_of, recover, refused}
 use Rattle.bb_memory_file_machine.specs.FilePool.{flag_steps, pool_of}
 use Rattle.bb_memory_lists.proofs.SliceGets.{slice_get-replicated}
 use Rattle.bb_memory_pool_machine.proofs.PoolRuns.{pool_run, run_is_sound}
-use Rattle.std.proofs.Common.{Bool, List, None, Option, Some, [], arith, false, refl, suc, true, zero, ℕ, ◌∷◌, ◌≡◌, ◌≢◌}
+use Rattle.std.proofs.Common.{List, None, Option, Some, [], refl, ℕ, ◌≡◌, ◌≢◌}
 use Rattle.std.proofs.lemmas.Bool.{cond_both}
-use Rattle.std.specs.Prelude.{slice_get, slice_set}
+use Rattle.std.specs.Prelude.{slice_get}
 
 unknown : (scene : FileScene) (bucket : ℕ) → ¬ IsOutside (opening_state scene).words bucket
-unknown scene bucket known = let same = slice_get-replicated scene.buckets bucket false true known in absurd (cc)
-
-unmarked : (outside : List Bool) (at bucket : ℕ) → at ≡ bucket → ¬ (slice_get (slice_set outside at false) bucket ≡ Some true)
-unmarked [] at bucket same known = absurd (cc)
-unmarked (one ∷ rest) zero zero same known = absurd (cc)
-unmarked (one ∷ rest) zero (suc bucket) same known = absurd (omega (arith, same))
-unmarked (one ∷ rest) (suc at) zero same known = absurd (omega (arith, same))
-unmarked (one ∷ rest) (suc at) (suc bucket) same known = unmarked rest at bucket (omega (arith, same)) known
+unknown scene bucket (party, sent) =
+    let same = slice_get-replicated scene.buckets bucket None (Some party) sent in absurd (cc)
 
 -- if the move isn't refused, no channel outside knows the bucket's number afterwards
 abbrev Forgets : ℕ → FileMove → Type 0
@@ -36,7 +31,7 @@ attach_forgets : (words : FileWords) (process : ℕ) (place : Place) (party at f
 attach_forgets words process Outside party at from bucket same =
     cond_both (is_own words process party) _ _ (Forgets bucket)
     (λ own. cond_both (is_flag words at (DetachedBy from)) _ _ (Forgets bucket)
-    (λ is allowed known. unmarked words.outside at bucket same known)
+    (λ is allowed known. cleared_there words.outside at bucket same known.0 known.1)
     (λ e. refused_forgets words Outside bucket))
     (λ e. refused_forgets words Outside bucket)
 attach_forgets words process place party at from bucket same = refused_forgets words place bucket
@@ -44,7 +39,7 @@ attach_forgets words process place party at from bucket same = refused_forgets w
 recover_forgets : (words : FileWords) (place : Place) (at bucket : ℕ) → at ≡ bucket → Forgets bucket (recover words place at)
 recover_forgets words (Flags party next) at bucket same =
     cond_both (is_flag words at (DetachedBy party)) _ _ (Forgets bucket)
-    (λ is allowed known. unmarked words.outside at bucket same known)
+    (λ is allowed known. cleared_there words.outside at bucket same known.0 known.1)
     (λ e. refused_forgets words (Flags party next) bucket)
 recover_forgets words place at bucket same = refused_forgets words place bucket
 
@@ -71,7 +66,8 @@ returns c = record {
   taker = taker_attached;
   one_slot = λ scene steps. (holds_always scene steps).sound.one_slot;
   never_free = never_free_always;
-  known = λ scene steps. (holds_always scene steps).sound.known;
+  known = known_always;
+  sender = sender_always;
   unknown = unknown;
   forgotten = λ scene steps step bucket.
       let state = left_by scene steps in forgotten state step bucket (slice_get state.places (process_of step));
@@ -81,6 +77,10 @@ returns c = record {
   nothing_lost = nothing_lost;
   one_process = one_process;
   locked = locked_always;
+  counts = can_count;
+  lives = lives_always;
+  own_life = own_life_always;
+  one_life = one_life;
   pool = pool_always;
   run = λ scene steps geometry. pool_run (pool_of scene geometry) (flag_steps scene steps);
   taken = taken_always;

@@ -1,9 +1,9 @@
 use Rattle.bb_memory_file_machine.proofs.FileEffects.{below_end}
-use Rattle.bb_memory_file_machine.proofs.FileTests.{flag_there, in_none, in_some, slot_there}
+use Rattle.bb_memory_file_machine.proofs.FileTests.{flag_there, has_own, in_none, in_some, slot_there}
 use Rattle.bb_memory_file_machine.proofs.steps.file_steps.file_steps_law.Goals as goal
-use Rattle.bb_memory_file_machine.specs.FileLaws.{IsFlag, IsInSome, IsSlot}
-use Rattle.bb_memory_file_machine.specs.FileMachine.{DetachedBy, Empty, FileWords, Flag, HeldBy, Message, Slot, is_flag, is_slot, some_has}
-use Rattle.std.proofs.Common.{List, None, [], arith, eq-eqb, false, le-ltb, length, lt-ltb, refl, suc, true, zero, ℕ, ◌∷◌, ◌≡◌, ◌≤◌}
+use Rattle.bb_memory_file_machine.specs.FileLaws.{IsFlag, IsIn, IsInSome, IsSlot}
+use Rattle.bb_memory_file_machine.specs.FileMachine.{DetachedBy, Empty, FileWords, Flag, HeldBy, Late, Message, Moves, Slot, has_bucket, is_flag, is_slot, late_slot, move_of, some_has}
+use Rattle.std.proofs.Common.{List, None, Option, Some, [], ap, arith, eq-eqb, false, le-ltb, length, lt-ltb, refl, suc, true, zero, ℕ, ◌+◌, ◌<◌, ◌∙◌, ◌∷◌, ◌≡◌, ◌≤◌}
 use Rattle.std.proofs.lemmas.Bool.{false_from_ne_true, true_from_ne_false}
 use Rattle.std.specs.Prelude.{slice_get, ◌==◌}
 
@@ -23,14 +23,41 @@ none_has words bucket not = false_from_ne_true (some_has bucket words.slots) (λ
 one_has : (words : FileWords) (bucket : ℕ) → IsInSome words bucket → some_has bucket words.slots ≡ true
 one_has words bucket has = true_from_ne_false (some_has bucket words.slots) (λ none. in_none words bucket none has)
 
+there_not : {X : Type 0} (xs : List X) (i : ℕ) → i < length xs → ¬ (slice_get xs i ≡ None)
+there_not [] i below none = absurd (omega (arith, below))
+there_not (x ∷ xs) zero below none = absurd (cc)
+there_not (x ∷ xs) (suc i) below none = there_not xs i (omega (arith, below)) none
+
 past_end : {X : Type 0} (xs : List X) (i : ℕ) → length xs ≤ i → slice_get xs i ≡ None
 past_end [] i end = refl
 past_end (x ∷ xs) zero end = absurd (omega (arith, end))
 past_end (x ∷ xs) (suc i) end = past_end xs i (omega (arith, end))
 
+-- a take that is late passes a word that hasn't the bucket
+passes_word : (words : FileWords) (party bucket from slot : ℕ) (word : Slot) → slot < length words.slots →
+    (has_bucket bucket word ≡ true → ⊥) →
+    late_slot words party bucket from slot (Some word) ≡ move_of Moves words (Late party bucket from (slot + 1))
+passes_word words party bucket from slot word below not =
+    simp (false_from_ne_true (has_bucket bucket word) not, lt-ltb slot (length words.slots) below) refl
+
+passes_found : (words : FileWords) (party bucket from slot : ℕ) (found : Option Slot) → slice_get words.slots slot ≡ found →
+    ¬ IsIn words bucket slot → slot < length words.slots →
+    late_slot words party bucket from slot found ≡ move_of Moves words (Late party bucket from (slot + 1))
+passes_found words party bucket from slot None is not below =
+    absurd (there_not words.slots slot below is)
+passes_found words party bucket from slot (Some word) is not below =
+    passes_word words party bucket from slot word below
+    (λ e. let own = has_own bucket word e in not (own.0, is ∙ ap Some own.1))
+
+passes_slot : (words : FileWords) (party bucket from slot : ℕ) → ¬ IsIn words bucket slot → slot < length words.slots →
+    late_slot words party bucket from slot (slice_get words.slots slot) ≡ move_of Moves words (Late party bucket from (slot + 1))
+passes_slot words party bucket from slot not below =
+    passes_found words party bucket from slot (slice_get words.slots slot) refl not below
+
 pub returns : goal.returns
 returns c = record {
   locks = λ state process party there free. simp (there, free) refl;
+  counts = λ state process party life more there is less. simp (there, is, lt-ltb life more less) refl;
   leaves = λ state process party may. simp (may.place, may.lock, itself) refl;
   allocates = λ state process party bucket may free. simp (may.place, may.lock, free, itself) refl;
   deallocates = λ state process party bucket may held not_in.
@@ -49,10 +76,15 @@ returns c = record {
   takes = λ state process party slot bucket size may is. simp (may.place, may.lock, is, itself) refl;
   take_attaches = λ state process party slot bucket size from there is. simp (there, is, itself) refl;
   take_ends = λ state process party slot bucket size there. simp there refl;
-  take_receives = λ state process party slot bucket size there is. simp (there, is, itself) refl;
-  take_is_late = λ state process party slot bucket size there not.
+  take_receives = λ state process party slot bucket size from there is. simp (there, is, itself) refl;
+  take_is_late = λ state process party slot bucket size from there not.
       simp (there, not_slot state.words slot (Message bucket size) not) refl;
-  take_detaches = λ state process party bucket there. simp there refl;
+  take_passes = λ state process party bucket from slot there not below.
+      simp (there, passes_slot state.words party bucket from slot not below) refl;
+  take_finds = λ state process party bucket from slot there has. simp (there, has.1, itself) refl;
+  take_ends_slots = λ state process party bucket from slot there end.
+      simp (there, past_end state.words.slots slot end) refl;
+  take_puts_back = λ state process party bucket from there. simp there refl;
   says_done = λ state process party slot bucket size may is. simp (may.place, may.lock, is, itself) refl;
   done_finds_own = λ state process party slot bucket there held. simp (there, held, itself) refl;
   done_ends = λ state process party slot bucket there not.
@@ -83,6 +115,7 @@ returns c = record {
   settler_ends_flags = λ state process party bucket there end.
       simp (there, le-ltb bucket (length state.words.flags) end) refl;
   settler_recovers = λ state process party at bucket there is. simp (there, is, itself) refl;
+  settler_counts = λ state process party life more there is less. simp (there, is, lt-ltb life more less) refl;
   settler_joins = λ state process party there. simp there refl;
   settler_unlocks = λ state process party there. simp there refl;
   settler_gives_up = λ state process party there. simp there refl;
