@@ -17,8 +17,10 @@ POOL = "crates/bb_memory_shared_pools/src/shared_pool/"
 READ = (
     BUMP + "position.rt",
     BUMP + "rule.rt",
+    BUMP + "stand_in.rt",
     POOL + "flags.rt",
     POOL + "rule.rt",
+    POOL + "stand_in.rt",
 )
 LINE = re.compile(r"([0-9a-f]{16})  (\S+)")
 # What to read before a new sum is written.

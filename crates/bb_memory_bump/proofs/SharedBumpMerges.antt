@@ -2,7 +2,7 @@
 use Rattle.atomic_table.specs.Seated.{TableId}
 use Rattle.atomic_table.specs.Table.{Me}
 use Rattle.bb_memory_bump.specs.SharedBump.{AgreeAt, BumpParty, HaveMet, IsSharedScene, SharedBump, floor_of, greatest_seen, meeting_at, seen_by}
-use Rattle.bb_memory_bump.specs.SharedBumpRule.{AfterMeetingLoad, IsPartySeat, NumberedLog, SeatView, numbered_of, party_in, scene_of, sight}
+use Rattle.bb_memory_bump.specs.SharedBumpRule.{AfterMeetingLoad, HasMet, IsPartySeat, NumberedLog, SeatView, meeting_of, met_by, met_of, numbered_of, party_in, scene_of, sight}
 use Rattle.bb_memory_bump_machine.proofs.BumpLogs.{opening_agrees}
 use Rattle.bb_memory_bump_machine.proofs.BumpPositions.{seen_below}
 use Rattle.bb_memory_bump_machine.proofs.BumpWholes.{opened_below, whole_bounds}
@@ -10,11 +10,11 @@ use Rattle.bb_memory_bump_machine.specs.BumpLogs.{BumpLog, HasLog, seen_in}
 use Rattle.bb_memory_bump_machine.specs.BumpMachine.{BumpScene}
 use Rattle.bb_memory_lists.proofs.ListEntries.{contains-none}
 use Rattle.bb_memory_seats.proofs.PartyNumbers.{all_there, has_number, logs_had, numbers_differ, owner}
-use Rattle.bb_memory_seats.specs.Seats.{HaveLogs, alone, view_log}
-use Rattle.std.proofs.Common.{List, [], ap, arith, length, refl, replicate, subst, suc, sym, zero, ℕ, ◌++◌, ◌<◌, ◌∙◌, ◌∷◌, ◌≡◌, ◌≤◌}
+use Rattle.bb_memory_seats.specs.Seats.{HaveLogs, alone, standing_for, view_log}
+use Rattle.std.proofs.Common.{List, [], ap, append_assoc, arith, length, refl, replicate, subst, suc, sym, zero, ℕ, ◌++◌, ◌<◌, ◌∙◌, ◌∷◌, ◌≡◌, ◌≤◌}
 use Rattle.std.proofs.lemmas.Grind.{common_steps}
 use Rattle.std.proofs.lemmas.List.{length-map, length-replicate}
-use Rattle.std.proofs.lemmas.List.Elements.{All-contains, All-contains_itself, All-from_recursion, All-nil, All-replicate, All-weaker, recursion_from_All}
+use Rattle.std.proofs.lemmas.List.Elements.{All-contains, All-contains_itself, All-cons, All-from_recursion, All-head, All-nil, All-replicate, All-tail, All-weaker, recursion_from_All}
 use Rattle.std.specs.List.{All, AllByRecursion}
 use Rattle.std.specs.Prelude.{Contains, map}
 
@@ -136,3 +136,76 @@ pub met_seat : (scene : BumpScene) (number met found : ℕ) (before behind : Lis
     AfterMeetingLoad scene (before ++ (me.0.parties ++ behind)) met found →
     new ≡ (alone (sight scene found) number (view_log me.0), []) → IsPartySeat number new
 met_seat scene number met found before behind me new fields same told is = grind (arith, its_own)
+
+-- THERE AND BACK
+
+-- what a meeting found, for one of its parties
+has_met : (scene : BumpScene) (met found : ℕ) (before behind : List NumberedLog) (one : NumberedLog) →
+    AfterMeetingLoad scene (before ++ one ∷ behind) met found → HasMet scene found one
+has_met scene met found before behind one told =
+    let own = its_own scene.parties told.logs before behind one told.theirs in
+    let seen = seen_below scene found told.logs one.number one.log told.agree own in
+    record {
+      within = told.within;
+      reached = grind (arith, common_steps);
+    }
+
+-- and for all of them
+all_met : (scene : BumpScene) (met found : ℕ) (before behind : List NumberedLog) (items : List BumpParty) →
+    AfterMeetingLoad scene (before ++ (map numbered_of items ++ behind)) met found →
+    All (λ party. HasMet scene found (numbered_of party)) items
+all_met scene met found before behind [] told = All-nil (λ (p : BumpParty). HasMet scene found (numbered_of p))
+all_met scene met found before behind (party ∷ items) told =
+    let first = numbered_of party in
+    let rest = map numbered_of items ++ behind in
+    let again = sym (append_assoc before (first ∷ []) rest) in
+    All-cons (λ (p : BumpParty). HasMet scene found (numbered_of p)) party items
+    (has_met scene met found before rest first told)
+    (all_met scene met found (before ++ first ∷ []) behind items
+    (subst (λ (all : List NumberedLog). AfterMeetingLoad scene all met found) again told))
+
+pub parties_met : (scene : BumpScene) (met found : ℕ) (behind : List NumberedLog) (items : List BumpParty) →
+    AfterMeetingLoad scene (map numbered_of items ++ behind) met found →
+    All (λ party. HasMet scene found (numbered_of party)) items
+parties_met scene met found = all_met scene met found []
+
+-- parties of a bump that met are those of its numbers and logs
+of_its_numbers : (bump : SharedBump) (found : ℕ) (items : List BumpParty) → All (λ party. party.allocator ≡ bump) items →
+    map (met_of bump found) (map numbered_of items) ≡ map (meeting_at found) items
+of_its_numbers bump found [] all = refl
+of_its_numbers bump found (party ∷ items) all =
+    let its = All-head (λ (p : BumpParty). p.allocator ≡ bump) party items all in
+    let rest = of_its_numbers bump found items (All-tail (λ (p : BumpParty). p.allocator ≡ bump) party items all) in
+    λ i. record { allocator = sym its i; number = party.number; log = party.log; met = found } ∷ rest i
+
+pub of_same_numbers : (bump : SharedBump) (found : ℕ) (items now : List BumpParty) →
+    All (λ party. party.allocator ≡ bump) items → map numbered_of now ≡ map numbered_of items →
+    map (met_of bump found) (map numbered_of now) ≡ map (meeting_at found) items
+of_same_numbers bump found items now all same =
+    ap (map (met_of bump found)) same ∙ of_its_numbers bump found items all
+
+-- a load of a meeting that found at least as much as an earlier one
+pub told_above : (scene : BumpScene) (parties : List NumberedLog) (less met found : ℕ) → less ≤ met →
+    AfterMeetingLoad scene parties met found → AfterMeetingLoad scene parties less found
+told_above scene parties less met found up told = record {
+  above = omega (arith, up, told.above);
+  within = told.within;
+  opened = told.opened;
+  logs = told.logs;
+  agree = told.agree;
+  one_a_party = told.one_a_party;
+  theirs = told.theirs;
+  once = told.once;
+}
+
+-- a seat that stands for some parties stands for its own
+pub stands_for : (scene : BumpScene) {met : ℕ} {parties : List NumberedLog} (me : Me ℕ SeatView) →
+    me ≡ (standing_for (sight scene met) parties, []) → me ≡ (standing_for (sight scene (met_by me.0)) me.0.parties, [])
+stands_for scene me is = is ∙ sym (ap (λ (m : Me ℕ SeatView). (standing_for (sight scene (met_by m.0)) m.0.parties, [])) is)
+
+-- the seat after a load for a meeting
+pub after_load : (scene : BumpScene) {met : ℕ} {parties : List NumberedLog} (found : ℕ) (old new : Me ℕ SeatView) →
+    old ≡ (standing_for (sight scene met) parties, []) → new ≡ (meeting_of found old.0, []) →
+    new ≡ (standing_for (sight scene found) parties, [])
+after_load scene found old new is load =
+    load ∙ ap (λ (m : Me ℕ SeatView). (standing_for (sight (scene_of m.0) found) m.0.parties, [])) is

@@ -196,6 +196,16 @@ exchanges step old found new = AfterExchange (scene_of old.0) (number_of old.0) 
 abbrev pub loads : Step ℕ → Me ℕ SeatView → ℕ → Me ℕ SeatView → Type 0
 loads step old found new = AfterLoad (scene_of old.0) (number_of old.0) (view_log old.0) (met_by old.0) found new
 
+-- A meeting of the party with this number and log found this position, which is at most the region's
+-- size. Some interleaving of the log leaves the greater one of it and what the party has seen.
+pub record HasMet (scene : BumpScene) (found : ℕ) (party : NumberedLog) : Type 0 where
+  pub within : found ≤ scene.region.size
+  pub reached : Interleaving scene party.number party.log (max (seen_in scene party.log) found)
+
+-- the party of this bump with this number and log, after a meeting that found this position
+abbrev pub met_of : SharedBump → ℕ → NumberedLog → BumpParty
+met_of bump found party = record { allocator = bump; number = party.number; log = party.log; met = found }
+
 -- a load by a seat that stands for any number of parties, as the table knows the step
 abbrev pub meets : Step ℕ → Me ℕ SeatView → ℕ → Me ℕ SeatView → Type 0
 meets step old found new =

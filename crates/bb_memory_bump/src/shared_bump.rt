@@ -14,6 +14,7 @@ mod party;
 mod position;
 mod request;
 mod rule;
+mod stand_in;
 
 use crate::bump_allocator::BumpAllocator;
 pub use all_parties::shared_bump_meeting_law;
@@ -23,6 +24,7 @@ use bb_memory_traits::layout::{Chunk, Layout};
 pub use party::BumpParty;
 use position::Position;
 use rule::{Scene, View};
+use stand_in::StandIns;
 use std::alloc::{AllocError, Global};
 use std::marker::{Brand, Model};
 
@@ -43,6 +45,7 @@ pub struct SharedBumpAllocator {
     position: Position,
     start: usize,
     size: usize,
+    stand_ins: StandIns,
 }
 
 impl Model for SharedBumpAllocator {
@@ -76,11 +79,13 @@ impl SharedBumpAllocator {
             opening: position,
             parties,
         };
+        let stand_ins = StandIns::open(alloc)?;
         let (position, seat) = Position::open(alloc, scene)?;
         let shared = SharedBumpAllocator {
             position,
             start,
             size,
+            stand_ins,
         };
         shared.seat_parties(seat, parties, &mut all);
         Ok((shared, all))
@@ -243,6 +248,7 @@ impl SharedBumpAllocator {
             position,
             start,
             size,
+            stand_ins: _,
         } = self;
         let BumpParty { number: _, seat } = party;
         let used = position.close(seat);
@@ -276,6 +282,7 @@ impl SharedBumpAllocator {
             position,
             start,
             size,
+            stand_ins: _,
         } = self;
         let last = position.close(seat);
         BumpAllocator::at_position(start, size, last)

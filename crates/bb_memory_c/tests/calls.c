@@ -436,7 +436,7 @@ static void run_memory(void) {
             WITHIN(256 + 16 * parties,
                    bb_shared_bump_init(&shared_bump, 4096, 8 * buckets, parties));
             WITHIN(64, bb_shared_bump_join(&shared_bump, &bump_party));
-            WITHIN(464 + 16 * buckets + 12 * parties,
+            WITHIN(544 + 16 * buckets + 12 * parties,
                    bb_shared_pool_init(&shared_pool, 8, 8, 4096, 8 * buckets, parties));
             WITHIN(256, bb_shared_pool_join(&shared_pool, &pool_party));
             WITHIN(256 + buckets + 4 * (buckets / 2),
@@ -597,6 +597,70 @@ static void run_many_parties(void) {
         EXPECT(bb_shared_pool_leave(&pool, &parties[at]) == BB_OK);
     }
     EXPECT(bb_shared_pool_destroy(&pool) == BB_OK);
+}
+
+enum {
+    // Bytes of a stack that any system can start a thread with.
+    SMALL_STACK = 1 << 17,
+    MOST_JOINED = 20000
+};
+
+// Destroys a shared pool of a million parties of which none has joined, and one of which all have
+// joined and left.
+static void *destroy_many_parties(void *unused) {
+    static bb_pool_party parties[MOST_JOINED];
+    bb_shared_pool pool = BB_EMPTY;
+    EXPECT(bb_shared_pool_init(&pool, 64, 8, 4096, 64, 1000000) == BB_OK);
+    EXPECT(bb_shared_pool_destroy(&pool) == BB_OK);
+    EXPECT(bb_shared_pool_init(&pool, 64, 8, 4096, 64, MOST_JOINED) == BB_OK);
+    for (size_t at = 0; at < MOST_JOINED; at++)
+        EXPECT(bb_shared_pool_join(&pool, &parties[at]) == BB_OK);
+    for (size_t at = 0; at < MOST_JOINED; at++)
+        EXPECT(bb_shared_pool_leave(&pool, &parties[at]) == BB_OK);
+    EXPECT(bb_shared_pool_destroy(&pool) == BB_OK);
+    return unused;
+}
+
+// How much stack a call uses does not depend on the number of parties.
+static void run_small_stack(void) {
+    pthread_attr_t attributes;
+    pthread_t thread;
+    EXPECT(pthread_attr_init(&attributes) == 0);
+    EXPECT(pthread_attr_setstacksize(&attributes, SMALL_STACK) == 0);
+    EXPECT(pthread_create(&thread, &attributes, destroy_many_parties, NULL) == 0);
+    EXPECT(pthread_join(thread, NULL) == 0);
+    EXPECT(pthread_attr_destroy(&attributes) == 0);
+}
+
+// Allocates all buckets of a pool of one byte each, frees these two in this order, and returns the
+// number of the bucket that is allocated next.
+static size_t next_after(size_t buckets, size_t first, size_t last) {
+    static size_t places[256];
+    bb_shared_pool pool = BB_EMPTY;
+    bb_pool_party party = BB_EMPTY;
+    EXPECT(bb_shared_pool_init(&pool, 1, 1, 4096, buckets, 1) == BB_OK);
+    EXPECT(bb_shared_pool_join(&pool, &party) == BB_OK);
+    EXPECT(is(bb_pool_party_take_many(&party, places, buckets), buckets));
+    EXPECT(bb_pool_party_deallocate(&party, 4096 + first) == BB_OK);
+    EXPECT(bb_pool_party_deallocate(&party, 4096 + last) == BB_OK);
+    const bb_chunk next = bb_pool_party_take(&party);
+    EXPECT(next.code == BB_OK);
+    EXPECT(bb_shared_pool_leave(&pool, &party) == BB_OK);
+    EXPECT(bb_shared_pool_destroy(&pool) == BB_OK);
+    return next.place - 4096;
+}
+
+// A search begins at the bucket that was freed last, or at one that was freed before that and is at
+// most 128 buckets lower. In a pool that was full, it begins at that one.
+static void run_next_fit(void) {
+    for (size_t buckets = 2; buckets <= 64; buckets++)
+        for (size_t first = 0; first < buckets; first++)
+            for (size_t last = 0; last < buckets; last++)
+                if (first != last)
+                    EXPECT(next_after(buckets, first, last) == (first < last ? first : last));
+    EXPECT(next_after(200, 10, 138) == 10);
+    EXPECT(next_after(200, 10, 139) == 139);
+    EXPECT(next_after(200, 139, 10) == 10);
 }
 
 // If any one of its requests for memory fails, a call returns BB_MALLOC_REFUSED, and leaves its
@@ -1667,6 +1731,8 @@ int main(void) {
     run_abandoned_bump_party();
     run_large();
     run_many_parties();
+    run_small_stack();
+    run_next_fit();
     run_refused_memory();
     run_reset();
     run_parties_come_and_go();

@@ -1,4 +1,5 @@
 pub mod ListEntries
+pub mod ListParts
 mod GroupSums
 pub mod Logs
 pub mod Positions

@@ -13,11 +13,11 @@ use Rattle.bb_memory_seats.proofs.PartyNumbers.{all_there, has_number, logs_had,
 use Rattle.bb_memory_seats.specs.Seats.{IsSplit, Stays, both_of, first_of, others_of, standing_for, times_in}
 use Rattle.bb_memory_shared_pools.specs.SharedPool.{IsSharedScene, PoolParty, SharedPool}
 use Rattle.bb_memory_shared_pools.specs.SharedPoolMeetings.{HaveMet, IsHeldByOne, MetDetached, MetUndetached}
-use Rattle.bb_memory_shared_pools.specs.SharedPoolRule.{AfterMeetingLoad, IsPartySeat, NumberedLog, SeatView, StandsAt, numbered_of, party_in}
+use Rattle.bb_memory_shared_pools.specs.SharedPoolRule.{AfterMeetingLoad, IsPartySeat, NumberedLog, SeatView, StandsAt, numbered_of, of_pool, party_in}
 use Rattle.bb_memory_shared_pools.specs.declared.shared_pool.party.Hint.{Hint}
 use Rattle.std.proofs.Common.{Bool, List, Some, [], ap, append_assoc, arith, inl, inr, length, refl, replicate, subst, sym, true, ℕ, ◌++◌, ◌∙◌, ◌∷◌, ◌≡◌, ◌≤◌}
 use Rattle.std.proofs.lemmas.List.{length-map, length-replicate, map-append}
-use Rattle.std.proofs.lemmas.List.Elements.{All-contains, All-from_recursion, All-nil, All-pop, All-replicate}
+use Rattle.std.proofs.lemmas.List.Elements.{All-contains, All-from_recursion, All-head, All-nil, All-replicate, All-tail}
 use Rattle.std.proofs.lemmas.Option.{same_Some}
 use Rattle.std.specs.Prelude.{All, Contains, map, slice_get}
 
@@ -37,6 +37,30 @@ pub all_merged : (table : TableId) (number : ℕ) (hint : Hint) (me : Me ℕ Sea
 all_merged table number hint me party items rest fields view_is is =
     ap (λ (last : List NumberedLog). map numbered_of rest ++ last) (parties_of table number hint me party fields view_is)
     ∙ sym (map-append numbered_of rest (party ∷ [])) ∙ ap (map numbered_of) (sym is)
+
+-- parties of a pool are those of its numbers and logs
+of_its_numbers : (pool : SharedPool) (items : List PoolParty) → All (λ party. party.allocator ≡ pool) items →
+    map (of_pool pool) (map numbered_of items) ≡ items
+of_its_numbers pool [] all = refl
+of_its_numbers pool (party ∷ items) all =
+    let its = All-head (λ (p : PoolParty). p.allocator ≡ pool) party items all in
+    let rest = of_its_numbers pool items (All-tail (λ (p : PoolParty). p.allocator ≡ pool) party items all) in
+    λ i. record { allocator = sym its i; number = party.number; log = party.log } ∷ rest i
+
+-- so they are as they were if the numbers and logs are
+pub of_same_numbers : (pool : SharedPool) (items now : List PoolParty) → All (λ party. party.allocator ≡ pool) items →
+    map numbered_of now ≡ map numbered_of items → map (of_pool pool) (map numbered_of now) ≡ items
+of_same_numbers pool items now all same = ap (map (of_pool pool)) same ∙ of_its_numbers pool items all
+
+-- a seat that stands for some parties stands for its own
+pub stands_for : (scene : PoolScene) (parties : List NumberedLog) (me : Me ℕ SeatView) →
+    me ≡ (standing_for scene parties, []) → me ≡ (standing_for scene me.0.parties, [])
+stands_for scene parties me is = is ∙ sym (ap (λ (m : Me ℕ SeatView). (standing_for scene m.0.parties, [])) is)
+
+-- the parties at a seat are the same by the numbers and logs of others
+pub parties_at : (scene : PoolScene) {was now : List NumberedLog} (behind : List NumberedLog) (me : Me ℕ SeatView) →
+    me ≡ (standing_for scene (was ++ behind), []) → now ≡ was → me ≡ (standing_for scene (now ++ behind), [])
+parties_at scene behind me is same = is ∙ λ i. (standing_for scene (sym same i ++ behind), [])
 
 -- WHAT A MEETING SAYS
 
@@ -145,61 +169,3 @@ none_met scene items shared none =
         whole = λ long. let some = shared.parties in absurd (omega (arith, some, long));
       },
     )
-
--- THERE AND BACK
-
--- the party's seat is as it was if it stands only for that party again
-same_seat : (pool : SharedPool) (table : TableId) (number : ℕ) (hint : Hint) (me new : Me ℕ SeatView) (party : PoolParty) →
-    IsPartySeat number hint me → party_in table number me.0 ≡ party → party.allocator ≡ pool →
-    new ≡ (standing_for pool.scene (numbered_of party ∷ []), []) → new ≡ me
-same_seat pool table number hint me new party is view_is its back =
-    let scene : me.0.scene ≡ pool.scene =
-    ap (λ (p : PoolParty). p.allocator.scene) view_is ∙ ap (λ (p : SharedPool). p.scene) its in
-    back ∙ (λ i. (standing_for (sym scene i) (numbered_of (sym view_is i) ∷ []), [])) ∙ sym is.seat.seat.is
-
--- the seat of parties to which one more comes
-comes : (scene : PoolScene) (seat guest there : Me ℕ SeatView) (table : TableId) (number : ℕ) (hint : Hint)
-    (party : PoolParty) →
-    IsPartySeat number hint guest → party_in table number guest.0 ≡ party → seat ≡ (standing_for scene seat.0.parties, []) →
-    there ≡ (both_of seat.0 guest.0, seat.1) → there ≡ (standing_for scene (numbered_of party ∷ seat.0.parties), [])
-comes scene seat guest there table number hint party is view_is here merged =
-    let its = parties_of table number hint guest party is view_is in
-    merged ∙ λ i. (standing_for (here i).0.scene (its i ++ seat.0.parties), (here i).1)
-
--- The last of these parties has come to a seat and gone back: all of them made the step, with the parties of that seat, and both
--- seats are as they were.
-pub record CameBack (Step : List NumberedLog → Type 0) (items : List PoolParty) (last : PoolParty) (number : ℕ)
-    (was is its : TableId) (old new guest back : Me ℕ SeatView) : Type 0 where
-  pub table : is ≡ was
-  pub seat : new ≡ old
-  pub step : Step (map numbered_of items ++ old.0.parties)
-  pub own : back ≡ guest
-  pub value : party_in its number back.0 ≡ last
-
--- the parties before the last made the step when that one's seat had joined
-pub merged_back : (Step : List NumberedLog → Type 0) (pool : SharedPool) (items before : List PoolParty) (last : PoolParty)
-    (number : ℕ) (hint : Hint) {was joined met is home its : TableId} {old there stepped new guest back : Me ℕ SeatView} →
-    All (λ party. party.allocator ≡ pool) items → items ≡ before ++ last ∷ [] → IsPartySeat number hint guest →
-    party_in home number guest.0 ≡ last → StandsAt pool was old → Stays was joined (there ≡ (both_of old.0 guest.0, old.1)) →
-    met ≡ joined → stepped ≡ there → Step (map numbered_of before ++ there.0.parties) →
-    IsSplit met stepped is new its back → CameBack Step items last number was is its old new guest back
-merged_back Step pool items before last number hint {home = home} {old = old} {guest = guest} all items_are fields view_is here
-    merged table kept step split =
-    let pool_is = (All-pop (λ (p : PoolParty). p.allocator ≡ pool) items before (Some last) items_are all).1 in
-    let come = comes pool.scene old guest _ home number hint last fields view_is here.seat merged.step in
-    let own = same_seat pool home number hint guest _ last fields view_is pool_is
-    (split.first ∙ ap (λ (m : Me ℕ SeatView). (first_of m.0, [])) (kept ∙ come)) in
-    let same = table ∙ merged.table in
-    let its_table = split.its_table ∙ same ∙ here.table
-    ∙ sym (ap (λ (p : PoolParty). p.allocator.table) view_is ∙ ap (λ b. b.table) pool_is) in
-    let rest = map numbered_of before in
-    record {
-      table = split.table ∙ same;
-      seat = split.rest ∙ ap (λ (m : Me ℕ SeatView). (others_of m.0, m.1)) (kept ∙ come) ∙ sym here.seat;
-      step = subst Step (ap (λ (m : Me ℕ SeatView). rest ++ m.0.parties) come
-          ∙ sym (append_assoc rest (numbered_of last ∷ []) old.0.parties)
-          ∙ ap (λ (all : List NumberedLog). all ++ old.0.parties)
-          (sym (map-append numbered_of before (last ∷ [])) ∙ ap (map numbered_of) (sym items_are))) step;
-      own = own;
-      value = (λ i. party_in (its_table i) number (own i).0) ∙ view_is;
-    }

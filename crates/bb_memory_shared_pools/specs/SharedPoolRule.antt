@@ -46,6 +46,10 @@ party_in table number view = record {
   log = view_log view;
 }
 
+-- the party of this pool with this number and log
+abbrev pub of_pool : SharedPool → NumberedLog → PoolParty
+of_pool pool party = record { allocator = pool; number = party.number; log = party.log }
+
 -- the seat stands only for this party, and some interleaving has its log
 pub record IsSeatOf (scene : PoolScene) (number : ℕ) (log : PoolLog) (me : Me ℕ SeatView) : Type 0 where
   pub is : me ≡ (alone scene number log, [])

@@ -21,6 +21,7 @@ mod meeting;
 mod next_fit;
 mod party;
 mod rule;
+mod stand_in;
 
 pub use all_parties::shared_pool_meeting_law;
 pub use bb_memory_traits::allocator::{

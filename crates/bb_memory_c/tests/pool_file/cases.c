@@ -6,6 +6,7 @@
 #include <errno.h>
 #include <fcntl.h>
 #include <grp.h>
+#include <malloc.h>
 #include <poll.h>
 #include <pthread.h>
 #include <sched.h>
@@ -219,6 +220,35 @@ int fstat(int fd, struct stat *to) {
     const int result = (int)syscall(SYS_fstat, fd, to);
     if (said_pages != AS_IT_IS)
         to->st_blocks = said_pages == NO_PAGES ? 0 : to->st_size / 512;
+    return result;
+}
+
+// How often the calls have asked for the locks of others, and what is called before and after the
+// next time.
+static uint32_t looks_at_locks;
+static void (*before_look)(void);
+static void (*after_look)(void);
+
+static void call_once(void (**what)(void)) {
+    void (*const calls)(void) = *what;
+    *what = NULL;
+    if (calls != NULL)
+        calls();
+}
+
+int fcntl(int fd, int command, ...) {
+    va_list arguments;
+    va_start(arguments, command);
+    void *argument = va_arg(arguments, void *);
+    va_end(arguments);
+    if (command != F_OFD_GETLK)
+        return (int)syscall(SYS_fcntl, fd, command, argument);
+    looks_at_locks++;
+    call_once(&before_look);
+    const int result = (int)syscall(SYS_fcntl, fd, command, argument);
+    const int error = errno;
+    call_once(&after_look);
+    errno = error;
     return result;
 }
 
@@ -1125,6 +1155,69 @@ static void parties(void) {
     EXPECT(info_of(two).held == 0 && info_of(two).alive == 0);
     close_it(one);
     close_it(two);
+    remove_it();
+}
+
+// Figures of a file of many parties count exactly those that have joined, whoever looks, and ask
+// once for the locks of a stretch of parties of which none has.
+static void many_parties(void) {
+    enum {
+        PARTIES = 200,
+        OPENED = 3
+    };
+
+    const bb_pool_file_options options = {
+        .bucket_size = 8, .bucket_align = 8, .buckets = 4, .parties = PARTIES};
+    bb_pool_file *files[OPENED];
+    bb_pool_party *joined[PARTIES];
+    for (int at = 0; at < OPENED; at++)
+        EXPECT(bb_pool_file_open(&files[at], path, &options) == BB_OK);
+    looks_at_locks = 0;
+    EXPECT(info_of(files[0]).alive == 0 && looks_at_locks == 1);
+    for (int at = 0; at < PARTIES; at++)
+        joined[at] = join_it(files[at * at % OPENED]);
+    for (int at = 0; at < OPENED; at++)
+        EXPECT(info_of(files[at]).alive == PARTIES);
+    // These leave: 150 to 199, and every fifth of the others.
+    for (int at = 0; at < PARTIES; at++)
+        if (at >= 150 || at % 5 == 0)
+            EXPECT(bb_pool_file_leave(files[at * at % OPENED], joined[at]) == BB_OK);
+    for (int at = 0; at < OPENED; at++)
+        EXPECT(info_of(files[at]).alive == 120);
+    // Party 0 joins again, elsewhere: the system reports its lock in another order.
+    bb_pool_party *const again = join_it(files[1]);
+    EXPECT(number_of(again) == 0);
+    for (int at = 0; at < OPENED; at++)
+        EXPECT(info_of(files[at]).alive == 121);
+    for (int at = 0; at < OPENED; at++)
+        close_it(files[at]);
+    remove_it();
+}
+
+static bb_pool_file *others_file;
+static bb_pool_party *others_party;
+
+static void join_and_take(void) {
+    others_party = join_it(others_file);
+    take_one(others_party);
+}
+
+static void leave(void) {
+    EXPECT(bb_pool_file_leave(others_file, others_party) == BB_OK);
+}
+
+// A party that joins or leaves between the looks at flags and at locks is not dead.
+static void moving_parties(void) {
+    bb_pool_file *file = open_it();
+    others_file = open_it();
+    after_look = join_and_take;
+    EXPECT(info_of(file).lost == 0 && after_look == NULL);
+    EXPECT(info_of(file).held == 1 && info_of(file).alive == 1);
+    before_look = leave;
+    EXPECT(info_of(file).lost == 0 && before_look == NULL);
+    EXPECT(info_of(file).held == 0 && info_of(file).alive == 0);
+    close_it(file);
+    close_it(others_file);
     remove_it();
 }
 
@@ -2715,6 +2808,10 @@ static void texts(void) {
 
 int main(int argc, char **argv) {
     alarm(LONGEST);  // a case that fails may wait for what doesn't come
+#ifdef M_MMAP_THRESHOLD
+    // Otherwise glibc keeps addresses for the next large block once it has freed one.
+    mallopt(M_MMAP_THRESHOLD, 1 << 17);
+#endif
     texts();
     unhandled_forks();
     passed();
@@ -2737,6 +2834,8 @@ int main(int argc, char **argv) {
         many(false);
         addresses();
         parties();
+        many_parties();
+        moving_parties();
         cached();
         reaps_detached();
         lives();

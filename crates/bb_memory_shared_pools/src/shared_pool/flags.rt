@@ -20,6 +20,7 @@ ghost use Rattle.bb_memory_traits.specs.PoolObject.{IsPoolGeometry};
 ghost use Rattle.std.specs.Prelude.{IfOk, IsFalse, IsTrue, MatchBool, [], true, ◌<◌, ◌^◌, ◌↔◌, ◌≡◌, ◌≤◌};
 
 use super::rule::{Agreement, Scene, View};
+use super::stand_in::StandIns;
 use atomic_table::{Join, Play, Seat, Split, Table};
 use bb_memory_pool_machine::steps::Flag;
 use bb_memory_traits::geometry::Geometry;
@@ -252,6 +253,7 @@ impl Join<View> for Merge {
 pub(super) struct Flags {
     table: Table<u8, View, Scene, Agreement, Global>,
     pub(super) scene: Scene,
+    pub(super) stand_ins: StandIns,
 }
 
 impl Model for Flags {
@@ -282,7 +284,12 @@ impl Flags {
     {
         let words = Vec::from_elem(alloc, FREE, FIRST + scene.geometry.count() as usize)?;
         let (table, seat) = Table::of_words(alloc, words.as_slice(), &scene)?;
-        let flags = Flags { table, scene };
+        let stand_ins = StandIns::open(alloc)?;
+        let flags = Flags {
+            table,
+            scene,
+            stand_ins,
+        };
         Ok((flags, seat))
     }
 

@@ -1,0 +1,5 @@
+use Rattle.bb_memory_bump.proofs.shared_bump.stand_in.StandIns.like.Goals as goal
+use Rattle.std.proofs.Common.{arith, refl}
+
+pub load_new_seat-requires : goal.load_new_seat-requires
+load_new_seat-requires g c = (let words = c.self.invariant in omega (arith, words), λ _ _ _ _. (g.L.Seen.view, tt, refl))

@@ -1,5 +1,0 @@
-use Rattle.bb_memory_shared_pools.proofs.shared_pool.flags.Flags.+meet_rest.Given as goal
-use Rattle.std.proofs.Common.{length}
-
-abbrev pub decreases-meet_rest : goal.decreases-meet_rest
-decreases-meet_rest l = length l.rest.now.items
