@@ -14,7 +14,7 @@ use Rattle.bb_memory_seats.specs.Seats.{HaveLogs, alone, standing_for, view_log}
 use Rattle.std.proofs.Common.{List, [], ap, append_assoc, arith, length, refl, replicate, subst, suc, sym, zero, ℕ, ◌++◌, ◌<◌, ◌∙◌, ◌∷◌, ◌≡◌, ◌≤◌}
 use Rattle.std.proofs.lemmas.Grind.{common_steps}
 use Rattle.std.proofs.lemmas.List.{length-map, length-replicate}
-use Rattle.std.proofs.lemmas.List.Elements.{All-contains, All-contains_itself, All-cons, All-from_recursion, All-head, All-nil, All-replicate, All-tail, All-weaker, recursion_from_All}
+use Rattle.std.proofs.lemmas.List.Elements.{All-cons, All-contains, All-contains_itself, All-from_recursion, All-head, All-nil, All-replicate, All-tail, All-weaker, recursion_from_All}
 use Rattle.std.specs.List.{All, AllByRecursion}
 use Rattle.std.specs.Prelude.{Contains, map}
 

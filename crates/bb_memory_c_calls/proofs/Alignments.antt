@@ -4,8 +4,8 @@ use Rattle.std.proofs.Common.{ap, arith, bit_and, inl, inr, pow-suc, subst, suc,
 use Rattle.std.proofs.Math.Nat.{mod_self}
 use Rattle.std.proofs.lemmas.Bool.{cases_lt}
 use Rattle.std.proofs.lemmas.Nat.{and_mask}
-use Rattle.std.specs.Int.Bits.{and_self, and_step}
 use Rattle.std.specs.Int.{IsPowerOfTwo}
+use Rattle.std.specs.Int.Bits.{and_self, and_step}
 
 -- a number that isn't 0 and shares no bit with the number below it is a power of two, by halves: an
 -- odd one is 1

@@ -1,5 +1,4 @@
 pub mod ListEntries
-pub mod ListParts
 mod GroupSums
 pub mod Logs
 pub mod Positions

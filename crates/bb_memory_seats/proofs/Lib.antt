@@ -1,2 +1,3 @@
+pub mod ListParts
 pub mod PartyNumbers
 pub mod Seatings

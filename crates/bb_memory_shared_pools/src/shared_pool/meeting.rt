@@ -1,5 +1,5 @@
 //! Any number of parties at one seat.
-ghost use Rattle.bb_memory_seats.specs.Seats.{HasNow, tail_of, standing_for};
+ghost use Rattle.bb_memory_seats.specs.Seats.{HasNow, standing_for, tail_of};
 ghost use Rattle.bb_memory_shared_pools.specs.SharedPool.{SharedPool};
 ghost use Rattle.bb_memory_shared_pools.specs.SharedPoolRule.{AfterMeetingLoad, AfterMeetingLooks, NumberedLog, StandsAt, numbered_of, of_pool};
 ghost use Rattle.std.specs.Prelude.{All, List, [], map, vec_capacity, vec_len, ◌++◌, ◌∷◌, ◌≡◌};

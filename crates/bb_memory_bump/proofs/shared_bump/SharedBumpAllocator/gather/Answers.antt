@@ -1,13 +1,13 @@
+use Rattle.atomic_table.specs.Table.{Me}
 use Rattle.bb_memory_bump.proofs.shared_bump.SharedBumpAllocator.gather.Goals as goal
 use Rattle.bb_memory_bump.specs.SharedBump.{BumpParty}
 use Rattle.bb_memory_bump.specs.SharedBumpRule.{SeatView, met_by, numbered_of, sight}
-use Rattle.bb_memory_lists.proofs.ListParts.{as_it_was, one_and_rest}
+use Rattle.bb_memory_seats.proofs.ListParts.{as_it_was, one_and_rest}
 use Rattle.bb_memory_seats.specs.Seats.{standing_for}
-use Rattle.atomic_table.specs.Table.{Me}
 use Rattle.std.proofs.Common.{All, List, [], ap, arith, drop, get_or, length, map, max, rules, subst, sym, ℕ, ◌++◌, ◌+◌, ◌-◌, ◌<◌, ◌∙◌, ◌∷◌, ◌≡◌, ◌≤◌}
+use Rattle.std.proofs.Math.Seq.{map-set_same}
 use Rattle.std.proofs.lemmas.Grind.{common_steps}
 use Rattle.std.proofs.lemmas.List.Elements.{All-cons, All-set, All-weaker}
-use Rattle.std.proofs.Math.Seq.{map-set_same}
 
 pub loop-at-preserved : goal.loop-at-preserved
 loop-at-preserved c =

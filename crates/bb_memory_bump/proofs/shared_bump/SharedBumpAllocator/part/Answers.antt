@@ -3,7 +3,7 @@ use Rattle.bb_memory_bump.proofs.SharedBumpMerges.{stands_for}
 use Rattle.bb_memory_bump.proofs.shared_bump.SharedBumpAllocator.part.Goals as goal
 use Rattle.bb_memory_bump.specs.SharedBump.{BumpParty}
 use Rattle.bb_memory_bump.specs.SharedBumpRule.{HasMet, SeatView, met_by, met_of, numbered_of, sight}
-use Rattle.bb_memory_lists.proofs.ListParts.{first_as_it_was, one_and_rest}
+use Rattle.bb_memory_seats.proofs.ListParts.{first_as_it_was, one_and_rest}
 use Rattle.bb_memory_seats.specs.Seats.{standing_for, tail_of}
 use Rattle.std.proofs.Common.{List, [], ap, arith, drop, length, map, refl, rules, subst, sym, take, ℕ, ◌++◌, ◌+◌, ◌<◌, ◌∙◌, ◌∷◌, ◌≡◌}
 use Rattle.std.proofs.lemmas.Grind.{common_steps}

@@ -1,13 +1,13 @@
 use Rattle.atomic_table.specs.Table.{Me}
-use Rattle.bb_memory_lists.proofs.ListParts.{as_it_was, one_and_rest}
+use Rattle.bb_memory_seats.proofs.ListParts.{as_it_was, one_and_rest}
 use Rattle.bb_memory_seats.specs.Seats.{standing_for}
 use Rattle.bb_memory_shared_pools.proofs.shared_pool.flags.Flags.gather.Goals as goal
 use Rattle.bb_memory_shared_pools.specs.SharedPool.{PoolParty}
 use Rattle.bb_memory_shared_pools.specs.SharedPoolRule.{SeatView, numbered_of}
 use Rattle.std.proofs.Common.{List, [], ap, arith, get_or, length, map, rules, sym, ℕ, ◌++◌, ◌+◌, ◌-◌, ◌<◌, ◌∙◌, ◌∷◌, ◌≡◌}
+use Rattle.std.proofs.Math.Seq.{map-set_same}
 use Rattle.std.proofs.lemmas.Grind.{common_steps}
 use Rattle.std.proofs.lemmas.List.Elements.{All-set}
-use Rattle.std.proofs.Math.Seq.{map-set_same}
 
 pub loop-at-preserved : goal.loop-at-preserved
 loop-at-preserved c =

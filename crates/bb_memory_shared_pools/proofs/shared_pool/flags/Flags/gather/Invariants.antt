@@ -1,7 +1,7 @@
 use Rattle.bb_memory_seats.specs.Seats.{standing_for}
 use Rattle.bb_memory_shared_pools.proofs.shared_pool.flags.Flags.gather.Given as goal
 use Rattle.bb_memory_shared_pools.specs.SharedPoolRule.{numbered_of}
-use Rattle.std.proofs.Common.{All, [], drop, take, vec_capacity, vec_len, map, ◌++◌, ◌≡◌}
+use Rattle.std.proofs.Common.{All, [], drop, map, take, vec_capacity, vec_len, ◌++◌, ◌≡◌}
 
 -- the parties from `at` on have come to the seat, and the others are as they were
 abbrev pub invariant-loop-at : goal.invariant-loop-at

@@ -1,12 +1,12 @@
 use Rattle.atomic_table.specs.Table.{Me}
-use Rattle.bb_memory_lists.proofs.ListParts.{first_as_it_was, one_and_rest}
+use Rattle.bb_memory_seats.proofs.ListParts.{first_as_it_was, one_and_rest}
 use Rattle.bb_memory_seats.specs.Seats.{standing_for, tail_of}
 use Rattle.bb_memory_shared_pools.proofs.shared_pool.flags.Flags.part.Goals as goal
 use Rattle.bb_memory_shared_pools.specs.SharedPool.{PoolParty}
 use Rattle.bb_memory_shared_pools.specs.SharedPoolRule.{SeatView, numbered_of, of_pool}
 use Rattle.std.proofs.Common.{List, [], ap, arith, drop, length, map, refl, rules, subst, sym, take, ℕ, ◌++◌, ◌+◌, ◌<◌, ◌∙◌, ◌∷◌, ◌≡◌}
 use Rattle.std.proofs.lemmas.Grind.{common_steps}
-use Rattle.std.proofs.lemmas.List.{drop-set-lt, drop-drop, map-append, map_more, take_more_set}
+use Rattle.std.proofs.lemmas.List.{drop-drop, drop-set-lt, map-append, map_more, take_more_set}
 use Rattle.std.proofs.lemmas.List.Elements.{All-get_or}
 
 pub go_back-requires-clause-scene : goal.go_back-requires-clause-scene
