@@ -6,7 +6,6 @@
 #include <errno.h>
 #include <fcntl.h>
 #include <grp.h>
-#include <malloc.h>
 #include <poll.h>
 #include <pthread.h>
 #include <sched.h>
@@ -1028,7 +1027,7 @@ static uint32_t opened_beside_others(const bb_pool_file_options *options) {
 // frees all that it had.
 static void addresses(void) {
     const bb_pool_file_options many_buckets = {
-        .bucket_size = 1, .bucket_align = 1, .buckets = 100000, .parties = 3, .slots = 1};
+        .bucket_size = 1, .bucket_align = 1, .buckets = 100000, .parties = 3, .slots = 0};
     bb_pool_file *file;
     bb_use_memory(allocate, release, &blocks);
     EXPECT(opened_beside_others(&OPTIONS) == 0 && opened_beside_others(&many_buckets) == 0);
@@ -2808,10 +2807,6 @@ static void texts(void) {
 
 int main(int argc, char **argv) {
     alarm(LONGEST);  // a case that fails may wait for what doesn't come
-#ifdef M_MMAP_THRESHOLD
-    // Otherwise glibc keeps addresses for the next large block once it has freed one.
-    mallopt(M_MMAP_THRESHOLD, 1 << 17);
-#endif
     texts();
     unhandled_forks();
     passed();
