@@ -310,7 +310,7 @@ impl PoolFile {
         let len = self.info()?.options.user_bytes;
         // SAFETY: the file is open.
         let place = unsafe { bb_pool_file_user(self.file.as_ptr()) };
-        // SAFETY: the file has so many bytes there as long as it is open, and no call uses them.
+        // SAFETY: the file has that many bytes there as long as it is open, and no call uses them.
         Ok(NonNull::new(place.cast::<AtomicU8>())
             .map_or(&[], |place| unsafe { slice::from_raw_parts(place.as_ptr(), len) }))
     }

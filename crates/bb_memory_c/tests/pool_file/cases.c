@@ -1031,6 +1031,16 @@ static void addresses(void) {
     bb_pool_file *file;
     bb_use_memory(allocate, release, &blocks);
     EXPECT(opened_beside_others(&OPTIONS) == 0 && opened_beside_others(&many_buckets) == 0);
+    // A process that may write no long files opens one all the same.
+    EXPECT(code_of(path, &many_buckets) == BB_OK);
+    const pid_t child = child_of();
+    if (child == 0) {
+        const struct rlimit limit = {PAGE, PAGE};
+        EXPECT(setrlimit(RLIMIT_FSIZE, &limit) == 0 && code_of(path, &many_buckets) == BB_OK);
+        _exit(0);
+    }
+    end(child);
+    remove_it();
     for (int at = 0; at < 2; at++) {
         knows_the_flag = at == 0;
         intruded_mmap = 1;
