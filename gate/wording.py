@@ -34,7 +34,7 @@ WORDS = (
     Word(r"\b[Bb]ehind\b", "after, in, or with"),
     Word(r"\b[Aa]lone\b", "only, or by itself"),
     Word(r"\bElse\b|[,;] else\b", "otherwise"),
-    Word(r"\b[Ss]tands?\b(?! (?:in )?for\b)|\b[Ss]tood\b", "is, or lies"),
+    Word(r"\b[Ss]tands?\b(?! (?:in )?for\b|-ins?\b)|\b[Ss]tood\b", "is, or lies"),
     Word(r"\b[Tt]old\b", "reported, or returned"),
     Word(r"\b[Tt]ells? (?:whether|how|which|that|what)\b", "returns, or reports"),
     Word(r"\b[Ss]o many\b", "that many"),

@@ -106,7 +106,7 @@ class RealTree(unittest.TestCase):
             ("let f = move || 1;", "`|` 2 times, not 1"),
             ("let all = repeat_with(f);", "isn't in CALLED: repeat_with"),
             ("let all = successors::<fn(u8) -> u8>(f);", "isn't in CALLED: successors"),
-            ("self.probe(party, seat, bucket);", "`probe` 1 times, not 0 (calls itself)"),
+            ("self.probe(party, seat, bucket);", "has a function that calls itself: probe"),
             ("spin!(9);", "isn't in CALLED: spin"),
             ('let _ = r"//"; loop {}', "a macro, a raw string or a block comment"),
             ('let _ = "//"; loop {}', "`loop` 1 times, not 0"),

@@ -39,6 +39,7 @@ WRONG = {
 RIGHT = (
     "A value stands for a list, and lists stand for values.",
     "The memory stands in for the words.",
+    "A stand-in has the view of its seat, and all stand-ins are at one table.",
     "The pool has as many buckets as there is room for.",
     "There are as many as before.",
     "The steps of both machines.",

@@ -204,8 +204,8 @@ pub stands_for : (scene : BumpScene) {met : ℕ} {parties : List NumberedLog} (m
 stands_for scene me is = is ∙ sym (ap (λ (m : Me ℕ SeatView). (standing_for (sight scene (met_by m.0)) m.0.parties, [])) is)
 
 -- the seat after a load for a meeting
-pub after_load : (scene : BumpScene) {met : ℕ} {parties : List NumberedLog} (found : ℕ) (old new : Me ℕ SeatView) →
-    old ≡ (standing_for (sight scene met) parties, []) → new ≡ (meeting_of found old.0, []) →
-    new ≡ (standing_for (sight scene found) parties, [])
-after_load scene found old new is load =
+pub after_load : (at : BumpScene) {met : ℕ} {parties : List NumberedLog} (found : ℕ) (old new : Me ℕ SeatView) →
+    old ≡ (standing_for (sight at met) parties, []) → new ≡ (meeting_of found old.0, []) →
+    new ≡ (standing_for (sight at found) parties, [])
+after_load at found old new is load =
     load ∙ ap (λ (m : Me ℕ SeatView). (standing_for (sight (scene_of m.0) found) m.0.parties, [])) is

@@ -3,7 +3,7 @@ use Rattle.bb_memory_bump.proofs.shared_bump.SharedBumpAllocator.into_owner.Goal
 use Rattle.bb_memory_bump_machine.specs.BumpLogs.{seen_in}
 use Rattle.std.proofs.Common.{ap, arith, subst, sym, ◌∙◌}
 
-last : (c : goal.After-at_position) →
+last : (c : goal.After-drop-self-inside) →
     AfterLast c.args.self.scene c.args.party.number c.args.party.log c.args.party.met c.at_position.result.used
 last c =
     let found = last_of c.party.inside.seat.table_id c.self.inside.position.scene c.args.self.scene c.party.inside.number

@@ -9,7 +9,7 @@ use Rattle.std.proofs.lemmas.List.Elements.{All-push, All-weaker}
 use Rattle.std.specs.Prelude.{All, map}
 
 -- all parties have come to the last one's seat
-told : (c : goal.After-at_position) → AfterMeetingLoad c.args.self.scene (map numbered_of c.args.parties.items)
+told : (c : goal.After-drop-self-inside) → AfterMeetingLoad c.args.self.scene (map numbered_of c.args.parties.items)
     (met_by c.merge_rest.new.seat.me.0) c.at_position.result.used
 told c = grind (arith, common_steps)
 

@@ -4,7 +4,7 @@ use Rattle.bb_memory_bump.proofs.shared_bump.SharedBumpAllocator.meet_rest.Goals
 use Rattle.bb_memory_bump.specs.SharedBump.{BumpParty, SharedBump}
 use Rattle.bb_memory_bump.specs.SharedBumpRule.{AfterMeetingLoad, HasMet, NumberedLog, SeatView, StandsAt, met_by, met_of, numbered_of, scene_of, sight}
 use Rattle.bb_memory_seats.specs.Seats.{standing_for}
-use Rattle.std.proofs.Common.{All, List, [], ap, arith, map, subst, sym, ℕ, ◌++◌, ◌∙◌, ◌≡◌, ◌≤◌}
+use Rattle.std.proofs.Common.{All, List, [], ap, arith, map, subst, sym, ℕ, ◌++◌, ◌∙◌, ◌≤◌}
 use Rattle.std.proofs.lemmas.Grind.{common_steps}
 use Rattle.std.proofs.lemmas.List.Elements.{All-weaker}
 

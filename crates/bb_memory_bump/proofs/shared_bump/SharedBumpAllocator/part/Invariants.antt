@@ -1,7 +1,7 @@
 use Rattle.bb_memory_bump.proofs.shared_bump.SharedBumpAllocator.part.Given as goal
 use Rattle.bb_memory_bump.specs.SharedBumpRule.{NumberedLog, met_by, met_of, numbered_of, sight}
 use Rattle.bb_memory_seats.specs.Seats.{standing_for}
-use Rattle.std.proofs.Common.{All, List, [], drop, map, take, vec_capacity, vec_len, ◌++◌, ◌≡◌}
+use Rattle.std.proofs.Common.{List, [], drop, map, take, vec_capacity, vec_len, ◌++◌, ◌≡◌}
 
 -- the parties before `at` are back at their own seats, and the others are as they were
 abbrev pub invariant-loop-at : goal.invariant-loop-at

@@ -1,7 +1,7 @@
 use Rattle.bb_memory_shared_pools.proofs.SharedPoolMerges.{of_same_numbers, parties_at, stands_for}
 use Rattle.bb_memory_shared_pools.proofs.shared_pool.flags.Flags.meet_detached.Goals as goal
 use Rattle.bb_memory_shared_pools.specs.SharedPoolRule.{AfterMeetingLooks, NumberedLog}
-use Rattle.std.proofs.Common.{List, ap, arith, subst, sym, ◌++◌, ◌∙◌}
+use Rattle.std.proofs.Common.{List, ap, arith, subst, sym, ◌∙◌}
 use Rattle.std.proofs.lemmas.Grind.{common_steps}
 
 pub have_detached-told-requires : goal.have_detached-told-requires

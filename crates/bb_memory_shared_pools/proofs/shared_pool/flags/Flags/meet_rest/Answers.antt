@@ -1,7 +1,7 @@
 use Rattle.bb_memory_shared_pools.proofs.SharedPoolMerges.{of_same_numbers, parties_at, stands_for}
 use Rattle.bb_memory_shared_pools.proofs.shared_pool.flags.Flags.meet_rest.Goals as goal
 use Rattle.bb_memory_shared_pools.specs.SharedPoolRule.{AfterMeetingLoad}
-use Rattle.std.proofs.Common.{ap, arith, subst, sym, ◌++◌, ◌∙◌}
+use Rattle.std.proofs.Common.{ap, arith, subst, sym, ◌∙◌}
 use Rattle.std.proofs.lemmas.Grind.{common_steps}
 
 pub load_for_meeting-requires : goal.load_for_meeting-requires

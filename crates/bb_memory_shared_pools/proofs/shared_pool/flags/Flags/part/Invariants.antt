@@ -1,7 +1,7 @@
 use Rattle.bb_memory_seats.specs.Seats.{standing_for}
 use Rattle.bb_memory_shared_pools.proofs.shared_pool.flags.Flags.part.Given as goal
 use Rattle.bb_memory_shared_pools.specs.SharedPoolRule.{NumberedLog, numbered_of, of_pool}
-use Rattle.std.proofs.Common.{All, List, [], drop, map, take, vec_capacity, vec_len, ◌++◌, ◌≡◌}
+use Rattle.std.proofs.Common.{List, [], drop, map, take, vec_capacity, vec_len, ◌++◌, ◌≡◌}
 
 -- the parties before `at` are back at their own seats, and the others are as they were
 abbrev pub invariant-loop-at : goal.invariant-loop-at
