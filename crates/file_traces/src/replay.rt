@@ -439,10 +439,8 @@ fn settled(process: u32, found: Process, change: Change) -> FileStep {
             Some(Call::Leave { .. } | Call::Close | Call::Reap | Call::Recover),
             Change::Unlock { .. },
         ) => FileStep::Unlock { process },
-        (
-            Some(Call::Join | Call::Leave { .. } | Call::Close),
-            Change::Life { to, .. },
-        ) => FileStep::Count { process, life: to },
+        (Some(Call::Join | Call::Leave { .. } | Call::Close), Change::Life { to, .. }) =>
+            FileStep::Count { process, life: to },
         _ => FileStep::Next { process },
     }
 }
