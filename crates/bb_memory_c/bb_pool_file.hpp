@@ -130,15 +130,15 @@ public:
     }
 
     // Frees what dead parties held, and what `what` says: BB_REAP_HELD, BB_REAP_DEAD, BB_REAP_LEFT,
-    // or the last two added together. Stores in `*freed` how many buckets were freed, unless `freed`
-    // is null. BB_UNINITIALIZED if there is no file; then the codes of `bb_pool_file_reap`.
+    // or the last two added together. Stores in `*freed` how many buckets were freed, unless
+    // `freed` is null. BB_UNINITIALIZED if there is no file; then the codes of `bb_pool_file_reap`.
     std::uint32_t reap(std::uint32_t what, std::uint32_t *freed = nullptr) const noexcept {
         return file_ != nullptr ? bb_pool_file_reap(file_, what, freed)
                                 : std::uint32_t{BB_UNINITIALIZED};
     }
 
-    // Returns the life of the party with this number. BB_UNINITIALIZED if there is no file; then the
-    // codes of `bb_pool_file_life`.
+    // Returns the life of the party with this number. BB_UNINITIALIZED if there is no file; then
+    // the codes of `bb_pool_file_life`.
     bb_number life(std::uint32_t party) const noexcept {
         return file_ != nullptr ? bb_pool_file_life(file_, party) : bb_number{BB_UNINITIALIZED, 0};
     }

@@ -1,5 +1,5 @@
 -- Each effect keeps the words sound, and keeps what another process relies on.
-use Rattle.bb_memory_file_machine.proofs.FileInvariant.{HasFound, HoldsNoMessage, IsCleared, IsFrom, IsInNoneBefore, Names, PlaceHas}
+use Rattle.bb_memory_file_machine.proofs.FileInvariant.{HasFound, HoldsNoMessage, IsCleared, IsFrom, Names, PlaceHas}
 use Rattle.bb_memory_file_machine.specs.FileLaws.{Effect, IsFlag, IsHolder, IsIn, IsInSome, IsLock, IsSentBy, IsSlot, addresses, attaches, attaches_number, counts, detaches, detaches_number, empties, fills, frees_lock, gives_back, none, puts_back, takes, takes_lock}
 use Rattle.bb_memory_file_machine.specs.FileMachine.{Addressing, Attached, Checking, Counting, DetachedBy, Empty, Ending, FileOutcome, FileWords, Finding, Flag, Flags, Free, HeldBy, Keeping, Late, Message, Place, Posting, Returning, Seen, Sent, Settled, Slot, Slots, nobody, with_life, with_lock, with_slot}
 use Rattle.bb_memory_lists.proofs.SliceGets.{slice_get-set, slice_get-set_apart, slice_get-set_at}

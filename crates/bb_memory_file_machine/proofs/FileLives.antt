@@ -1,9 +1,9 @@
 -- Whoever takes a number's lock counts a greater life than all before.
 use Rattle.bb_memory_file_machine.proofs.FileEffects.{lock_before, one_value, set_cases}
 use Rattle.bb_memory_file_machine.proofs.FileInvariant.{Holds}
-use Rattle.bb_memory_file_machine.proofs.FileKinds.{Kind, counts, counts_again, dies, kind_of, locks, refuses, releases, unlocks, unlocks_first}
+use Rattle.bb_memory_file_machine.proofs.FileKinds.{Kind, counts, dies, kind_of, locks, refuses, releases, unlocks, unlocks_first}
 use Rattle.bb_memory_file_machine.proofs.FileSteps.{effect_of, holds_always, holds_step}
-use Rattle.bb_memory_file_machine.proofs.FileTheorem.{effect_in, life_effect}
+use Rattle.bb_memory_file_machine.proofs.FileTheorem.{life_effect}
 use Rattle.bb_memory_file_machine.specs.FileLaws.{Effect, HasCounted, IsLife, IsLock, IsPlace}
 use Rattle.bb_memory_file_machine.specs.FileLaws as laws
 use Rattle.bb_memory_file_machine.specs.FileMachine.{Counting, Dead, FileChange, FileMove, FileOutcome, FileScene, FileState, FileStep, FileWords, Lock, OnLock, Place, change_at, change_by, file_after, file_step, left_by, move_at, process_of}

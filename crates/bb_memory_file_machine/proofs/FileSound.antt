@@ -1,6 +1,6 @@
 -- Each effect keeps the words sound.
 use Rattle.bb_memory_file_machine.proofs.FileEffects.{below_end, cleared_there, one_value, sent_before, set_cases, stays_in}
-use Rattle.bb_memory_file_machine.proofs.FileInvariant.{IsFrom, Sound}
+use Rattle.bb_memory_file_machine.proofs.FileInvariant.{Sound}
 use Rattle.bb_memory_file_machine.specs.FileLaws.{Effect, IsFlag, IsHolder, IsIn, IsInSome, IsSentBy, IsSlot, addresses, attaches, attaches_number, counts, detaches, detaches_number, empties, fills, frees_lock, gives_back, none, puts_back, takes, takes_lock}
 use Rattle.bb_memory_file_machine.specs.FileMachine.{DetachedBy, Empty, FileOutcome, FileWords, Flag, Free, HeldBy, Message, nobody, with_lock, with_outside, with_slot}
 use Rattle.bb_memory_file_machine.specs.FilePool.{IsTaken}

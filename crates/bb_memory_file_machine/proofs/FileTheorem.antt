@@ -5,7 +5,7 @@ use Rattle.bb_memory_file_machine.proofs.FileKinds.{Kind, empties, kind_of, post
 use Rattle.bb_memory_file_machine.proofs.FileSteps.{effect_of, holds_always, holds_at_opening, holds_step}
 use Rattle.bb_memory_file_machine.specs.FileLaws.{AreSettled, CanCount, Effect, HasReceived, IsAccountedFor, IsFlag, IsHolder, IsIn, IsInCallBy, IsInSome, IsKnown, IsLife, IsLock, IsPlace, IsSentBy, IsSlot, SaysDone, number_of}
 use Rattle.bb_memory_file_machine.specs.FileLaws as laws
-use Rattle.bb_memory_file_machine.specs.FileMachine.{Addressing, Attached, Checking, Count, Counting, DetachedBy, Empty, Ending, FileChange, FileMove, FileOutcome, FileScene, FileState, FileStep, FileWords, Finding, Flag, Flags, Free, HeldBy, Keeping, Late, Message, Place, Posting, Receives, Refused, Returning, Seen, Sent, Settled, Slots, change_at, file_after, file_step, left_by, move_at, nobody, opening_state, process_of}
+use Rattle.bb_memory_file_machine.specs.FileMachine.{Addressing, Attached, Checking, Counting, DetachedBy, Empty, Ending, FileChange, FileMove, FileOutcome, FileScene, FileState, FileStep, FileWords, Finding, Flag, Flags, Free, HeldBy, Keeping, Late, Message, Place, Posting, Receives, Refused, Returning, Seen, Sent, Settled, Slots, change_at, file_after, file_step, left_by, move_at, nobody, opening_state, process_of}
 use Rattle.bb_memory_file_machine.specs.FilePool.{IsTaken}
 use Rattle.bb_memory_lists.proofs.SliceGets.{length-set_at, slice_get-set_apart, slice_get-set_same}
 use Rattle.std.proofs.Common.{List, None, Option, Some, [], ap, arith, inl, inr, length, refl, suc, sym, zero, ℕ, ◌+◌, ◌<◌, ◌∙◌, ◌∷◌, ◌≡◌, ◌≢◌, ◌≤◌}

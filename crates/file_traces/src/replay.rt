@@ -434,15 +434,34 @@ fn counted(process: u32, change: Change) -> FileStep {
 /// Returns the step of a settler that is done: one that joins or leaves counts, and one that joins
 /// or gives all back keeps the lock.
 fn settled(process: u32, found: Process, change: Change) -> FileStep {
-    match (found.call, change) {
-        (
-            Some(Call::Leave { .. } | Call::Close | Call::Reap | Call::Recover),
-            Change::Unlock { .. },
-        ) => FileStep::Unlock { process },
-        (
-            Some(Call::Join | Call::Leave { .. } | Call::Close),
-            Change::Life { to, .. },
-        ) => FileStep::Count { process, life: to },
-        _ => FileStep::Next { process },
+    let next = FileStep::Next { process };
+    let Some(call) = found.call else {
+        return next;
+    };
+    match change {
+        Change::Unlock { .. } if unlocks(call) => FileStep::Unlock { process },
+        Change::Life { to, .. } if counts(call) => FileStep::Count { process, life: to },
+        _ => next,
+    }
+}
+
+/// Returns whether a call frees the lock of a number that it has settled.
+fn unlocks(call: Call) -> bool {
+    match call {
+        Call::Leave { .. } => true,
+        Call::Close => true,
+        Call::Reap => true,
+        Call::Recover => true,
+        _ => false,
+    }
+}
+
+/// Returns whether a call counts when it has settled a number.
+fn counts(call: Call) -> bool {
+    match call {
+        Call::Join => true,
+        Call::Leave { .. } => true,
+        Call::Close => true,
+        _ => false,
     }
 }

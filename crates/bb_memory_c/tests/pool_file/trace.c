@@ -1,7 +1,7 @@
 // Writes a trace of processes that share a pool in a file. It has one process at a time go on by
 // single instructions. After each instruction it looks at each flag, slot, life and lock in the
-// file, and writes a line for each change. The program `file_replay` reads the trace, and has the proved
-// machine take the same steps.
+// file, and writes a line for each change. The program `file_replay` reads the trace, and has the
+// proved machine take the same steps.
 //
 //     trace random FOLDER SEED CALLS CACHED
 //         Processes make calls that are chosen at random, each party caches up to CACHED buckets, and
@@ -794,8 +794,8 @@ static bool make(struct process *of, enum call call, uint32_t slot, uint32_t buc
     return shared[of->number].code == BB_OK;
 }
 
-// Has a process make a call without stepping it: a join, whose lock comes before its life, or a call
-// that changes one word at most.
+// Has a process make a call without stepping it: a join, whose lock comes before its life, or a
+// call that changes one word at most.
 static void make_unstepped(struct process *of, enum call call, uint32_t bucket) {
     order(of, call, 0, bucket);
     add(BEGINS, of->number)->call = shared[of->number];
@@ -982,7 +982,7 @@ int main(int argc, char **argv) {
     watching = open(path, O_RDWR | O_CLOEXEC);
     inherited = open(path, O_RDWR | O_CLOEXEC);
     EXPECT(watching >= 0 && inherited >= 0);
-    // The words, the slots and the lives, after as much of the header as a mapping has to begin with.
+    // The words, the slots and the lives, after as much of the header as a mapping begins with.
     const size_t lead = PAGE % (size_t)sysconf(_SC_PAGESIZE);
     char *first = map(lead + 2 * PAGE, watching, (off_t)(PAGE - lead));
     words = (void *)(first + lead);

@@ -11,7 +11,7 @@ use Rattle.bb_memory_file_machine.specs.FileMachine.{AttachNumber, DetachedBy, F
 use Rattle.bb_memory_file_machine.specs.FilePool.{flag_steps, pool_of}
 use Rattle.bb_memory_lists.proofs.SliceGets.{slice_get-replicated}
 use Rattle.bb_memory_pool_machine.proofs.PoolRuns.{pool_run, run_is_sound}
-use Rattle.std.proofs.Common.{List, None, Option, Some, [], refl, ℕ, ◌≡◌, ◌≢◌}
+use Rattle.std.proofs.Common.{None, Option, Some, refl, ℕ, ◌≡◌, ◌≢◌}
 use Rattle.std.proofs.lemmas.Bool.{cond_both}
 use Rattle.std.specs.Prelude.{slice_get}
 
