@@ -114,9 +114,9 @@ fn a_join_that_counts_no_life_is_refused(rt: HostRuntime) {
     );
 }
 
-/// A take has seen a message; its receiver has sent the bucket on by number, and the take attaches
-/// it.
-const LATE: &[u8] = b"file 2 2 1 1
+/// A take has seen a message. Its receiver sends the bucket on by number, and the take attaches it,
+/// too late. Then it leaves its own name in the flag.
+const RENAMED: &[u8] = b"file 2 2 1 1
 join 0
 lock 0 0
 life 0 0 0 2
@@ -148,27 +148,11 @@ detach 0 0 0
 flag 0 0 1 2
 ok 0
 flag 1 0 2 3
+flag 1 0 3 4
 ";
 
 #[test]
-fn a_late_take_puts_the_flag_back(rt: HostRuntime) {
-    let mut put_back = Vec::new(rt.alloc());
-    let mut renamed = Vec::new(rt.alloc());
-    for byte in LATE {
-        put_back.push(*byte).abort(&rt);
-        renamed.push(*byte).abort(&rt);
-    }
-    for byte in b"flag 1 0 3 2\nrefused 1\n" {
-        put_back.push(*byte).abort(&rt);
-    }
-    for byte in b"flag 1 0 3 4\n" {
-        renamed.push(*byte).abort(&rt);
-    }
-    let end = End::Same {
-        lines: 34,
-        changes: 15,
-    };
-    same(&rt, end_of(rt.alloc(), &put_back), end);
+fn a_late_take_that_leaves_its_name_is_refused(rt: HostRuntime) {
     let difference = Difference::OtherStep {
         place: Place::Returning {
             party: 1,
@@ -182,7 +166,7 @@ fn a_late_take_puts_the_flag_back(rt: HostRuntime) {
             from: 0,
         },
     };
-    differs(&rt, &renamed, 33, difference);
+    differs(&rt, RENAMED, 33, difference);
 }
 
 #[test]

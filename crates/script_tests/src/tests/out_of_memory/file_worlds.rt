@@ -4,10 +4,10 @@ use super::worlds::made;
 use crate::tests::checks::{check, refused, same};
 use bb_memory_base::steps::{Flag, PoolStep};
 use bb_memory_file_machine::steps::FileOutcome::{
-    Addresses, Dies, Moves, OnFlag, OnLock, OnSlot, Receives, Refused,
+    Addresses, Dies, Moves, OnFlag, OnLife, OnLock, OnSlot, Receives, Refused,
 };
 use bb_memory_file_machine::steps::FileStep::{
-    Allocate, Deallocate, Done, Exchange, Kill, Lock, Next, Post, Release, Take,
+    Allocate, Count, Deallocate, Done, Exchange, Kill, Lock, Next, Post, Release, Take,
 };
 use bb_memory_file_machine::steps::{FileOutcome, FileStep, FileWorld, Place, Slot};
 use std::process::Abort;
@@ -20,10 +20,14 @@ const GIVE: FileStep = Deallocate {
 
 /// Process 0 joins with number 0 and is killed in a post. Process 1 joins with the same number,
 /// which settles it, and takes the message.
-const STEPS: [FileStep; 28] = [
+const STEPS: [FileStep; 30] = [
     Lock {
         process: 0,
         party: 0,
+    },
+    Count {
+        process: 0,
+        life: 1,
     },
     Next { process: 0 },
     Next { process: 0 },
@@ -55,6 +59,10 @@ const STEPS: [FileStep; 28] = [
         process: 1,
         party: 0,
     },
+    Count {
+        process: 1,
+        life: 2,
+    },
     Next { process: 1 },
     Next { process: 1 },
     Next { process: 1 },
@@ -84,8 +92,9 @@ const STEPS: [FileStep; 28] = [
     GIVE,
 ];
 
-const OUTCOMES: [FileOutcome; 28] = [
+const OUTCOMES: [FileOutcome; 30] = [
     OnLock(0),
+    OnLife(0),
     Moves,
     Moves,
     Moves,
@@ -100,6 +109,7 @@ const OUTCOMES: [FileOutcome; 28] = [
     Refused,
     OnLock(0),
     OnLock(0),
+    OnLife(0),
     Moves,
     Moves,
     OnFlag(PoolStep::Detach {
@@ -152,6 +162,8 @@ fn a_message_survives_a_kill(rt: HostRuntime) {
     check(&rt, told.as_slice() == OUTCOMES.as_slice());
     same(&rt, world.flag(0), Some(Flag::Free));
     same(&rt, world.slot(0), Some(Slot::Empty));
+    same(&rt, world.life(0), Some(2));
+    same(&rt, world.life(1), None);
     same(&rt, world.lock(0), Some(Some(1)));
     same(&rt, world.place(0), Some(Place::Dead));
     same(&rt, world.place(1), Some(Place::Outside));
