@@ -52,6 +52,14 @@ pub of_same_numbers : (pool : SharedPool) (items now : List PoolParty) → All (
     map numbered_of now ≡ map numbered_of items → map (of_pool pool) (map numbered_of now) ≡ items
 of_same_numbers pool items now all same = ap (map (of_pool pool)) same ∙ of_its_numbers pool items all
 
+-- a seat that stands only for a party is as that party's seat is
+pub same_seat : (scene : PoolScene) (table : TableId) (number : ℕ) (hint : Hint) (me new : Me ℕ SeatView) (party : PoolParty) →
+    IsPartySeat number hint me → party_in table number me.0 ≡ party → party.allocator.scene ≡ scene →
+    new ≡ (standing_for scene (numbered_of party ∷ []), []) → new ≡ me
+same_seat scene table number hint me new party is view_is its back =
+    let own : me.0.scene ≡ scene = ap (λ (p : PoolParty). p.allocator.scene) view_is ∙ its in
+    back ∙ (λ i. (standing_for (sym own i) (numbered_of (sym view_is i) ∷ []), [])) ∙ sym is.seat.seat.is
+
 -- a seat that stands for some parties stands for its own
 pub stands_for : (scene : PoolScene) (parties : List NumberedLog) (me : Me ℕ SeatView) →
     me ≡ (standing_for scene parties, []) → me ≡ (standing_for scene me.0.parties, [])
