@@ -77,7 +77,7 @@ fn take_one_each<R: Threads + Sync>(
 
 /// Makes a pool of eight buckets for four parties. Fails only if memory ran out, since this region
 /// and this bucket make a pool.
-#[tactic(auto, unfolding(bb_memory_traits::specs::LeastPlace::least_place))]
+#[tactic(auto, using(std::proofs::lemmas::Option::get_or_from_slice_get), unfolding(bb_memory_traits::specs::LeastPlace::least_place))]
 fn pool_of_four(alloc: Global) -> Result<(SharedPoolAllocator, Vec<PoolParty>), AllocError>
     ensures parties { IfOk result (λ made. AreFresh made.0 4 made.1.items) }
     ensures none { IfOk result (λ made. All (λ party. party.log ≡ []) made.1.items) }
