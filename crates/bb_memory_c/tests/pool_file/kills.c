@@ -882,54 +882,64 @@ static void expect_detached(bb_pool_file *ours, uint32_t number, size_t by) {
     EXPECT(flag.state == BB_DETACHED && flag.party == by);
 }
 
-// While a take is stopped, another party takes the message, is done with it, and detaches its
-// bucket by number. The take gets nothing then, and the bucket stays detached by its sender: a reap
-// after the taker has died doesn't free it.
-static bool pause_take(bb_pool_file *ours, bb_pool_party *party, uint32_t steps) {
+// A take by a child, which is stopped, and what another party got from the same slot.
+struct stopped_take {
+    pid_t child;
+    bool ended;
+    bb_message message;
+};
+
+// Posts a message into slot 0, stops a child after this many instructions of a take of it, and then
+// lets `party` take it.
+static struct stopped_take stop_take(bb_pool_file *ours, bb_pool_party *party, uint32_t steps) {
     const bb_chunk chunk = bb_pool_party_take(party);
     fill(chunk.place, 99);
     EXPECT(bb_pool_file_post(ours, party, 0, chunk.place, 44) == BB_OK);
     const pid_t child = start(NOTES_TAKE, 0);
     const bool ended = go(child, steps);
-    const bb_message message = bb_pool_file_take(ours, party, 0);
+    return (struct stopped_take){child, ended, bb_pool_file_take(ours, party, 0)};
+}
+
+// While a take is stopped, another party takes the message, is done with it, and detaches its
+// bucket by number. The take gets nothing then, and the bucket stays detached by its sender: a reap
+// after the taker has died doesn't free it.
+static bool pause_take(bb_pool_file *ours, bb_pool_party *party, uint32_t steps) {
+    const struct stopped_take take = stop_take(ours, party, steps);
+    const bb_message message = take.message;
     if (message.code == BB_OK) {
         EXPECT(bb_pool_file_done(ours, party, 0) == BB_OK);
         fill(message.place, 55);
         EXPECT(bb_pool_file_detach(ours, party, message.place).code == BB_OK);
     }
-    if (!ended)
-        go_on(child);
+    if (!take.ended)
+        go_on(take.child);
     if (message.code == BB_OK) {
         uint32_t freed = 1;
         EXPECT(*noted == BB_NOT_HELD || *noted == BB_DETACHED_EMPTY);
         expect_detached(ours, message.number, bb_pool_party_number(party).number);
-        end_killed(child);
+        end_killed(take.child);
         EXPECT(bb_pool_file_reap(ours, BB_REAP_DEAD, &freed) == BB_OK && freed == 0);
         const bb_chunk back = bb_pool_file_attach(ours, party, message.number);
         EXPECT(back.code == BB_OK && is_filled(back.place, 55));
     } else {
         EXPECT(*noted == BB_OK);
-        end_killed(child);
+        end_killed(take.child);
     }
-    return ended;
+    return take.ended;
 }
 
 // While a take is stopped, another party takes the message, is done with it, and posts its bucket
 // to another slot. The take gets nothing then, and the message can be taken from there.
 static bool pause_late(bb_pool_file *ours, bb_pool_party *party, uint32_t steps) {
-    const bb_chunk chunk = bb_pool_party_take(party);
-    fill(chunk.place, 99);
-    EXPECT(bb_pool_file_post(ours, party, 0, chunk.place, 44) == BB_OK);
-    const pid_t child = start(NOTES_TAKE, 0);
-    const bool ended = go(child, steps);
-    const bb_message message = bb_pool_file_take(ours, party, 0);
+    const struct stopped_take take = stop_take(ours, party, steps);
+    const bb_message message = take.message;
     if (message.code == BB_OK) {
         EXPECT(bb_pool_file_done(ours, party, 0) == BB_OK);
         fill(message.place, 55);
         EXPECT(bb_pool_file_post(ours, party, 1, message.place, 17) == BB_OK);
     }
-    if (!ended)
-        go_on(child);
+    if (!take.ended)
+        go_on(take.child);
     if (message.code == BB_OK) {
         EXPECT(*noted == BB_NOT_HELD || *noted == BB_DETACHED_EMPTY);
         expect_detached(ours, message.number, OPTIONS.parties);
@@ -939,8 +949,8 @@ static bool pause_late(bb_pool_file *ours, bb_pool_party *party, uint32_t steps)
     } else {
         EXPECT(*noted == BB_OK);
     }
-    end_killed(child);
-    return ended;
+    end_killed(take.child);
+    return take.ended;
 }
 
 // How many processes have waited for a message while a take held its bucket, and how many of them
@@ -982,30 +992,26 @@ static void go_on_beside_sleeper(pid_t child) {
 // While a take is stopped, another party takes the message, is done with it, and posts its bucket
 // into slot 2. If the take then holds the bucket for a moment, it wakes whoever waits for that slot.
 static bool pause_late_take(bb_pool_file *ours, bb_pool_party *party, uint32_t steps) {
-    const bb_chunk chunk = bb_pool_party_take(party);
     bb_holder holder = {BB_FREE, 0};
-    fill(chunk.place, 99);
-    EXPECT(bb_pool_file_post(ours, party, 0, chunk.place, 44) == BB_OK);
-    const pid_t child = start(NOTES_TAKE, 0);
-    const bool ended = go(child, steps);
-    const bb_message message = bb_pool_file_take(ours, party, 0);
+    const struct stopped_take take = stop_take(ours, party, steps);
+    const bb_message message = take.message;
     if (message.code != BB_OK) {
-        end_killed(child);
-        return ended;
+        end_killed(take.child);
+        return take.ended;
     }
     EXPECT(bb_pool_file_done(ours, party, 0) == BB_OK);
     EXPECT(bb_pool_file_post(ours, party, 2, message.place, 33) == BB_OK);
-    bool has_ended = ended;
+    bool has_ended = take.ended;
     while (!has_ended && holder.state != BB_HELD) {
-        has_ended = go(child, 1);
+        has_ended = go(take.child, 1);
         EXPECT(bb_pool_file_holder(ours, message.number, &holder) == BB_OK);
     }
     if (!has_ended)
-        go_on_beside_sleeper(child);
+        go_on_beside_sleeper(take.child);
     EXPECT(*noted == BB_NOT_HELD || *noted == BB_DETACHED_EMPTY);
     EXPECT(bb_pool_file_take(ours, party, 2).code == BB_OK);
-    end_killed(child);
-    return ended;
+    end_killed(take.child);
+    return take.ended;
 }
 
 // While a leave is stopped, another party joins and takes a bucket, which it keeps.
