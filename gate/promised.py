@@ -28,7 +28,7 @@ HEADER = "crates/bb_memory_c/bb_memory.h"
 POOL_FILE_HEADER = "crates/bb_memory_c/bb_pool_file.h"
 MUTANT_PATH = re.compile(r"crates/bb_memory_c/tests/pool_file/mutants/[^/]+\.mutant")
 
-DECLARED = re.compile(r"^(?:BB_MUST_USE )?[a-z0-9_]+ (bb_[a-z0-9_]+)\(", re.M)
+DECLARED = re.compile(r"^(?:BB_MUST_USE )?[a-z0-9_]+ \*?(bb_[a-z0-9_]+)\(", re.M)
 CHANGED = re.compile(r"^# (?:function|call): (\w+)$", re.M)
 LAW = re.compile(r"\w+_(?:law|theorem)")
 
