@@ -5,8 +5,9 @@
 
 //     struct order { int number; double price; };
 //
+//     const bb_pool_file_options options{sizeof(order), alignof(order), 1000, 16, 8, 0, 0};
 //     bb::pool_file file;
-//     if (file.open("/dev/shm/orders", {sizeof(order), alignof(order), 1000, 16, 8, 0, 0}) != BB_OK)
+//     if (file.open("/dev/shm/orders", options) != BB_OK)
 //         return;
 //     // Each thread has a party. The file outlives its parties, and a party its messages and
 //     // buckets.

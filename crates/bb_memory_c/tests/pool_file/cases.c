@@ -155,8 +155,8 @@ int __wrap_pthread_atfork(void (*prepare)(void), void (*parent)(void), void (*ch
 #endif
 
 // Which call of `mmap` that maps where nothing is mapped finds another thread's mapping there,
-// counted from 1, or 0 for none, and whether each later one does, too. The other thread's mapping has
-// one page of the system, in the midst of the place. `others_count` counts them.
+// counted from 1, or 0 for none, and whether each later one does, too. The other thread's mapping
+// has one page of the system, in the midst of the place. `others_count` counts them.
 static uint32_t intruded_mmap;
 static bool intrudes_on;
 static unsigned char *others[200];
@@ -1082,7 +1082,8 @@ static bool maps_at_once(void) {
 }
 
 // Many buckets: opening a file again changes no flag, and requests as much memory as if there were
-// few. It has fewer page faults than half of the flags' pages, if the system makes a file in memory.
+// few. It has fewer page faults than half of the flags' pages, if the system makes a file in
+// memory.
 static void many(bool again) {
     const uint32_t numbers[] = {1000, 32760, 32761, 100000, 2200000};
     size_t few = 0;
@@ -1594,8 +1595,8 @@ static void waits(void) {
     close_it(file);
 }
 
-// Runs a wait. Returns 1 if it lasts as long as one that nobody wakes, which sleeps for a tenth of a
-// second.
+// Runs a wait. Returns 1 if it lasts as long as one that nobody wakes, which sleeps for a tenth of
+// a second.
 static uint32_t is_late(uint32_t (*wait)(bb_pool_file *, uint32_t, uint32_t), bb_pool_file *file) {
     const uint64_t begun = milliseconds();
     EXPECT(wait(file, 0, BB_NO_TIMEOUT) == BB_OK);

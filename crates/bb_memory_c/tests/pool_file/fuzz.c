@@ -1,7 +1,7 @@
-// `fuzz FILE COUNT` runs `bb-pool`, whose `main` is called `run_bb_pool` here, over COUNT files that
-// are almost pools. Each comes from a pool in use, in which some bytes, figures or words, or the
-// length, are changed. Whatever the file says, the command ends by itself, with status 0 or 1; and
-// if it can't open the file, the file keeps its bytes.
+// `fuzz FILE COUNT` runs `bb-pool`, whose `main` is called `run_bb_pool` here, over COUNT files
+// that are almost pools. Each comes from a pool in use, in which some bytes, figures or words, or
+// the length, are changed. Whatever the file says, the command ends by itself, with status 0 or 1;
+// and if it can't open the file, the file keeps its bytes.
 //
 // The same COUNT runs over the same files. It is compiled with the checkers of addresses and
 // undefined behavior.

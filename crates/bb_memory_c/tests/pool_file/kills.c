@@ -990,7 +990,8 @@ static void go_on_beside_sleeper(pid_t child) {
 }
 
 // While a take is stopped, another party takes the message, is done with it, and posts its bucket
-// into slot 2. If the take then holds the bucket for a moment, it wakes whoever waits for that slot.
+// into slot 2. If the take then holds the bucket for a moment, it wakes whoever waits for that
+// slot.
 static bool pause_late_take(bb_pool_file *ours, bb_pool_party *party, uint32_t steps) {
     bb_holder holder = {BB_FREE, 0};
     const struct stopped_take take = stop_take(ours, party, steps);

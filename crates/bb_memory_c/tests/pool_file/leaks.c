@@ -409,8 +409,8 @@ int main(int argc, char **argv) {
     // What the C library keeps from its first calls isn't a leak.
     EXPECT(bb_pool_file_open(&file, path, &small) == BB_OK && bb_pool_file_close(file) == BB_OK);
     look(&before);
-    // In the second round, addresses are a page further down. So in one round at least, the region is
-    // not at a multiple of its alignment by chance.
+    // In the second round, addresses are a page further down. So in one round at least, the region
+    // is not at a multiple of its alignment by chance.
     const size_t shift = aligned.bucket_align + (size_t)sysconf(_SC_PAGESIZE);
     for (int at = 0; at < 2; at++) {
         error = errors[at];
