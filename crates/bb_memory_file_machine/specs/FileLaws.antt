@@ -1,10 +1,14 @@
 -- The terms of the theorem about the words of a pool in a file, and about its processes.
-use Rattle.bb_memory_file_machine.specs.FileMachine.{Addresses, Addressing, AttachFrom, AttachNumber, Attached, Checking, Count, Counting, Dead, Detach, DetachedBy, Empty, Ending, FileOutcome, FileScene, FileState, FileStep, FileWords, Finding, Flag, Flags, Free, GiveBack, HeldBy, Keeping, Late, Message, Next, OnFlag, OnLife, OnLock, OnSlot, Place, Posting, PutsBack, Recover, Returning, Seen, Sent, Settled, Slot, Slots, TryAt, file_after, file_step, left_by, nobody, process_of, with_flag, with_life, with_lock, with_outside, with_slot}
+use Rattle.bb_memory_file_machine.specs.FileMachine.{AttachFrom, Clearing, Count, Counting, Dead, Detach, DetachedBy, Done, Empty, Entry, FileFlag, FileOutcome, FileScene, FileState, FileStep, FileWords, Flags, Free, GiveBack, HeldBy, In, Message, Next, Nowhere, OnEntry, OnFlag, OnLife, OnLock, OnSlot, Place, Posting, Receives, Sending, Sends, SentTo, Settled, Slot, TryAt, file_after, file_step, left_by, process_of, with_entry, with_flag, with_life, with_lock, with_slot}
 use Rattle.std.specs.Prelude.{Contains, List, None, Option, Some, [], replicate, slice_get, ℕ, ◌<◌, ◌∷◌, ◌≡◌, ◌≢◌, ◌⊎◌}
 
 -- there is such a bucket, and its flag is this one
-abbrev pub IsFlag : FileWords → ℕ → Flag → Type 0
+abbrev pub IsFlag : FileWords → ℕ → FileFlag → Type 0
 IsFlag words bucket flag = slice_get words.flags bucket ≡ Some flag
+
+-- there is such a bucket, and its entry is this one
+abbrev pub IsEntry : FileWords → ℕ → Entry → Type 0
+IsEntry words bucket entry = slice_get words.entries bucket ≡ Some entry
 
 -- there is such a slot, and its word is this one
 abbrev pub IsSlot : FileWords → ℕ → Slot → Type 0
@@ -22,25 +26,34 @@ IsLife words party life = slice_get words.lives party ≡ Some life
 abbrev pub IsHolder : FileWords → ℕ → ℕ → Type 0
 IsHolder words bucket party = IsFlag words bucket (HeldBy party)
 
+-- some party holds the bucket
+abbrev pub IsHeld : FileWords → ℕ → Type 0
+IsHeld words bucket = (party : ℕ) × IsHolder words bucket party
+
+-- some party has detached the bucket by its number
+abbrev pub IsDetached : FileWords → ℕ → Type 0
+IsDetached words bucket = (party : ℕ) × IsFlag words bucket (DetachedBy party)
+
 -- the slot has a message in this bucket
 abbrev pub IsIn : FileWords → ℕ → ℕ → Type 0
-IsIn words bucket slot = (length : ℕ) × IsSlot words slot (Message bucket length)
+IsIn words bucket slot = (lap : ℕ) × IsSlot words slot (Message lap bucket)
 
 -- some slot has a message in this bucket
 abbrev pub IsInSome : FileWords → ℕ → Type 0
 IsInSome words bucket = (slot : ℕ) × IsIn words bucket slot
 
--- the party has sent this bucket's number through a channel outside the file
-abbrev pub IsSentBy : FileWords → ℕ → ℕ → Type 0
-IsSentBy words bucket party = slice_get words.outside bucket ≡ Some (Some party)
+-- the bucket is sent to a slot that has it at the same lap
+abbrev pub IsSent : FileWords → ℕ → Type 0
+IsSent words bucket =
+    (slot : ℕ) × (lap : ℕ) × IsFlag words bucket (SentTo slot lap) × IsSlot words slot (Message lap bucket)
 
--- a channel outside the file knows this bucket's number
-abbrev pub IsOutside : FileWords → ℕ → Type 0
-IsOutside words bucket = (party : ℕ) × IsSentBy words bucket party
+-- the bucket's entry names this slot
+abbrev pub IsEntered : FileWords → ℕ → ℕ → Type 0
+IsEntered words bucket slot = (size : ℕ) × IsEntry words bucket (In slot size)
 
--- some slot or a channel outside the file knows this bucket's number
-abbrev pub IsKnown : FileWords → ℕ → Type 0
-IsKnown words bucket = IsInSome words bucket ⊎ IsOutside words bucket
+-- the bucket is free, or some party has detached it by its number
+abbrev pub IsIdle : FileWords → ℕ → Type 0
+IsIdle words bucket = IsFlag words bucket Free ⊎ IsDetached words bucket
 
 -- the process is at this place of its call
 abbrev pub IsPlace : FileState → ℕ → Place → Type 0
@@ -48,19 +61,10 @@ IsPlace state process place = slice_get state.places process ≡ Some place
 
 -- the number by which a process is in a call, or None if it is in no call
 abbrev pub number_of : Place → Option ℕ
-number_of (Posting party bucket) = Some party
-number_of (Sent party bucket) = Some party
-number_of (Seen party slot bucket length) = Some party
-number_of (Attached party slot bucket length from) = Some party
-number_of (Late party bucket from slot) = Some party
-number_of (Returning party bucket from) = Some party
-number_of (Finding party slot bucket) = Some party
-number_of (Ending party slot bucket) = Some party
+number_of (Posting party slot bucket) = Some party
+number_of (Sending party slot bucket lap) = Some party
+number_of (Clearing party bucket) = Some party
 number_of (Counting party) = Some party
-number_of (Slots party slot) = Some party
-number_of (Checking party slot bucket) = Some party
-number_of (Keeping party slot bucket) = Some party
-number_of (Addressing party slot bucket) = Some party
 number_of (Flags party bucket) = Some party
 number_of (Settled party) = Some party
 number_of _ = None
@@ -70,16 +74,16 @@ number_of _ = None
 -- the outcome says that no word and no lock changed
 abbrev pub ChangesNone : FileOutcome → Type 0
 ChangesNone (OnFlag step) = ⊥
-ChangesNone (Addresses bucket from to) = ⊥
-ChangesNone (PutsBack bucket party from) = ⊥
+ChangesNone (Sends bucket party) = ⊥
+ChangesNone (Receives slot bucket party) = ⊥
+ChangesNone (OnEntry bucket) = ⊥
 ChangesNone (OnSlot slot) = ⊥
 ChangesNone (OnLock party) = ⊥
 ChangesNone (OnLife party) = ⊥
 ChangesNone _ = Unit {0}
 
 -- The effect of a step of this process on the words and locks is one of these. Each changes at most
--- one flag, slot, lock or life; one that changes a flag or fills a slot may also change whether a
--- channel outside knows the bucket's number. A process steps on flags, slots and lives only by a
+-- one flag, entry, slot, lock or life. A process steps on flags, entries, slots and lives only by a
 -- number whose lock it has.
 pub data Effect (words : FileWords) (process : ℕ) : FileOutcome → FileWords → Type 0 where
   -- no word and no lock changes
@@ -95,58 +99,57 @@ pub data Effect (words : FileWords) (process : ℕ) : FileOutcome → FileWords 
   -- the party takes a free bucket
   takes : (party bucket : ℕ) → IsLock words party process → IsFlag words bucket Free →
       Effect words process (OnFlag (TryAt party bucket)) (with_flag words bucket (HeldBy party))
-  -- the party's bucket, which is in no slot, is given back: by the party, or by a settler of its
-  -- number
-  gives_back : (party bucket : ℕ) → IsLock words party process → IsHolder words bucket party → ¬ IsInSome words bucket →
+  -- the party's bucket, whose entry says that it is in no slot, is given back: by the party, or by a
+  -- settler of its number
+  gives_back : (party bucket : ℕ) → IsLock words party process → IsHolder words bucket party → IsEntry words bucket Nowhere →
       Effect words process (OnFlag (GiveBack party bucket)) (with_flag words bucket Free)
-  -- the party's bucket, which some slot has, is detached
-  detaches : (party bucket : ℕ) → IsLock words party process → IsHolder words bucket party → IsInSome words bucket →
+  -- the party detaches its bucket, whose entry says that it is in no slot, by the bucket's number
+  detaches : (party bucket : ℕ) → IsLock words party process → IsHolder words bucket party → IsEntry words bucket Nowhere →
       Effect words process (OnFlag (Detach party bucket)) (with_flag words bucket (DetachedBy party))
-  -- the party's bucket is detached, and a channel outside knows its number from now on
-  detaches_number : (party bucket : ℕ) → IsLock words party process → IsHolder words bucket party → ¬ IsInSome words bucket →
-      Effect words process (OnFlag (Detach party bucket)) (with_flag (with_outside words bucket (Some party)) bucket (DetachedBy party))
-  -- the party's bucket, which is in no slot, is detached by the party that has sent its number, as
-  -- a take found it that came too late
-  puts_back : (party bucket from : ℕ) → IsLock words party process → IsHolder words bucket party → ¬ IsInSome words bucket →
-      IsSentBy words bucket from → Effect words process (PutsBack bucket party from) (with_flag words bucket (DetachedBy from))
-  -- the party addresses a bucket that it has detached, and that some slot has, to the number that
-  -- nobody joins
-  addresses : (party bucket : ℕ) → IsLock words party process → IsFlag words bucket (DetachedBy party) → IsInSome words bucket →
-      Effect words process (Addresses bucket party (nobody words)) (with_flag words bucket (DetachedBy (nobody words)))
-  -- the party attaches a detached bucket, as a take does
+  -- the party attaches a detached bucket by its number, or a settler of its number takes it back
   attaches : (party bucket from : ℕ) → IsLock words party process → IsFlag words bucket (DetachedBy from) →
       Effect words process (OnFlag (AttachFrom party bucket from)) (with_flag words bucket (HeldBy party))
-  -- the party attaches a detached bucket, and no channel outside counts as knowing its number any
-  -- more: as an attach by number does, or a settler
-  attaches_number : (party bucket from : ℕ) → IsLock words party process → IsFlag words bucket (DetachedBy from) →
-      Effect words process (OnFlag (AttachFrom party bucket from))
-      (with_flag (with_outside words bucket None) bucket (HeldBy party))
-  -- the party fills an empty slot with a bucket that it holds, and that is in no slot; no channel
-  -- outside counts as knowing its number any more
-  fills : (party slot bucket size : ℕ) → IsLock words party process → IsHolder words bucket party → ¬ IsInSome words bucket →
-      IsSlot words slot Empty → Effect words process (OnSlot slot)
-      (with_slot (with_outside words bucket None) slot (Message bucket size))
+  -- the party receives the message in a bucket that is sent to a slot
+  receives : (party bucket slot lap : ℕ) → IsLock words party process → IsFlag words bucket (SentTo slot lap) →
+      Effect words process (Receives slot bucket party) (with_flag words bucket (HeldBy party))
+  -- the party's bucket is sent to the slot that has it
+  sends : (party bucket slot lap : ℕ) → IsLock words party process → IsHolder words bucket party →
+      IsSlot words slot (Message lap bucket) →
+      Effect words process (Sends bucket party) (with_flag words bucket (SentTo slot lap))
+  -- the entry of the party's bucket, which said that the bucket is in no slot, names a slot
+  enters : (party bucket slot size : ℕ) → IsLock words party process → IsHolder words bucket party →
+      IsEntry words bucket Nowhere → Effect words process (OnEntry bucket) (with_entry words bucket (In slot size))
+  -- the entry of the party's bucket, which is in no slot, is cleared
+  clears : (party bucket : ℕ) → IsLock words party process → IsHolder words bucket party → ¬ IsInSome words bucket →
+      Effect words process (OnEntry bucket) (with_entry words bucket Nowhere)
+  -- the party fills an empty slot with its bucket, which is in no slot, and whose entry names the slot
+  fills : (party slot bucket lap size : ℕ) → IsLock words party process → IsHolder words bucket party →
+      ¬ IsInSome words bucket → IsEntry words bucket (In slot size) → IsSlot words slot (Empty lap) →
+      Effect words process (OnSlot slot) (with_slot words slot (Message lap bucket))
   -- the party empties a slot whose bucket it holds
-  empties : (party slot bucket size : ℕ) → IsLock words party process → IsHolder words bucket party →
-      IsSlot words slot (Message bucket size) → Effect words process (OnSlot slot) (with_slot words slot Empty)
+  empties : (party slot bucket lap next : ℕ) → IsLock words party process → IsHolder words bucket party →
+      IsSlot words slot (Message lap bucket) → Effect words process (OnSlot slot) (with_slot words slot (Empty next))
 
 -- PROMISES
 
--- By this step, which changes no word, the process has received the message in the slot: one of its
--- parties holds the message's bucket.
-pub record HasReceived (state : FileState) (step : FileStep) (slot : ℕ) : Type 0 where
-  pub party : ℕ
-  pub bucket : ℕ
+-- By this step the process has received the message in this bucket: the bucket was sent to the slot,
+-- which has it; its entry says how long the message is; and now one of the process's parties holds
+-- it.
+pub record HasReceived (state : FileState) (step : FileStep) (slot bucket party : ℕ) : Type 0 where
+  pub lap : ℕ
   pub size : ℕ
   pub lock : IsLock state.words party (process_of step)
-  pub holder : IsHolder state.words bucket party
-  pub message : IsSlot state.words slot (Message bucket size)
+  pub sent : IsFlag state.words bucket (SentTo slot lap)
+  pub message : IsSlot state.words slot (Message lap bucket)
+  pub entry : IsEntry state.words bucket (In slot size)
+  pub holder : IsHolder (file_step state step).state.words bucket party
 
--- The process is at the end of a `done`. By this step it says that it is done with the bucket in
--- the slot, which one of its parties holds.
+-- By this step the process says that it is done with the message in the slot, whose bucket one of
+-- its parties holds.
 pub record SaysDone (state : FileState) (step : FileStep) (slot bucket : ℕ) : Type 0 where
   pub party : ℕ
-  pub done : IsPlace state (process_of step) (Ending party slot bucket)
+  pub next : ℕ
+  pub done : step ≡ Done (process_of step) party slot bucket next
   pub lock : IsLock state.words party (process_of step)
   pub holder : IsHolder state.words bucket party
 
@@ -163,13 +166,11 @@ AreSettled state = (bucket party : ℕ) → IsHolder state.words bucket party �
 abbrev pub IsHeldAlive : FileState → ℕ → Type 0
 IsHeldAlive state bucket = (party : ℕ) × IsHolder state.words bucket party × IsAlive state party
 
--- the bucket is detached, and some slot or a channel outside knows its number
-abbrev pub IsOnItsWay : FileState → ℕ → Type 0
-IsOnItsWay state bucket = (party : ℕ) × IsFlag state.words bucket (DetachedBy party) × IsKnown state.words bucket
-
--- the bucket is free, held by a living party, or detached and known
+-- the bucket is free, held by a living party, sent to a slot that has it, or detached by its number
 abbrev pub IsAccountedFor : FileState → ℕ → Type 0
-IsAccountedFor state bucket = IsFlag state.words bucket Free ⊎ (IsHeldAlive state bucket ⊎ IsOnItsWay state bucket)
+IsAccountedFor state bucket =
+    IsFlag state.words bucket Free
+    ⊎ (IsHeldAlive state bucket ⊎ (IsSent state.words bucket ⊎ IsDetached state.words bucket))
 
 -- the process is in a call by this number
 abbrev pub IsInCallBy : FileState → ℕ → ℕ → Type 0
@@ -179,10 +180,6 @@ IsInCallBy state process party = (place : Place) × IsPlace state process place 
 
 -- the number that a process at this place settles, or None if it settles none
 abbrev pub settled_by : Place → Option ℕ
-settled_by (Slots party slot) = Some party
-settled_by (Checking party slot bucket) = Some party
-settled_by (Keeping party slot bucket) = Some party
-settled_by (Addressing party slot bucket) = Some party
 settled_by (Flags party bucket) = Some party
 settled_by (Settled party) = Some party
 settled_by _ = None
@@ -199,7 +196,7 @@ CanSettle state process party =
 -- by counting a life of the number, the process begins to settle the number
 abbrev pub CanCount : FileState → ℕ → ℕ → Type 0
 CanCount state process party =
-    (life : ℕ) × IsPlace (file_step state (Count process life)).state process (Slots party 0)
+    (life : ℕ) × IsPlace (file_step state (Count process life)).state process (Flags party 0)
 
 -- LIVES
 
@@ -213,14 +210,6 @@ pub record HasCounted (state : FileState) (process party life : ℕ) : Type 0 wh
   pub living : place ≢ Dead
   pub counted : place ≢ Counting party
 
--- NUMBERS
-
--- by this step a party attaches the bucket by its number, or a settler takes the bucket back
-abbrev pub UsesNumber : FileStep → ℕ → Type 0
-UsesNumber (AttachNumber process party at from) bucket = at ≡ bucket
-UsesNumber (Recover process at) bucket = at ≡ bucket
-UsesNumber step bucket = ⊥
-
 -- TAKERS
 
 -- the slot has this word in this state, and after each of these steps
@@ -228,10 +217,10 @@ abbrev pub StaysIn : FileState → List FileStep → ℕ → Slot → Type 0
 StaysIn state [] slot word = IsSlot state.words slot word
 StaysIn state (step ∷ steps) slot word = IsSlot state.words slot word × StaysIn (file_step state step).state steps slot word
 
--- by one of these outcomes the party attaches the bucket
-abbrev pub HasAttached : List FileOutcome → ℕ → ℕ → Type 0
-HasAttached outcomes party bucket = (from : ℕ) × Contains outcomes (OnFlag (AttachFrom party bucket from))
+-- by one of these outcomes the party receives the message in this slot and bucket
+abbrev pub HasTaken : List FileOutcome → ℕ → ℕ → ℕ → Type 0
+HasTaken outcomes slot bucket party = Contains outcomes (Receives slot bucket party)
 
--- the state after the step by which a party posts a message
-abbrev pub after_post : FileScene → List FileStep → FileStep → FileState
-after_post scene steps post = (file_step (left_by scene steps) post).state
+-- the state after the step by which a post fills its slot
+abbrev pub after_fill : FileScene → List FileStep → FileStep → FileState
+after_fill scene steps fill = (file_step (left_by scene steps) fill).state

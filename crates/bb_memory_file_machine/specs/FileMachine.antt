@@ -1,32 +1,35 @@
 -- The machine of a pool in a file: what any number of processes do to the words and locks of the
 -- file, one atomic step at a time. Processes, party numbers, buckets and slots are numbered from 0.
+pub use Rattle.bb_memory_file_machine.specs.declared.steps.file.Entry.{Entry}
+pub use Rattle.bb_memory_file_machine.specs.declared.steps.file.Entry.TheVariants.{In, Nowhere}
+pub use Rattle.bb_memory_file_machine.specs.declared.steps.file.FileFlag.{FileFlag}
+pub use Rattle.bb_memory_file_machine.specs.declared.steps.file.FileFlag.TheVariants.{DetachedBy, Free, HeldBy, SentTo}
 pub use Rattle.bb_memory_file_machine.specs.declared.steps.file.FileOutcome.{FileOutcome}
-pub use Rattle.bb_memory_file_machine.specs.declared.steps.file.FileOutcome.TheVariants.{Addresses, Dies, Moves, OnFlag, OnLife, OnLock, OnSlot, PutsBack, Receives, Refused}
+pub use Rattle.bb_memory_file_machine.specs.declared.steps.file.FileOutcome.TheVariants.{Dies, Moves, OnEntry, OnFlag, OnLife, OnLock, OnSlot, Receives, Refused, Sends}
 pub use Rattle.bb_memory_file_machine.specs.declared.steps.file.FileStep.{FileStep}
-pub use Rattle.bb_memory_file_machine.specs.declared.steps.file.FileStep.TheVariants.{Allocate, AttachNumber, Count, Deallocate, DetachNumber, Done, Exchange, Kill, Leave, Lock, Next, Post, Recover, Release, Take, Unlock}
+pub use Rattle.bb_memory_file_machine.specs.declared.steps.file.FileStep.TheVariants.{Allocate, AttachNumber, Count, Deallocate, DetachNumber, Done, Fill, Kill, Leave, Lock, Next, Post, PutBack, Recover, Release, Take, Unlock}
 pub use Rattle.bb_memory_file_machine.specs.declared.steps.file.Place.{Place}
-pub use Rattle.bb_memory_file_machine.specs.declared.steps.file.Place.TheVariants.{Addressing, Attached, Checking, Counting, Dead, Ending, Finding, Flags, Keeping, Late, Outside, Posting, Returning, Seen, Sent, Settled, Slots}
+pub use Rattle.bb_memory_file_machine.specs.declared.steps.file.Place.TheVariants.{Clearing, Counting, Dead, Flags, Outside, Posting, Sending, Settled}
 pub use Rattle.bb_memory_file_machine.specs.declared.steps.file.Slot.{Slot}
 pub use Rattle.bb_memory_file_machine.specs.declared.steps.file.Slot.TheVariants.{Empty, Message}
-pub use Rattle.bb_memory_pool_machine.specs.declared.steps.pool.Flag.{Flag}
-pub use Rattle.bb_memory_pool_machine.specs.declared.steps.pool.Flag.TheVariants.{DetachedBy, Free, HeldBy}
 pub use Rattle.bb_memory_pool_machine.specs.declared.steps.pool.PoolStep.{PoolStep}
 pub use Rattle.bb_memory_pool_machine.specs.declared.steps.pool.PoolStep.TheVariants.{AttachFrom, Detach, GiveBack, TryAt}
 use Rattle.std.specs.Prelude.{Bool, List, None, Option, Some, [], false, if◌then◌else◌, length, nat_lt, replicate, slice_get, slice_set, true, zero, ℕ, ◌+◌, ◌==◌, ◌∷◌}
 
 -- WORDS
 
--- The words and locks of the file: the flag of each bucket, the word of each slot, and of each party
--- number the life and the lock, which is free or some process's. `outside` isn't in the file: it
--- says for each bucket which party has sent the bucket's number through a channel outside the file,
--- or None if no such channel knows the number. A detach by number sets that. An attach by number, a
--- settler's recovery, or a post clears it.
+-- The words and locks of the file: of each bucket the flag and the entry, of each slot the word, and
+-- of each party number the life and the lock, which is free or some process's.
+--
+-- The flag says who may touch the bucket, or where it is sent. The entry is written by whoever holds
+-- the bucket, and says in which slot it is, and how long its message is. A bucket is in a slot if
+-- the slot's word has it.
 pub record FileWords : Type 0 where
-  pub flags : List Flag
+  pub flags : List FileFlag
+  pub entries : List Entry
   pub slots : List Slot
   pub lives : List ℕ
   pub locks : List (Option ℕ)
-  pub outside : List (Option ℕ)
 
 -- the state of a machine: the words, and the progress of each process in its current call
 pub record FileState : Type 0 where
@@ -46,17 +49,21 @@ abbrev pub opening_state : FileScene → FileState
 opening_state scene = record {
   words = record {
     flags = replicate scene.buckets Free;
-    slots = replicate scene.slots Empty;
+    entries = replicate scene.buckets Nowhere;
+    slots = replicate scene.slots (Empty 0);
     lives = replicate scene.parties 0;
     locks = replicate scene.parties None;
-    outside = replicate scene.buckets None;
   };
   places = replicate scene.processes Outside;
 }
 
 -- the words in which this bucket's flag is replaced
-abbrev pub with_flag : FileWords → ℕ → Flag → FileWords
+abbrev pub with_flag : FileWords → ℕ → FileFlag → FileWords
 with_flag words bucket flag = record words { flags = slice_set words.flags bucket flag }
+
+-- the words in which this bucket's entry is replaced
+abbrev pub with_entry : FileWords → ℕ → Entry → FileWords
+with_entry words bucket entry = record words { entries = slice_set words.entries bucket entry }
 
 -- the words in which this slot's word is replaced
 abbrev pub with_slot : FileWords → ℕ → Slot → FileWords
@@ -70,56 +77,51 @@ with_lock words party lock = record words { locks = slice_set words.locks party 
 abbrev pub with_life : FileWords → ℕ → ℕ → FileWords
 with_life words party life = record words { lives = slice_set words.lives party life }
 
--- the words in which `sender` says who has sent this bucket's number through a channel outside
-abbrev pub with_outside : FileWords → ℕ → Option ℕ → FileWords
-with_outside words bucket sender = record words { outside = slice_set words.outside bucket sender }
-
--- the number after the parties' numbers, which nobody joins
-abbrev pub nobody : FileWords → ℕ
-nobody words = length words.locks
-
 -- TESTS
 
 -- two flags are the same
-abbrev pub same_flag : Flag → Flag → Bool
+abbrev pub same_flag : FileFlag → FileFlag → Bool
 same_flag Free Free = true
 same_flag (HeldBy party) (HeldBy other) = party == other
 same_flag (DetachedBy party) (DetachedBy other) = party == other
+same_flag (SentTo slot lap) (SentTo other same) = if slot == other then lap == same else false
 same_flag _ _ = false
 
 -- the flag that was found is this one
-abbrev pub finds_flag : Flag → Option Flag → Bool
+abbrev pub finds_flag : FileFlag → Option FileFlag → Bool
 finds_flag flag (Some found) = same_flag found flag
 finds_flag flag None = false
 
 -- there is such a bucket, and its flag is this one
-abbrev pub is_flag : FileWords → ℕ → Flag → Bool
+abbrev pub is_flag : FileWords → ℕ → FileFlag → Bool
 is_flag words bucket flag = finds_flag flag (slice_get words.flags bucket)
 
--- two words of slots are the same
-abbrev pub same_slot : Slot → Slot → Bool
-same_slot Empty Empty = true
-same_slot (Message bucket length) (Message other same) = if bucket == other then length == same else false
-same_slot _ _ = false
+-- the entry that was found says that its bucket is in no slot
+abbrev pub finds_nowhere : Option Entry → Bool
+finds_nowhere (Some Nowhere) = true
+finds_nowhere _ = false
 
--- the word that was found is this one
-abbrev pub finds_slot : Slot → Option Slot → Bool
-finds_slot word (Some found) = same_slot found word
-finds_slot word None = false
+-- there is such a bucket, and its entry says that it is in no slot
+abbrev pub is_nowhere : FileWords → ℕ → Bool
+is_nowhere words bucket = finds_nowhere (slice_get words.entries bucket)
 
--- there is such a slot, and its word is this one
-abbrev pub is_slot : FileWords → ℕ → Slot → Bool
-is_slot words slot word = finds_slot word (slice_get words.slots slot)
+-- the word that was found is that of an empty slot at this lap
+abbrev pub finds_empty : ℕ → Option Slot → Bool
+finds_empty lap (Some (Empty found)) = found == lap
+finds_empty lap _ = false
 
--- the word has a message in this bucket
-abbrev pub has_bucket : ℕ → Slot → Bool
-has_bucket bucket (Message other length) = other == bucket
-has_bucket bucket Empty = false
+-- there is such a slot, and it is empty at this lap
+abbrev pub is_empty : FileWords → ℕ → ℕ → Bool
+is_empty words slot lap = finds_empty lap (slice_get words.slots slot)
 
--- one of these slots has a message in this bucket
-abbrev pub some_has : ℕ → List Slot → Bool
-some_has bucket [] = false
-some_has bucket (word ∷ words) = if has_bucket bucket word then true else some_has bucket words
+-- the lap at which the slot with this word has the bucket, or None if it hasn't
+abbrev pub lap_in : ℕ → Option Slot → Option ℕ
+lap_in bucket (Some (Message lap other)) = if other == bucket then Some lap else None
+lap_in bucket _ = None
+
+-- the lap at which this slot has the bucket, or None if it hasn't
+abbrev pub lap_of : FileWords → ℕ → ℕ → Option ℕ
+lap_of words slot bucket = lap_in bucket (slice_get words.slots slot)
 
 -- the lock that was found is free
 abbrev pub finds_free : Option (Option ℕ) → Bool
@@ -162,18 +164,6 @@ move_of outcome words place = record { outcome = outcome; words = words; place =
 abbrev pub refused : FileWords → Place → FileMove
 refused words place = move_of Refused words place
 
--- the party detaches a bucket
-abbrev pub detaching : FileWords → ℕ → ℕ → Place → FileMove
-detaching words party bucket next = move_of (OnFlag (Detach party bucket)) (with_flag words bucket (DetachedBy party)) next
-
--- the party addresses a bucket that it has detached to the number that nobody joins, unless another
--- party has attached it
-abbrev pub addressing : FileWords → ℕ → ℕ → Place → FileMove
-addressing words party bucket next =
-    if is_flag words bucket (DetachedBy party)
-    then move_of (Addresses bucket party (nobody words)) (with_flag words bucket (DetachedBy (nobody words))) next
-    else move_of Moves words next
-
 -- the party attaches a bucket that the party `from` has detached
 abbrev pub attaching : FileWords → ℕ → ℕ → ℕ → Place → FileMove
 attaching words party bucket from next =
@@ -183,9 +173,15 @@ attaching words party bucket from next =
 abbrev pub giving_back : FileWords → ℕ → ℕ → Place → FileMove
 giving_back words party bucket next = move_of (OnFlag (GiveBack party bucket)) (with_flag words bucket Free) next
 
--- a party puts back the flag of a bucket that it holds: detached by the party `from`
-abbrev pub putting_back : FileWords → ℕ → ℕ → ℕ → Place → FileMove
-putting_back words party bucket from next = move_of (PutsBack bucket party from) (with_flag words bucket (DetachedBy from)) next
+-- the party sends a bucket to a slot that has it
+abbrev pub sending : FileWords → ℕ → ℕ → ℕ → ℕ → Place → FileMove
+sending words party bucket slot lap next = move_of (Sends bucket party) (with_flag words bucket (SentTo slot lap)) next
+
+-- the bucket's entry says from now on that the bucket is in no slot
+abbrev pub clearing : FileWords → ℕ → Place → FileMove
+clearing words bucket next = move_of (OnEntry bucket) (with_entry words bucket Nowhere) next
+
+-- LOCKS AND LIVES
 
 -- a process takes the lock of a number: `bb_pool_file_join` and `bb_pool_file_reap`
 abbrev pub lock : FileWords → ℕ → Place → ℕ → FileMove
@@ -204,7 +200,7 @@ counting words party life place next =
 -- `bb_pool_file_join` and `bb_pool_file_reap`. A process that has settled a number may count once
 -- more: `bb_pool_file_leave`.
 abbrev pub count : FileWords → Place → ℕ → FileMove
-count words (Counting party) life = counting words party life (Counting party) (Slots party 0)
+count words (Counting party) life = counting words party life (Counting party) (Flags party 0)
 count words (Settled party) life = counting words party life (Settled party) (Settled party)
 count words place life = refused words place
 
@@ -212,31 +208,36 @@ count words place life = refused words place
 -- `bb_pool_file_give_all_back`
 abbrev pub leave : FileWords → ℕ → Place → ℕ → FileMove
 leave words process place party =
-    if may_call words process place party then move_of Moves words (Slots party 0) else refused words place
+    if may_call words process place party then move_of Moves words (Flags party 0) else refused words place
 
--- a party takes a free bucket: `bb_pool_party_allocate`, and each other call that allocates
+-- BUCKETS
+
+-- a party takes a free bucket: each call that allocates
 abbrev pub allocate : FileWords → ℕ → Place → ℕ → ℕ → FileMove
 allocate words process place party bucket =
     if may_call words process place party then (if is_flag words bucket Free
     then move_of (OnFlag (TryAt party bucket)) (with_flag words bucket (HeldBy party)) Outside
     else refused words place) else refused words place
 
--- A party gives back a bucket that it holds, and that is in no slot: `bb_pool_file_deallocate`, and
--- each other call that frees. The look at all slots is part of this one step, since it models a
--- duty of the host.
+-- A party holds the bucket, whose entry says that it is in no slot: so the party may give back,
+-- detach or post the bucket. A step may test both words, and write one, since nobody else writes the
+-- flag or the entry of a bucket that the party holds.
+abbrev pub has_clear : FileWords → ℕ → ℕ → Bool
+has_clear words party bucket = if is_flag words bucket (HeldBy party) then is_nowhere words bucket else false
+
+-- a party gives back a bucket that it holds, and that is in no slot: each call that frees
 abbrev pub deallocate : FileWords → ℕ → Place → ℕ → ℕ → FileMove
 deallocate words process place party bucket =
-    if may_call words process place party then (if is_flag words bucket (HeldBy party)
-    then (if some_has bucket words.slots then refused words place else giving_back words party bucket Outside)
+    if may_call words process place party then (if has_clear words party bucket
+    then giving_back words party bucket Outside
     else refused words place) else refused words place
 
--- A party detaches a bucket that it holds: `bb_pool_file_detach`. If no slot has the bucket, a
--- channel outside knows its number from now on.
+-- A party detaches a bucket that it holds, and that is in no slot: `bb_pool_file_detach`. The host
+-- sends the bucket's number through a channel outside the file.
 abbrev pub detach_number : FileWords → ℕ → Place → ℕ → ℕ → FileMove
 detach_number words process place party bucket =
-    if may_call words process place party then (if is_flag words bucket (HeldBy party)
-    then (if some_has bucket words.slots then detaching words party bucket Outside
-    else detaching (with_outside words bucket (Some party)) party bucket Outside)
+    if may_call words process place party then (if has_clear words party bucket
+    then move_of (OnFlag (Detach party bucket)) (with_flag words bucket (DetachedBy party)) Outside
     else refused words place) else refused words place
 
 -- a party attaches, by its number, a bucket that the party `from` has detached:
@@ -244,120 +245,116 @@ detach_number words process place party bucket =
 abbrev pub attach_number : FileWords → ℕ → Place → ℕ → ℕ → ℕ → FileMove
 attach_number words process place party bucket from =
     if may_call words process place party then (if is_flag words bucket (DetachedBy from)
-    then attaching (with_outside words bucket None) party bucket from Outside
+    then attaching words party bucket from Outside
     else refused words place) else refused words place
 
--- A party fills an empty slot with a bucket that it holds, and that is in no slot:
--- `bb_pool_file_post`. From now on the slot has the bucket's number, and no channel outside. The
--- look at all slots is part of this one step, since it models a duty of the host.
+-- MESSAGES
+
+-- A party begins a post, `bb_pool_file_post`, of a bucket that it holds, and that is in no slot: the
+-- entry says from now on which slot is to have the bucket, and the length of the message.
 abbrev pub post : FileWords → ℕ → Place → ℕ → ℕ → ℕ → ℕ → FileMove
 post words process place party slot bucket length =
-    if may_call words process place party then (if is_flag words bucket (HeldBy party)
-    then (if some_has bucket words.slots then refused words place
-    else (if is_slot words slot Empty
-    then move_of (OnSlot slot) (with_slot (with_outside words bucket None) slot (Message bucket length)) (Posting party bucket)
-    else refused words place))
+    if may_call words process place party then (if has_clear words party bucket
+    then move_of (OnEntry bucket) (with_entry words bucket (In slot length)) (Posting party slot bucket)
     else refused words place) else refused words place
 
--- a take by this party has found this word in its slot
-abbrev pub take_found : FileWords → ℕ → ℕ → Option Slot → FileMove
-take_found words party slot (Some (Message bucket length)) = move_of Moves words (Seen party slot bucket length)
-take_found words party slot _ = refused words Outside
+-- a post fills its slot, which is empty at this lap
+abbrev pub fill : FileWords → Place → ℕ → FileMove
+fill words (Posting party slot bucket) lap =
+    if is_empty words slot lap
+    then move_of (OnSlot slot) (with_slot words slot (Message lap bucket)) (Sending party slot bucket lap)
+    else refused words (Posting party slot bucket)
+fill words place lap = refused words place
 
--- a party begins a take, `bb_pool_file_take`: it looks at the slot
-abbrev pub begin_take : FileWords → ℕ → Place → ℕ → ℕ → FileMove
-begin_take words process place party slot =
-    if may_call words process place party then take_found words party slot (slice_get words.slots slot) else refused words place
+-- a party takes a message, `bb_pool_file_take`: it takes the bucket that is sent to this slot at this
+-- lap
+abbrev pub take : FileWords → ℕ → Place → ℕ → ℕ → ℕ → ℕ → FileMove
+take words process place party slot bucket lap =
+    if may_call words process place party then (if is_flag words bucket (SentTo slot lap)
+    then move_of (Receives slot bucket party) (with_flag words bucket (HeldBy party)) Outside
+    else refused words place) else refused words place
 
--- in a take the process attaches the bucket that it has seen
-abbrev pub exchange : FileWords → Place → ℕ → FileMove
-exchange words (Seen party slot bucket length) from =
-    if is_flag words bucket (DetachedBy from) then attaching words party bucket from (Attached party slot bucket length from)
-    else refused words (Seen party slot bucket length)
-exchange words place from = refused words place
+-- a party empties a slot in which it has found this lap of its bucket, and the slot goes on with
+-- another lap
+abbrev pub done_at : FileWords → Place → ℕ → ℕ → ℕ → ℕ → Option ℕ → FileMove
+done_at words place party slot bucket next (Some lap) =
+    move_of (OnSlot slot) (with_slot words slot (Empty next)) (Clearing party bucket)
+done_at words place party slot bucket next None = refused words place
 
--- a `done` by this party has found this word in its slot
-abbrev pub done_found : FileWords → ℕ → ℕ → Option Slot → FileMove
-done_found words party slot (Some (Message bucket length)) = move_of Moves words (Finding party slot bucket)
-done_found words party slot _ = refused words Outside
+-- A party that holds the bucket of a message says that it is done with the message,
+-- `bb_pool_file_done`: it empties the slot, which goes on with the lap `next`.
+abbrev pub done : FileWords → ℕ → Place → ℕ → ℕ → ℕ → ℕ → FileMove
+done words process place party slot bucket next =
+    if may_call words process place party then (if is_flag words bucket (HeldBy party)
+    then done_at words place party slot bucket next (lap_of words slot bucket)
+    else refused words place) else refused words place
 
--- a party begins a `done`, `bb_pool_file_done`: it looks at the slot
-abbrev pub begin_done : FileWords → ℕ → Place → ℕ → ℕ → FileMove
-begin_done words process place party slot =
-    if may_call words process place party then done_found words party slot (slice_get words.slots slot) else refused words place
+-- a party sends a bucket again to the slot that has it at this lap
+abbrev pub put_back_at : FileWords → Place → ℕ → ℕ → ℕ → Option ℕ → FileMove
+put_back_at words place party slot bucket (Some lap) = sending words party bucket slot lap Outside
+put_back_at words place party slot bucket None = refused words place
 
--- A settler that has been over all slots attaches a bucket that the settled number had detached,
--- and goes over the flags again: `bb_pool_file_reap`, if it is to free such buckets.
-abbrev pub recover : FileWords → Place → ℕ → FileMove
-recover words (Flags party next) bucket =
-    if is_flag words bucket (DetachedBy party)
-    then attaching (with_outside words bucket None) party bucket party (Flags party 0)
-    else refused words (Flags party next)
-recover words place bucket = refused words place
+-- a party puts back a message that it has taken, and isn't done with: `bb_pool_file_detach`
+abbrev pub put_back : FileWords → ℕ → Place → ℕ → ℕ → ℕ → FileMove
+put_back words process place party slot bucket =
+    if may_call words process place party then (if is_flag words bucket (HeldBy party)
+    then put_back_at words place party slot bucket (lap_of words slot bucket)
+    else refused words place) else refused words place
 
--- the slot after this one, at which a settler looks next
-abbrev pub after_slot : FileWords → ℕ → ℕ
-after_slot words slot = if nat_lt slot (length words.slots) then slot + 1 else slot
+-- SETTLERS
 
--- a take that is late has found this word in a slot, or has been over all slots
-abbrev pub late_slot : FileWords → ℕ → ℕ → ℕ → ℕ → Option Slot → FileMove
-late_slot words party bucket from slot None = move_of Moves words (Returning party bucket from)
-late_slot words party bucket from slot (Some word) =
-    if has_bucket bucket word then move_of Moves words (Posting party bucket)
-    else move_of Moves words (Late party bucket from (after_slot words slot))
+-- A settler attaches a bucket that the settled number had detached: `bb_pool_file_reap`, if it is to
+-- free such buckets.
+abbrev pub recover : FileWords → Place → FileMove
+recover words (Flags party bucket) =
+    if is_flag words bucket (DetachedBy party) then attaching words party bucket party (Flags party bucket)
+    else refused words (Flags party bucket)
+recover words place = refused words place
 
--- a settler has found this word in a slot, or has been over all slots
-abbrev pub settle_slot : FileWords → ℕ → ℕ → Option Slot → FileMove
-settle_slot words party slot None = move_of Moves words (Flags party 0)
-settle_slot words party slot (Some Empty) = move_of Moves words (Slots party (after_slot words slot))
-settle_slot words party slot (Some (Message bucket length)) = move_of Moves words (Checking party slot bucket)
+-- A settler has found that the number holds this bucket, whose entry says that it is in this slot.
+-- If so, the bucket is sent there: it has a message that the number hadn't finished to send, or
+-- wasn't done with. If not, its entry is cleared first.
+abbrev pub settle_at : FileWords → ℕ → ℕ → ℕ → Option ℕ → FileMove
+settle_at words party bucket slot (Some lap) = sending words party bucket slot lap (Flags party (bucket + 1))
+settle_at words party bucket slot None = clearing words bucket (Flags party bucket)
 
--- a settler gives back the bucket if the settled number holds it
+-- a settler has found that the number holds this bucket, and has found this entry
+abbrev pub settle_entry : FileWords → ℕ → ℕ → Option Entry → FileMove
+settle_entry words party bucket (Some (In slot length)) = settle_at words party bucket slot (lap_of words slot bucket)
+settle_entry words party bucket _ = giving_back words party bucket (Flags party (bucket + 1))
+
+-- A settler gives back the bucket if the settled number holds it, and it is in no slot; if a slot
+-- has it, the settler sends it there. It may test several words, and write one, since nobody else
+-- writes the flag or the entry of a bucket that the settled number holds, or the word of a slot that
+-- has it.
 abbrev pub settle_flag : FileWords → ℕ → ℕ → FileMove
 settle_flag words party bucket =
-    if is_flag words bucket (HeldBy party) then giving_back words party bucket (Flags party (bucket + 1))
+    if is_flag words bucket (HeldBy party) then settle_entry words party bucket (slice_get words.entries bucket)
     else move_of Moves words (Flags party (bucket + 1))
 
--- a settler has found this bucket in the slot, and looks at its flag
-abbrev pub settle_message : FileWords → ℕ → ℕ → ℕ → FileMove
-settle_message words party slot bucket =
-    if is_flag words bucket (HeldBy party) then move_of Moves words (Keeping party slot bucket)
-    else (if is_flag words bucket (DetachedBy party) then move_of Moves words (Addressing party slot bucket)
-    else move_of Moves words (Slots party (after_slot words slot)))
+-- THE NEXT STEP
 
--- The next step of the call that the process is in. `Posting` and `Sent` are places in
--- `bb_pool_file_post` and in `bb_pool_file_take`; `Seen`, `Attached`, `Late` and `Returning` in
--- `bb_pool_file_take`; `Finding` and `Ending` in `bb_pool_file_done`. The others are places of a
--- settler, in `settle` of `bb_pool_file.c`. A process at `Counting` takes no next step: it counts.
+-- The next step of the call that the process is in. `Posting` and `Sending` are places in
+-- `bb_pool_file_post`, and `Clearing` is one in `bb_pool_file_done`; the others are places of a
+-- settler. A process at `Posting` that can't fill its slot clears the entry. A process at `Counting`
+-- takes no next step: it counts.
 abbrev pub next : FileWords → Place → FileMove
 next words Outside = refused words Outside
 next words Dead = refused words Dead
-next words (Posting party bucket) = detaching words party bucket (Sent party bucket)
-next words (Sent party bucket) = addressing words party bucket Outside
-next words (Seen party slot bucket length) = move_of Moves words Outside
-next words (Attached party slot bucket length from) =
-    if is_slot words slot (Message bucket length) then move_of (Receives slot) words Outside
-    else move_of Moves words (Late party bucket from 0)
-next words (Late party bucket from slot) = late_slot words party bucket from slot (slice_get words.slots slot)
-next words (Returning party bucket from) = putting_back words party bucket from Outside
-next words (Finding party slot bucket) =
-    if is_flag words bucket (HeldBy party) then move_of Moves words (Ending party slot bucket) else move_of Moves words Outside
-next words (Ending party slot bucket) = move_of (OnSlot slot) (with_slot words slot Empty) Outside
+next words (Posting party slot bucket) = clearing words bucket Outside
+next words (Sending party slot bucket lap) = sending words party bucket slot lap Outside
+next words (Clearing party bucket) = clearing words bucket Outside
 next words (Counting party) = refused words (Counting party)
-next words (Slots party slot) = settle_slot words party slot (slice_get words.slots slot)
-next words (Checking party slot bucket) = settle_message words party slot bucket
-next words (Keeping party slot bucket) = detaching words party bucket (Addressing party slot bucket)
-next words (Addressing party slot bucket) = addressing words party bucket (Slots party (after_slot words slot))
 next words (Flags party bucket) =
     if nat_lt bucket (length words.flags) then settle_flag words party bucket else move_of Moves words (Settled party)
 next words (Settled party) = move_of Moves words Outside
 
 -- A settler that is done frees the lock of the settled number: `bb_pool_file_leave` and
--- `bb_pool_file_reap`. So does one that has not looked at a slot yet, if `bb_pool_file_join` or
+-- `bb_pool_file_reap`. So does one that has settled no bucket yet, if `bb_pool_file_join` or
 -- `bb_pool_file_reap` fails before that. A process that leaves may do so, too: then its number isn't
 -- settled until another process takes the lock.
 abbrev pub unlock : FileWords → Place → FileMove
-unlock words (Slots party zero) = move_of (OnLock party) (with_lock words party None) Outside
+unlock words (Flags party zero) = move_of (OnLock party) (with_lock words party None) Outside
 unlock words (Settled party) = move_of (OnLock party) (with_lock words party None) Outside
 unlock words place = refused words place
 
@@ -371,6 +368,8 @@ release words process Dead party =
     if is_own words process party then move_of (OnLock party) (with_lock words party None) Dead else refused words Dead
 release words process place party = refused words place
 
+-- STEPS
+
 -- the process that takes a step
 abbrev pub process_of : FileStep → ℕ
 process_of (Lock process party) = process
@@ -381,10 +380,11 @@ process_of (Deallocate process party bucket) = process
 process_of (DetachNumber process party bucket) = process
 process_of (AttachNumber process party bucket from) = process
 process_of (Post process party slot bucket length) = process
-process_of (Take process party slot) = process
-process_of (Exchange process from) = process
-process_of (Done process party slot) = process
-process_of (Recover process bucket) = process
+process_of (Fill process lap) = process
+process_of (Take process party slot bucket lap) = process
+process_of (Done process party slot bucket lap) = process
+process_of (PutBack process party slot bucket) = process
+process_of (Recover process) = process
 process_of (Next process) = process
 process_of (Unlock process) = process
 process_of (Kill process) = process
@@ -400,10 +400,11 @@ move_at words place (Deallocate process party bucket) = deallocate words process
 move_at words place (DetachNumber process party bucket) = detach_number words process place party bucket
 move_at words place (AttachNumber process party bucket from) = attach_number words process place party bucket from
 move_at words place (Post process party slot bucket length) = post words process place party slot bucket length
-move_at words place (Take process party slot) = begin_take words process place party slot
-move_at words place (Exchange process from) = exchange words place from
-move_at words place (Done process party slot) = begin_done words process place party slot
-move_at words place (Recover process bucket) = recover words place bucket
+move_at words place (Fill process lap) = fill words place lap
+move_at words place (Take process party slot bucket lap) = take words process place party slot bucket lap
+move_at words place (Done process party slot bucket next) = done words process place party slot bucket next
+move_at words place (PutBack process party slot bucket) = put_back words process place party slot bucket
+move_at words place (Recover process) = recover words place
 move_at words place (Next process) = next words place
 move_at words place (Unlock process) = unlock words place
 move_at words place (Kill process) = kill words

@@ -1,6 +1,7 @@
 -- Protocols that differ from the machine's at one step, and what goes wrong with each.
-use Rattle.bb_memory_file_machine.specs.FileLaws.{HasCounted, IsAlive, IsFlag, IsHolder, IsInCallBy, IsInSome, IsKnown, IsLock, IsSentBy, IsSlot}
-use Rattle.bb_memory_file_machine.specs.FileMachine.{Addressing, AttachFrom, Attached, Dead, DetachedBy, Empty, FileChange, FileMove, FileOutcome, FileScene, FileState, FileStep, FileWords, Flag, Flags, Free, Late, Leave, Lock, Moves, Next, OnFlag, OnLock, OnSlot, Outside, Place, Post, Receives, Recover, Refused, Returning, Slots, after_slot, attaching, change_by, detaching, finds_free, may_call, move_at, move_of, opening_state, post, process_of, putting_back, with_lock, with_outside}
+use Rattle.bb_memory_file_machine.specs.FileLaws.{HasCounted, IsFlag, IsHolder, IsIn, IsInCallBy, IsInSome, IsLock}
+use Rattle.bb_memory_file_machine.specs.FileMachine.{Clearing, Deallocate, Detach, DetachNumber, DetachedBy, Done, Entry, FileChange, FileFlag, FileMove, FileOutcome, FileScene, FileState, FileStep, FileWords, Fill, Flags, Free, HeldBy, In, Leave, Lock, Moves, Next, OnEntry, OnFlag, OnLock, OnSlot, Outside, Place, Post, Posting, Receives, Recover, Refused, Sending, SentTo, Take, attaching, change_by, clearing, done, fill, finds_free, giving_back, is_flag, lap_of, may_call, move_at, move_of, process_of, sending, with_entry, with_flag, with_lock, with_slot}
+use Rattle.bb_memory_file_machine.specs.FileMachine as machine
 use Rattle.std.specs.Prelude.{Bool, List, None, Option, Some, [], false, if◌then◌else◌, slice_get, true, ℕ, ◌∷◌, ◌≡◌, ◌≢◌}
 
 -- a protocol: its move at each step at which it differs from the machine, and None at all other
@@ -9,77 +10,132 @@ abbrev pub Variant : Type 0
 Variant = FileWords → Place → FileStep → Option FileMove
 
 -- the outcome says that a slot was filled or emptied
-abbrev pub fills_slot : FileOutcome → Bool
-fills_slot (OnSlot slot) = true
-fills_slot outcome = false
+abbrev pub changes_slot : FileOutcome → Bool
+changes_slot (OnSlot slot) = true
+changes_slot outcome = false
 
--- the move by which a settler attaches a bucket with this flag, whoever has detached it, if the
--- bucket is detached
-abbrev pub attach_any : FileWords → ℕ → ℕ → Option Flag → Option FileMove
-attach_any words party bucket (Some (DetachedBy from)) =
-    Some (attaching (with_outside words bucket None) party bucket from (Flags party 0))
+-- this move if the process may begin a call by the number, and the number holds the bucket
+abbrev pub by_holder : FileWords → ℕ → Place → ℕ → ℕ → FileMove → Option FileMove
+by_holder words process place party bucket move =
+    if may_call words process place party then (if is_flag words bucket (HeldBy party) then Some move else None) else None
+
+-- TAKES
+
+-- the move by which a take attaches a bucket with this flag, if the bucket is sent to any slot
+abbrev pub take_sent : FileWords → ℕ → ℕ → ℕ → Option FileFlag → Option FileMove
+take_sent words party slot bucket (Some (SentTo other lap)) =
+    Some (move_of (Receives slot bucket party) (with_flag words bucket (HeldBy party)) Outside)
+take_sent words party slot bucket _ = None
+
+-- a take attaches its bucket, whichever slot the bucket is sent to
+abbrev pub take_any : Variant
+take_any words Outside (Take process party slot bucket lap) =
+    if may_call words process Outside party then take_sent words party slot bucket (slice_get words.flags bucket) else None
+take_any words place step = None
+
+-- POSTS
+
+-- the move of a post that sends the bucket in place of filling the slot, if its process is killed
+-- next; `filling` is the machine's move, whose tests stay
+abbrev pub send_before : FileWords → ℕ → ℕ → ℕ → ℕ → FileMove → FileMove
+send_before words party slot bucket lap filling =
+    if changes_slot filling.outcome then sending words party bucket slot lap machine.Dead else filling
+
+-- a post sends the bucket before it fills the slot, and its process is killed in between
+abbrev pub send_then_fill : Variant
+send_then_fill words (Posting party slot bucket) (Fill process lap) =
+    Some (send_before words party slot bucket lap (fill words (Posting party slot bucket) lap))
+send_then_fill words place step = None
+
+-- a post begins without writing the entry: it is to write it after it has filled the slot
+abbrev pub post_fills_first : Variant
+post_fills_first words Outside (Post process party slot bucket size) =
+    by_holder words process Outside party bucket (move_of Moves words (Posting party slot bucket))
+post_fills_first words place step = None
+
+-- a post doesn't look whether the bucket is in a slot
+abbrev pub post_undone : Variant
+post_undone words Outside (Post process party slot bucket size) =
+    by_holder words process Outside party bucket
+    (move_of (OnEntry bucket) (with_entry words bucket (In slot size)) (Posting party slot bucket))
+post_undone words place step = None
+
+-- OTHER CALLS OF A HOLDER
+
+-- the move of a `done` that clears the entry in place of emptying the slot, if its process is killed
+-- next; `emptying` is the machine's move, whose tests stay
+abbrev pub clear_before : FileWords → ℕ → FileMove → FileMove
+clear_before words bucket emptying =
+    if changes_slot emptying.outcome then clearing words bucket machine.Dead else emptying
+
+-- a `done` clears the entry before it empties the slot, and its process is killed in between
+abbrev pub done_clears_first : Variant
+done_clears_first words Outside (Done process party slot bucket next) =
+    Some (clear_before words bucket (done words process Outside party slot bucket next))
+done_clears_first words place step = None
+
+-- a party frees a bucket that is still in a slot
+abbrev pub deallocate_undone : Variant
+deallocate_undone words Outside (Deallocate process party bucket) =
+    by_holder words process Outside party bucket (giving_back words party bucket Outside)
+deallocate_undone words place step = None
+
+-- a party detaches, by its number, a bucket that is still in a slot
+abbrev pub detach_undone : Variant
+detach_undone words Outside (DetachNumber process party bucket) =
+    by_holder words process Outside party bucket
+    (move_of (OnFlag (Detach party bucket)) (with_flag words bucket (DetachedBy party)) Outside)
+detach_undone words place step = None
+
+-- SETTLERS
+
+-- the move by which a settler attaches a bucket with this flag, whoever has sent or detached it
+abbrev pub attach_any : FileWords → ℕ → ℕ → Option FileFlag → Option FileMove
+attach_any words party bucket (Some (DetachedBy from)) = Some (attaching words party bucket from (Flags party bucket))
+attach_any words party bucket (Some (SentTo slot lap)) = Some (giving_back words party bucket (Flags party bucket))
 attach_any words party bucket _ = None
 
--- a settler that has been over all slots attaches a detached bucket, whoever has detached it
-abbrev pub attach_from_any : Variant
-attach_from_any words (Flags party next) (Recover process bucket) = attach_any words party bucket (slice_get words.flags bucket)
-attach_from_any words place step = None
+-- a settler takes back each bucket that is detached or sent, and frees it
+abbrev pub recover_any : Variant
+recover_any words (Flags party bucket) (Recover process) = attach_any words party bucket (slice_get words.flags bucket)
+recover_any words place step = None
 
--- a take doesn't look at its slot again
-abbrev pub no_second_look : Variant
-no_second_look words (Attached party slot bucket size from) (Next process) = Some (move_of (Receives slot) words Outside)
-no_second_look words place step = None
+-- a settler gives back what the number holds without a look at the entries
+abbrev pub settle_skips_entries : Variant
+settle_skips_entries words (Flags party bucket) (Next process) =
+    if is_flag words bucket (HeldBy party) then Some (giving_back words party bucket (Flags party bucket)) else None
+settle_skips_entries words place step = None
 
--- a settler doesn't go over the slots
-abbrev pub settle_forgets_slots : Variant
-settle_forgets_slots words (Slots party slot) (Next process) = Some (move_of Moves words (Flags party 0))
-settle_forgets_slots words place step = None
+-- the move by which a settler sends a bucket with this entry, without a look at the slot
+abbrev pub send_blindly : FileWords → ℕ → ℕ → Option Entry → Option FileMove
+send_blindly words party bucket (Some (In slot size)) = Some (sending words party bucket slot 0 (Flags party bucket))
+send_blindly words party bucket _ = None
 
--- a settler doesn't address the messages that the settled number has detached
-abbrev pub settle_addresses_not : Variant
-settle_addresses_not words (Addressing party slot bucket) (Next process) =
-    Some (move_of Moves words (Slots party (after_slot words slot)))
-settle_addresses_not words place step = None
+-- a settler sends what the number holds to the slot that the entry says, without a look at the slot
+abbrev pub settle_sends_blindly : Variant
+settle_sends_blindly words (Flags party bucket) (Next process) =
+    if is_flag words bucket (HeldBy party) then send_blindly words party bucket (slice_get words.entries bucket) else None
+settle_sends_blindly words place step = None
 
--- the first step of a post that detaches the bucket before it fills the slot, if its process is
--- killed next; `filling` is the machine's move, whose tests stay
-abbrev pub detach_before : FileWords → ℕ → ℕ → FileMove → FileMove
-detach_before words party bucket filling =
-    if fills_slot filling.outcome then detaching words party bucket Dead else filling
-
--- a post detaches the bucket before it fills the slot, and its process is killed in between
-abbrev pub detach_then_post : Variant
-detach_then_post words Outside (Post process party slot bucket size) =
-    Some (detach_before words party bucket (post words process Outside party slot bucket size))
-detach_then_post words place step = None
+-- LOCKS AND LIVES
 
 -- a number is settled though another process has its lock
 abbrev pub reaps_the_living : Variant
 reaps_the_living words Outside (Lock process party) =
-    if finds_free (slice_get words.locks party) then None else Some (move_of Moves words (Slots party 0))
+    if finds_free (slice_get words.locks party) then None else Some (move_of Moves words (Flags party 0))
 reaps_the_living words place step = None
-
--- a take that is late, and has found the bucket in no slot, leaves its own name in the flag
-abbrev pub late_take_keeps_name : Variant
-late_take_keeps_name words (Returning party bucket from) (Next process) = Some (detaching words party bucket Outside)
-late_take_keeps_name words place step = None
-
--- a take that is late puts the flag back as it found it, without a look at the slots
-abbrev pub late_take_looks_not : Variant
-late_take_looks_not words (Late party bucket from slot) (Next process) = Some (putting_back words party bucket from Outside)
-late_take_looks_not words place step = None
 
 -- a process that has taken a number's lock settles the number without counting a life
 abbrev pub join_counts_not : Variant
 join_counts_not words Outside (Lock process party) =
     if finds_free (slice_get words.locks party)
-    then Some (move_of (OnLock party) (with_lock words party (Some process)) (Slots party 0)) else None
+    then Some (move_of (OnLock party) (with_lock words party (Some process)) (Flags party 0)) else None
 join_counts_not words place step = None
 
 -- a process that leaves frees the lock before it settles the number
 abbrev pub unlock_before : Variant
 unlock_before words Outside (Leave process party) =
-    if may_call words process Outside party then Some (move_of (OnLock party) (with_lock words party None) (Slots party 0)) else None
+    if may_call words process Outside party then Some (move_of (OnLock party) (with_lock words party None) (Flags party 0)) else None
 unlock_before words place step = None
 
 -- the variant's move, or the machine's
@@ -114,23 +170,46 @@ pub record FreesMessage (variant : Variant) : Type 0 where
   pub has : IsInSome (wrong_left_by variant scene steps).words bucket
   pub free : IsFlag (wrong_left_by variant scene steps).words bucket Free
 
--- after some steps of the variant a process receives a message from an empty slot
-pub record ReceivesNothing (variant : Variant) : Type 0 where
-  pub scene : FileScene
-  pub steps : List FileStep
-  pub step : FileStep
-  pub slot : ℕ
-  pub received : (wrong_step variant (wrong_left_by variant scene steps) step).outcome ≡ Receives slot
-  pub empty : IsSlot (wrong_left_by variant scene steps).words slot Empty
-
--- after some steps of the variant a bucket is detached, and nobody knows its number
-pub record LosesBucket (variant : Variant) : Type 0 where
+-- after some steps of the variant a slot has a bucket that a party has detached by its number
+pub record DetachesMessage (variant : Variant) : Type 0 where
   pub scene : FileScene
   pub steps : List FileStep
   pub bucket : ℕ
   pub party : ℕ
+  pub has : IsInSome (wrong_left_by variant scene steps).words bucket
   pub detached : IsFlag (wrong_left_by variant scene steps).words bucket (DetachedBy party)
-  pub unknown : ¬ IsKnown (wrong_left_by variant scene steps).words bucket
+
+-- after some steps of the variant a bucket is in two slots
+pub record IsInTwo (variant : Variant) : Type 0 where
+  pub scene : FileScene
+  pub steps : List FileStep
+  pub bucket : ℕ
+  pub slot : ℕ
+  pub other : ℕ
+  pub one : IsIn (wrong_left_by variant scene steps).words bucket slot
+  pub two : IsIn (wrong_left_by variant scene steps).words bucket other
+  pub apart : slot ≢ other
+
+-- after some steps of the variant a process receives a message from a slot that hasn't its bucket
+pub record ReceivesAnothers (variant : Variant) : Type 0 where
+  pub scene : FileScene
+  pub steps : List FileStep
+  pub step : FileStep
+  pub slot : ℕ
+  pub bucket : ℕ
+  pub party : ℕ
+  pub received : (wrong_step variant (wrong_left_by variant scene steps) step).outcome ≡ Receives slot bucket party
+  pub not_in : ¬ IsIn (wrong_left_by variant scene steps).words bucket slot
+
+-- after some steps of the variant a bucket is sent to a slot that hasn't it
+pub record LosesBucket (variant : Variant) : Type 0 where
+  pub scene : FileScene
+  pub steps : List FileStep
+  pub bucket : ℕ
+  pub slot : ℕ
+  pub lap : ℕ
+  pub sent : IsFlag (wrong_left_by variant scene steps).words bucket (SentTo slot lap)
+  pub not_in : ¬ IsIn (wrong_left_by variant scene steps).words bucket slot
 
 -- after some steps of the variant a process gives back the bucket of a party whose lock another
 -- process has
@@ -156,21 +235,6 @@ pub record SharesNumber (variant : Variant) : Type 0 where
   pub apart : process ≢ other
   pub one : IsInCallBy (wrong_left_by variant scene steps) process party
   pub two : IsInCallBy (wrong_left_by variant scene steps) other party
-
--- after some steps of the variant a settler takes back a bucket whose number another, living party
--- has sent
-pub record RecoversAnothers (variant : Variant) : Type 0 where
-  pub scene : FileScene
-  pub steps : List FileStep
-  pub process : ℕ
-  pub bucket : ℕ
-  pub party : ℕ
-  pub sender : ℕ
-  pub recovered : (wrong_step variant (wrong_left_by variant scene steps) (Recover process bucket)).outcome
-      ≡ OnFlag (AttachFrom party bucket party)
-  pub sent : IsSentBy (wrong_left_by variant scene steps).words bucket sender
-  pub living : IsAlive (wrong_left_by variant scene steps) sender
-  pub apart : sender ≢ party
 
 -- after some steps of the variant a process has a number, and after some further steps another
 -- process has the number with the same life

@@ -1,22 +1,46 @@
 //! The steps of the machine of a pool in a file, and the theorem about every list of them.
-ghost use Rattle.bb_memory_file_machine.specs.FileLaws.{AreSettled, CanCount, CanSettle, Effect, HasAttached, HasCounted, HasReceived, IsAccountedFor, IsFlag, IsHolder, IsIn, IsInCallBy, IsInSome, IsKnown, IsLife, IsLock, IsOutside, IsPlace, IsSentBy, IsSettling, IsSlot, SaysDone, StaysIn, UsesNumber, after_post};
-ghost use Rattle.bb_memory_file_machine.specs.FileMachine.{Counting, DetachedBy, Ending, FileScene, FileStep, Free, Lock, Message, OnLock, OnSlot, Place, Post, Receives, Refused, Settled, file_after, file_step, left_by, opening_state, outcomes_of, process_of};
+ghost use Rattle.bb_memory_file_machine.specs.FileLaws.{AreSettled, CanCount, CanSettle, Effect, HasCounted, HasReceived, HasTaken, IsAccountedFor, IsEntered, IsEntry, IsFlag, IsHeld, IsHolder, IsIdle, IsIn, IsInCallBy, IsLife, IsLock, IsPlace, IsSettling, IsSlot, SaysDone, StaysIn, after_fill};
+ghost use Rattle.bb_memory_file_machine.specs.FileMachine.{Counting, DetachNumber, DetachedBy, Done, Entry, FileScene, FileStep, Fill, Lock, Message, Nowhere, OnLock, OnSlot, Outside, Place, Receives, SentTo, Settled, file_after, file_step, left_by, outcomes_of, process_of};
 ghost use Rattle.bb_memory_file_machine.specs.FilePool.{IsPool, IsTaken, flag_steps, pool_of};
-ghost use Rattle.bb_memory_file_machine.specs.FileVariants.{FreesMessage, LosesBucket, ReceivesNothing, RecoversAnothers, SharesLife, SharesNumber, TakesAway, attach_from_any, detach_then_post, join_counts_not, late_take_keeps_name, late_take_looks_not, no_second_look, reaps_the_living, settle_addresses_not, settle_forgets_slots, unlock_before};
+ghost use Rattle.bb_memory_file_machine.specs.FileVariants.{DetachesMessage, FreesMessage, IsInTwo, LosesBucket, ReceivesAnothers, SharesLife, SharesNumber, TakesAway, deallocate_undone, detach_undone, done_clears_first, join_counts_not, post_fills_first, post_undone, reaps_the_living, recover_any, send_then_fill, settle_sends_blindly, settle_skips_entries, take_any, unlock_before};
 ghost use Rattle.bb_memory_pool_machine.specs.PoolLogs.{AreAsked, IsPoolRun, Layout};
 ghost use Rattle.bb_memory_traits.specs.Chunk.{Chunk, IsSound};
-ghost use Rattle.bb_memory_traits.specs.PoolObject.{IsHeld, IsPoolGeometry, PoolGeometry};
+ghost use Rattle.bb_memory_traits.specs.PoolObject.{IsPoolGeometry, PoolGeometry};
+ghost use Rattle.bb_memory_traits.specs.PoolObject as objects;
 ghost use Rattle.std.specs.Prelude.{List, Some, slice_get, ℕ, ◌<◌, ◌↔◌, ◌≡◌, ◌≢◌, ◌≤◌, ◌⊎◌};
 
 use bb_memory_pool_machine::steps::PoolStep;
 
-/// The word of a slot.
+/// The flag of a bucket: who may touch the bucket, or where it is sent.
+#[derive(Debug, Clone, Copy, PartialEq, Eq)]
+pub enum FileFlag {
+    /// Nobody holds the bucket.
+    Free,
+    /// The party with this number holds the bucket.
+    HeldBy(u32),
+    /// The party with this number has detached the bucket, and has its number to send.
+    DetachedBy(u32),
+    /// The bucket has a message, which is sent to this slot at this lap.
+    SentTo { slot: u32, lap: u32 },
+}
+
+/// The entry of a bucket, which whoever holds the bucket writes.
+#[derive(Debug, Clone, Copy, PartialEq, Eq)]
+pub enum Entry {
+    /// The bucket is in no slot.
+    Nowhere,
+    /// The bucket is in this slot, or is on its way there or has just left it. Its message has this
+    /// many bytes.
+    In { slot: u32, length: u32 },
+}
+
+/// The word of a slot. Its lap is another one each time that the slot is emptied.
 #[derive(Debug, Clone, Copy, PartialEq, Eq)]
 pub enum Slot {
     /// No message is in the slot.
-    Empty,
-    /// A message is in the slot: its bucket, and how many bytes of the bucket it has.
-    Message { bucket: u32, length: u32 },
+    Empty { lap: u32 },
+    /// The message in this bucket is in the slot.
+    Message { lap: u32, bucket: u32 },
 }
 
 /// The progress of a process in its current call, with what the process has read there. Each call
@@ -27,59 +51,23 @@ pub enum Place {
     Outside,
     /// The process was killed. It takes no step, and its locks become free one by one.
     Dead,
-    /// The bucket that the party holds is in a slot: a post has filled the slot, or a take that is
-    /// late has found the bucket there. Next the process detaches the bucket.
+    /// A post has written the bucket's entry. Next it fills the slot, or clears the entry if the
+    /// slot is full.
     Posting {
         party: u32,
-        bucket: u32,
-    },
-    /// The bucket in a slot is detached. Next the process addresses the bucket to the number that
-    /// nobody joins.
-    Sent {
-        party: u32,
-        bucket: u32,
-    },
-    /// A take has found this message in its slot. Next it tries to attach the bucket.
-    Seen {
-        party: u32,
-        slot: u32,
-        bucket: u32,
-        length: u32,
-    },
-    /// A take has attached the bucket, which the party `from` had detached. Next it looks at its
-    /// slot again.
-    Attached {
-        party: u32,
-        slot: u32,
-        bucket: u32,
-        length: u32,
-        from: u32,
-    },
-    /// A take has found another word in its slot at the second look, so it is late. It goes over
-    /// the slots, to find out whether one has the bucket. Next it looks at the slot `next`.
-    Late {
-        party: u32,
-        bucket: u32,
-        from: u32,
-        next: u32,
-    },
-    /// A take that is late has found the bucket in no slot. Next it puts the flag back as it was
-    /// found: detached by the party `from`.
-    Returning {
-        party: u32,
-        bucket: u32,
-        from: u32,
-    },
-    /// A `done` has found this bucket in its slot. Next it looks at the bucket's flag.
-    Finding {
-        party: u32,
         slot: u32,
         bucket: u32,
     },
-    /// A `done` has found that its party holds the bucket in its slot. Next it empties the slot.
-    Ending {
+    /// A post has filled the slot at this lap. Next it sends the bucket there.
+    Sending {
         party: u32,
         slot: u32,
+        bucket: u32,
+        lap: u32,
+    },
+    /// A `done` has emptied its slot. Next it clears the bucket's entry.
+    Clearing {
+        party: u32,
         bucket: u32,
     },
     /// A process has taken the lock of the number. Next it counts the number's life, and begins to
@@ -87,33 +75,8 @@ pub enum Place {
     Counting {
         party: u32,
     },
-    /// A settler goes over the slots. Next it looks at this one.
-    Slots {
-        party: u32,
-        slot: u32,
-    },
-    /// A settler has found this bucket in the slot. Next it looks at the bucket's flag.
-    Checking {
-        party: u32,
-        slot: u32,
-        bucket: u32,
-    },
-    /// A settler has found that the bucket in the slot is held by the settled number. Next it
-    /// detaches the bucket.
-    Keeping {
-        party: u32,
-        slot: u32,
-        bucket: u32,
-    },
-    /// The bucket that a settler has found in the slot is detached by the settled number. Next the
-    /// settler addresses it to the number that nobody joins.
-    Addressing {
-        party: u32,
-        slot: u32,
-        bucket: u32,
-    },
-    /// A settler has been over all slots, and goes over the flags. Next it gives back this bucket
-    /// if the settled number holds it.
+    /// A settler goes over the flags. Next it gives back or sends this bucket, if the settled
+    /// number holds it.
     Flags {
         party: u32,
         bucket: u32,
@@ -157,8 +120,8 @@ pub enum FileStep {
         party: u32,
         bucket: u32,
     },
-    /// The party detaches a bucket that it holds. If the bucket is in no slot, a channel outside
-    /// the file knows its number from then on. Otherwise the party puts back a message.
+    /// The party detaches a bucket that it holds and that is in no slot, and has the bucket's
+    /// number to send.
     DetachNumber {
         process: u32,
         party: u32,
@@ -171,7 +134,8 @@ pub enum FileStep {
         bucket: u32,
         from: u32,
     },
-    /// The party fills an empty slot with a bucket that it holds and that is in no slot.
+    /// The party begins to post a bucket that it holds and that is in no slot: it writes the
+    /// bucket's entry.
     Post {
         process: u32,
         party: u32,
@@ -179,35 +143,44 @@ pub enum FileStep {
         bucket: u32,
         length: u32,
     },
-    /// The party begins a take: it looks at the slot.
+    /// In a post the process fills the slot, which is empty at this lap.
+    Fill {
+        process: u32,
+        lap: u32,
+    },
+    /// The party takes the message in the bucket that is sent to this slot at this lap.
     Take {
         process: u32,
         party: u32,
         slot: u32,
+        bucket: u32,
+        lap: u32,
     },
-    /// In a take the process attaches the bucket that it has seen, which the party `from` has
-    /// detached.
-    Exchange {
-        process: u32,
-        from: u32,
-    },
-    /// The party begins a `done`: it looks at the slot.
+    /// The party is done with the message in its bucket: it empties the slot, which goes on with
+    /// the lap `next`.
     Done {
         process: u32,
         party: u32,
         slot: u32,
+        bucket: u32,
+        next: u32,
     },
-    /// A settler that has been over all slots attaches a bucket that the settled number had
-    /// detached.
+    /// The party puts back the message in its bucket: it sends the bucket to its slot again.
+    PutBack {
+        process: u32,
+        party: u32,
+        slot: u32,
+        bucket: u32,
+    },
+    /// A settler attaches the bucket to which it has come, which the settled number had detached.
     Recover {
         process: u32,
-        bucket: u32,
     },
     /// The process takes the next step of the call that it is in.
     Next {
         process: u32,
     },
-    /// A settler that is done, or that has not looked at a slot yet, frees the lock of the settled
+    /// A settler that is done, or that has settled no bucket yet, frees the lock of the settled
     /// number.
     Unlock {
         process: u32,
@@ -230,17 +203,19 @@ pub enum FileOutcome {
     Refused,
     /// Only the progress of the process changed.
     Moves,
-    /// The process has received the message of this slot, whose bucket its party holds. No word and
-    /// no lock changed.
-    Receives(u32),
     /// A flag changed, as in this step of the machine of a shared pool.
     OnFlag(PoolStep),
-    /// The flag of a bucket that the party `from` had detached changed. The bucket now counts as
-    /// detached by the number `to`, which nobody joins.
-    Addresses { bucket: u32, from: u32, to: u32 },
-    /// The flag of a bucket that the party held changed. A take that was late has put it back as it
-    /// had found it: detached by the party `from`.
-    PutsBack { bucket: u32, party: u32, from: u32 },
+    /// A flag changed: the party has sent the bucket to the slot that has it.
+    Sends { bucket: u32, party: u32 },
+    /// A flag changed: the party has received the message in this bucket, which is in the slot, and
+    /// now holds the bucket.
+    Receives {
+        slot: u32,
+        bucket: u32,
+        party: u32,
+    },
+    /// The entry of this bucket changed.
+    OnEntry(u32),
     /// The word of this slot changed.
     OnSlot(u32),
     /// The lock of this number was taken or became free.
@@ -258,8 +233,8 @@ pub enum FileOutcome {
 /// A process can be killed after any step. As each clause holds for every list of steps, it holds
 /// for each beginning of a list.
 pub fn file_theorem()
-    // Each step of a process has one of the effects: it changes at most one flag, one slot, one
-    // lock or one life.
+    // Each step of a process has one of the effects: it changes at most one flag, one entry, one
+    // slot, one lock or one life.
     ensures effect { (scene : FileScene) (steps : List FileStep) (step : FileStep) (place : Place)
         → IsPlace (left_by scene steps) (process_of step) place
         → (let state = left_by scene steps in
@@ -277,71 +252,91 @@ pub fn file_theorem()
         → IsHolder (left_by scene steps).words bucket party → process_of step ≢ process
         → IsHolder (file_step (left_by scene steps) step).state.words bucket party }
 
-    // When a process receives a message, one of its parties holds the message's bucket, which is in
-    // the slot.
-    ensures received { (scene : FileScene) (steps : List FileStep) (step : FileStep) (slot : ℕ)
-        → (file_step (left_by scene steps) step).outcome ≡ Receives slot
-        → HasReceived (left_by scene steps) step slot }
+    // If a process has a party's lock, no step of another process changes the entry of a bucket that
+    // the party holds.
+    ensures kept_entry { (scene : FileScene) (steps : List FileStep) (step : FileStep) (process party bucket : ℕ)
+        (entry : Entry) → IsLock (left_by scene steps).words party process
+        → IsHolder (left_by scene steps).words bucket party → process_of step ≢ process
+        → IsEntry (left_by scene steps).words bucket entry
+        → IsEntry (file_step (left_by scene steps) step).state.words bucket entry }
+
+    // If a process has a party's lock, no step of another process changes the word of a slot that
+    // has a bucket which the party holds.
+    ensures kept_slot { (scene : FileScene) (steps : List FileStep) (step : FileStep)
+        (process party bucket slot lap : ℕ) → IsLock (left_by scene steps).words party process
+        → IsHolder (left_by scene steps).words bucket party → process_of step ≢ process
+        → IsSlot (left_by scene steps).words slot (Message lap bucket)
+        → IsSlot (file_step (left_by scene steps) step).state.words slot (Message lap bucket) }
+
+    // A process that receives a message receives the one in the slot: its bucket was sent there, and
+    // the process's party holds it from then on.
+    ensures received { (scene : FileScene) (steps : List FileStep) (step : FileStep) (slot bucket party : ℕ)
+        → (file_step (left_by scene steps) step).outcome ≡ Receives slot bucket party
+        → HasReceived (left_by scene steps) step slot bucket party }
 
     // A message stays in its slot until a process whose party holds the bucket says that it is done
     // with the message.
-    ensures stays { (scene : FileScene) (steps : List FileStep) (step : FileStep) (slot bucket size : ℕ)
-        → IsSlot (left_by scene steps).words slot (Message bucket size)
-        → (IsSlot (file_step (left_by scene steps) step).state.words slot (Message bucket size)
+    ensures stays { (scene : FileScene) (steps : List FileStep) (step : FileStep) (slot bucket lap : ℕ)
+        → IsSlot (left_by scene steps).words slot (Message lap bucket)
+        → (IsSlot (file_step (left_by scene steps) step).state.words slot (Message lap bucket)
         ⊎ SaysDone (left_by scene steps) step slot bucket) }
 
-    // The party by which a process says that it is done with a message has attached its bucket
-    // since the post: until a party has taken it, a message stays in its slot.
+    // The party by which a process says that it is done with a message has received it since it was
+    // posted: until a party has taken it, a message stays in its slot.
     ensures taker { (scene : FileScene) (before after : List FileStep)
-        (process party slot bucket size other taker : ℕ)
-        → (let post = Post process party slot bucket size in
-        (file_step (left_by scene before) post).outcome ≡ OnSlot slot
-        → StaysIn (after_post scene before post) after slot (Message bucket size)
-        → IsPlace (file_after (after_post scene before post) after) other (Ending taker slot bucket)
-        → HasAttached (outcomes_of (after_post scene before post) after) taker bucket) }
+        (process found slot bucket lap other party next : ℕ)
+        → (let fill = Fill process found in
+        let filled = after_fill scene before fill in
+        (file_step (left_by scene before) fill).outcome ≡ OnSlot slot
+        → StaysIn filled after slot (Message lap bucket)
+        → (file_step (file_after filled after) (Done other party slot bucket next)).outcome ≡ OnSlot slot
+        → HasTaken (outcomes_of filled after) slot bucket party) }
 
     // A bucket is in at most one slot.
     ensures one_slot { (scene : FileScene) (steps : List FileStep) (bucket slot other : ℕ)
         → IsIn (left_by scene steps).words bucket slot
         → IsIn (left_by scene steps).words bucket other → slot ≡ other }
 
-    // A bucket in a slot is never free.
-    ensures never_free { (scene : FileScene) (steps : List FileStep) (bucket : ℕ)
-        → IsInSome (left_by scene steps).words bucket
-        → ¬ IsFlag (left_by scene steps).words bucket Free }
+    // A bucket in a slot is held by a party, or is sent to this slot: it is never free, and never
+    // detached by its number.
+    ensures in_slot { (scene : FileScene) (steps : List FileStep) (bucket slot lap : ℕ)
+        → IsSlot (left_by scene steps).words slot (Message lap bucket)
+        → (IsHeld (left_by scene steps).words bucket
+        ⊎ IsFlag (left_by scene steps).words bucket (SentTo slot lap)) }
 
-    // The number of a detached bucket is known: some slot has it, or a channel outside the file.
-    ensures known { (scene : FileScene) (steps : List FileStep) (bucket party : ℕ)
-        → IsFlag (left_by scene steps).words bucket (DetachedBy party)
-        → IsKnown (left_by scene steps).words bucket }
+    // A bucket that is sent to a slot is in it.
+    ensures sent { (scene : FileScene) (steps : List FileStep) (bucket slot lap : ℕ)
+        → IsFlag (left_by scene steps).words bucket (SentTo slot lap)
+        → IsSlot (left_by scene steps).words slot (Message lap bucket) }
 
-    // A detached bucket that is in no slot is detached by the party that sent its number: a take
-    // that came too late has put the flag back.
-    ensures sender { (scene : FileScene) (steps : List FileStep) (bucket party : ℕ)
-        → IsFlag (left_by scene steps).words bucket (DetachedBy party)
-        → ¬ IsInSome (left_by scene steps).words bucket
-        → IsSentBy (left_by scene steps).words bucket party }
+    // The entry of a bucket in a slot names the slot.
+    ensures entered { (scene : FileScene) (steps : List FileStep) (bucket slot : ℕ)
+        → IsIn (left_by scene steps).words bucket slot
+        → IsEntered (left_by scene steps).words bucket slot }
 
-    // At the opening, no channel outside knows a number.
-    ensures unknown { (scene : FileScene) (bucket : ℕ) → ¬ IsOutside (opening_state scene).words bucket }
+    // If a process is in no call, the entry of a bucket that one of its parties holds names a slot
+    // only if that slot has the bucket.
+    ensures exact { (scene : FileScene) (steps : List FileStep) (process party bucket slot : ℕ)
+        → IsPlace (left_by scene steps) process Outside → IsLock (left_by scene steps).words party process
+        → IsHolder (left_by scene steps).words bucket party
+        → IsEntered (left_by scene steps).words bucket slot → IsIn (left_by scene steps).words bucket slot }
 
-    // After a party has attached a bucket by its number, or a settler has taken the bucket back, no
-    // channel outside knows the number.
-    ensures forgotten { (scene : FileScene) (steps : List FileStep) (step : FileStep) (bucket : ℕ)
-        → UsesNumber step bucket → (file_step (left_by scene steps) step).outcome ≢ Refused
-        → ¬ IsOutside (file_step (left_by scene steps) step).state.words bucket }
+    // The entry of a bucket that is free, or detached by its number, names no slot.
+    ensures nowhere { (scene : FileScene) (steps : List FileStep) (bucket : ℕ)
+        → IsIdle (left_by scene steps).words bucket
+        → IsEntry (left_by scene steps).words bucket Nowhere }
+
+    // A bucket becomes detached by a party only by the party's own detach, which has the bucket's
+    // number.
+    ensures by_number { (scene : FileScene) (steps : List FileStep) (step : FileStep) (bucket party : ℕ)
+        → IsFlag (file_step (left_by scene steps) step).state.words bucket (DetachedBy party)
+        → (IsFlag (left_by scene steps).words bucket (DetachedBy party)
+        ⊎ (step ≡ DetachNumber (process_of step) party bucket)) }
 
     // When a settler is done, the settled number holds no bucket.
     ensures settled { (scene : FileScene) (steps : List FileStep) (process party bucket : ℕ)
         → IsPlace (left_by scene steps) process (Settled party)
         → ¬ IsHolder (left_by scene steps).words bucket party }
-
-    // When a settler is done, no bucket in a slot is detached by the settled number: its messages
-    // are addressed to the number that nobody joins.
-    ensures addressed { (scene : FileScene) (steps : List FileStep) (process party bucket slot : ℕ)
-        → IsPlace (left_by scene steps) process (Settled party)
-        → IsIn (left_by scene steps).words bucket slot
-        → ¬ IsFlag (left_by scene steps).words bucket (DetachedBy party) }
 
     // A settler is never stuck: however far it has come, some further steps of its own complete it.
     ensures settles { (scene : FileScene) (steps : List FileStep) (process party : ℕ)
@@ -349,7 +344,7 @@ pub fn file_theorem()
         → CanSettle (left_by scene steps) process party }
 
     // Nothing is lost: if the numbers of dead parties are settled, each bucket is free, held by a
-    // living party, or detached with a number that some slot or a channel outside the file knows.
+    // living party, sent to a slot that has it, or detached by its number.
     ensures nothing_lost { (scene : FileScene) (steps : List FileStep) (bucket : ℕ)
         → AreSettled (left_by scene steps) → bucket < scene.buckets
         → IsAccountedFor (left_by scene steps) bucket }
@@ -407,7 +402,7 @@ pub fn file_theorem()
     ensures taken { (scene : FileScene) (steps : List FileStep) (geometry : PoolGeometry) (layouts : List Layout)
         (live : List Chunk) (bucket : ℕ) → IsPoolGeometry geometry → geometry.buckets ≡ scene.buckets
         → IsPoolRun (pool_of scene geometry) (flag_steps scene steps) layouts live → bucket < scene.buckets
-        → (IsTaken (left_by scene steps).words bucket ↔ IsHeld geometry live bucket) }
+        → (IsTaken (left_by scene steps).words bucket ↔ objects.IsHeld geometry live bucket) }
 
     // The list that such a run leaves is sound: its chunks are inside the region, and no two
     // overlap.
@@ -420,35 +415,45 @@ pub fn file_theorem()
 /// States what goes wrong with each of several protocols that differ from the machine's at one
 /// step. The function does nothing: its contract is the law.
 pub fn file_variants_theorem()
-    // A settler that attaches a detached bucket, whoever has detached it, gives back one that is in
+    // A take that attaches a bucket whichever slot it is sent to receives another slot's message.
+    ensures take_any { ReceivesAnothers take_any }
+
+    // A post that sends the bucket before it fills the slot loses the bucket if its process is
+    // killed in between.
+    ensures send_then_fill { LosesBucket send_then_fill }
+
+    // If a post fills the slot before it writes the entry, and its process is killed in between, a
+    // settler gives back a bucket that is in a slot.
+    ensures post_fills_first { FreesMessage post_fills_first }
+
+    // A party that posts a bucket again before it is done with it puts the bucket into two slots.
+    ensures post_undone { IsInTwo post_undone }
+
+    // If a `done` clears the entry before it empties the slot, and its process is killed in between,
+    // a settler gives back a bucket that is in a slot.
+    ensures done_clears_first { FreesMessage done_clears_first }
+
+    // A party that frees a bucket before it is done with it frees one that is in a slot.
+    ensures deallocate_undone { FreesMessage deallocate_undone }
+
+    // A party that detaches a bucket by its number before it is done with it detaches one that is in
     // a slot.
-    ensures attach_from_any { FreesMessage attach_from_any }
+    ensures detach_undone { DetachesMessage detach_undone }
 
-    // A take that doesn't look at its slot again receives a message from an empty slot.
-    ensures no_second_look { ReceivesNothing no_second_look }
+    // A settler that takes back a bucket whoever has sent or detached it gives back one that is in a
+    // slot.
+    ensures recover_any { FreesMessage recover_any }
 
-    // A settler that doesn't go over the slots gives back a bucket that is in one.
-    ensures settle_forgets_slots { FreesMessage settle_forgets_slots }
+    // A settler that doesn't look at the entries gives back a bucket that is in a slot.
+    ensures settle_skips_entries { FreesMessage settle_skips_entries }
 
-    // A settler that doesn't address the messages of the settled number gives back a bucket that is
-    // in a slot.
-    ensures settle_addresses_not { FreesMessage settle_addresses_not }
-
-    // A post that detaches before it fills the slot loses the bucket if its process is killed in
-    // between.
-    ensures detach_then_post { LosesBucket detach_then_post }
+    // A settler that sends a bucket where its entry says, without a look at the slot, loses the
+    // bucket.
+    ensures settle_sends_blindly { LosesBucket settle_sends_blindly }
 
     // A process that settles a number whose lock another process has takes away that process's
     // buckets.
     ensures reaps_the_living { TakesAway reaps_the_living }
-
-    // If a take that is late leaves its own name in the flag, a settler takes back a bucket whose
-    // number another, living party has sent.
-    ensures late_take_keeps_name { RecoversAnothers late_take_keeps_name }
-
-    // If a take that is late puts the flag back without a look at the slots, a settler gives back a
-    // bucket that is in one.
-    ensures late_take_looks_not { FreesMessage late_take_looks_not }
 
     // If a process that joins counts no life, two processes have one number with one life, one
     // after the other.
