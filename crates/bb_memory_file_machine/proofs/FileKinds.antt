@@ -1,10 +1,9 @@
 -- Steps of the machine of a pool in a file, by their kinds.
-use Rattle.bb_memory_file_machine.proofs.FileTests.{flag_missing, flag_there, free_found, has_not, has_own, in_none, in_some, less_found, own_there, slot_there}
-use Rattle.bb_memory_file_machine.specs.FileLaws.{IsFlag, IsHolder, IsIn, IsInSome, IsLife, IsLock, IsSlot}
-use Rattle.bb_memory_file_machine.specs.FileMachine.{Addresses, Addressing, Allocate, AttachNumber, Attached, Checking, Count, Counting, Dead, Deallocate, DetachNumber, DetachedBy, Done, Empty, Ending, Exchange, FileMove, FileStep, FileWords, Finding, Flags, Free, HeldBy, Keeping, Kill, Late, Leave, Lock, Message, Moves, Next, OnFlag, OnLife, OnLock, OnSlot, Outside, Place, Post, Posting, Receives, Recover, Release, Returning, Seen, Sent, Settled, Slot, Slots, Take, TryAt, Unlock, after_slot, allocate, attach_number, attaching, begin_done, begin_take, count, deallocate, detach_number, detaching, done_found, exchange, finds_free, finds_less, giving_back, has_bucket, is_flag, is_own, is_slot, kill, late_slot, leave, lock, move_at, move_of, next, nobody, post, putting_back, recover, refused, release, settle_message, settle_slot, some_has, take_found, unlock, with_flag, with_life, with_lock, with_outside, with_slot}
-use Rattle.std.proofs.Common.{None, Option, Some, ap, length, refl, suc, sym, zero, ℕ, ◌+◌, ◌<◌, ◌∙◌, ◌≡◌, ◌≤◌}
+use Rattle.bb_memory_file_machine.proofs.FileTests.{clear_there, empty_there, flag_missing, flag_there, free_found, lap_missing, lap_there, less_found, own_there}
+use Rattle.bb_memory_file_machine.specs.FileLaws.{IsEntered, IsEntry, IsFlag, IsHolder, IsIn, IsLife, IsLock, IsSlot}
+use Rattle.bb_memory_file_machine.specs.FileMachine.{Allocate, AttachNumber, Clearing, Count, Counting, Dead, Deallocate, Detach, DetachNumber, DetachedBy, Done, Empty, Entry, FileMove, FileStep, FileWords, Fill, Flags, Free, HeldBy, In, Kill, Leave, Lock, Message, Moves, Next, Nowhere, OnEntry, OnFlag, OnLife, OnLock, OnSlot, Outside, Place, Post, Posting, PutBack, Receives, Recover, Release, Sending, SentTo, Settled, Take, TryAt, Unlock, allocate, attach_number, attaching, clearing, count, deallocate, detach_number, done, done_at, fill, finds_free, finds_less, giving_back, has_clear, is_empty, is_flag, is_nowhere, is_own, kill, lap_of, leave, lock, move_at, move_of, next, post, put_back, put_back_at, recover, refused, release, sending, settle_at, settle_entry, take, unlock, with_entry, with_flag, with_life, with_lock, with_slot}
+use Rattle.std.proofs.Common.{None, Option, Some, length, refl, suc, zero, ℕ, ◌+◌, ◌<◌, ◌≡◌, ◌≤◌}
 use Rattle.std.proofs.lemmas.Bool.{cond_both, ltb-false}
-use Rattle.std.proofs.lemmas.Option.{same_Some}
 use Rattle.std.specs.Prelude.{nat_lt, slice_get}
 
 -- a step that makes this move of a process that has come so far is one of these
@@ -12,91 +11,56 @@ pub data Kind (words : FileWords) : Place → FileStep → FileMove → Type 0 w
   locks : (process party : ℕ) → slice_get words.locks party ≡ Some None → Kind words Outside (Lock process party)
       (move_of (OnLock party) (with_lock words party (Some process)) (Counting party))
   counts : (process party life more : ℕ) → IsLife words party life → life < more →
-      Kind words (Counting party) (Count process more) (move_of (OnLife party) (with_life words party more) (Slots party 0))
+      Kind words (Counting party) (Count process more) (move_of (OnLife party) (with_life words party more) (Flags party 0))
   counts_again : (process party life more : ℕ) → IsLife words party life → life < more →
       Kind words (Settled party) (Count process more) (move_of (OnLife party) (with_life words party more) (Settled party))
   leaves : (process party : ℕ) → IsLock words party process →
-      Kind words Outside (Leave process party) (move_of Moves words (Slots party 0))
+      Kind words Outside (Leave process party) (move_of Moves words (Flags party 0))
   allocates : (process party bucket : ℕ) → IsLock words party process → IsFlag words bucket Free →
       Kind words Outside (Allocate process party bucket)
       (move_of (OnFlag (TryAt party bucket)) (with_flag words bucket (HeldBy party)) Outside)
-  gives : (process party bucket : ℕ) → IsLock words party process → IsHolder words bucket party → ¬ IsInSome words bucket →
-      Kind words Outside (Deallocate process party bucket) (giving_back words party bucket Outside)
-  puts_back : (process party bucket : ℕ) → IsLock words party process → IsHolder words bucket party → IsInSome words bucket →
-      Kind words Outside (DetachNumber process party bucket) (detaching words party bucket Outside)
-  detaches : (process party bucket : ℕ) → IsLock words party process → IsHolder words bucket party → ¬ IsInSome words bucket →
-      Kind words Outside (DetachNumber process party bucket) (detaching (with_outside words bucket (Some party)) party bucket Outside)
+  gives : (process party bucket : ℕ) → IsLock words party process → IsHolder words bucket party →
+      IsEntry words bucket Nowhere → Kind words Outside (Deallocate process party bucket) (giving_back words party bucket Outside)
+  detaches : (process party bucket : ℕ) → IsLock words party process → IsHolder words bucket party →
+      IsEntry words bucket Nowhere → Kind words Outside (DetachNumber process party bucket)
+      (move_of (OnFlag (Detach party bucket)) (with_flag words bucket (DetachedBy party)) Outside)
   attaches : (process party bucket from : ℕ) → IsLock words party process → IsFlag words bucket (DetachedBy from) →
-      Kind words Outside (AttachNumber process party bucket from)
-      (attaching (with_outside words bucket None) party bucket from Outside)
+      Kind words Outside (AttachNumber process party bucket from) (attaching words party bucket from Outside)
   posts : (process party slot bucket size : ℕ) → IsLock words party process → IsHolder words bucket party →
-      ¬ IsInSome words bucket → IsSlot words slot Empty → Kind words Outside (Post process party slot bucket size)
-      (move_of (OnSlot slot) (with_slot (with_outside words bucket None) slot (Message bucket size)) (Posting party bucket))
-  sees : (process party slot bucket size : ℕ) → IsLock words party process → IsSlot words slot (Message bucket size) →
-      Kind words Outside (Take process party slot) (move_of Moves words (Seen party slot bucket size))
-  exchanges : (process party slot bucket size from : ℕ) → IsFlag words bucket (DetachedBy from) →
-      Kind words (Seen party slot bucket size) (Exchange process from)
-      (attaching words party bucket from (Attached party slot bucket size from))
-  begins_done : (process party slot bucket size : ℕ) → IsLock words party process → IsSlot words slot (Message bucket size) →
-      Kind words Outside (Done process party slot) (move_of Moves words (Finding party slot bucket))
-  recovers : (process party at bucket : ℕ) → IsFlag words bucket (DetachedBy party) →
-      Kind words (Flags party at) (Recover process bucket)
-      (attaching (with_outside words bucket None) party bucket party (Flags party 0))
-  posted : (process party bucket : ℕ) →
-      Kind words (Posting party bucket) (Next process) (detaching words party bucket (Sent party bucket))
-  sends : (process party bucket : ℕ) → IsFlag words bucket (DetachedBy party) → Kind words (Sent party bucket) (Next process)
-      (move_of (Addresses bucket party (nobody words)) (with_flag words bucket (DetachedBy (nobody words))) Outside)
-  is_taken : (process party bucket : ℕ) → Kind words (Sent party bucket) (Next process) (move_of Moves words Outside)
-  gives_up : (process party slot bucket size : ℕ) →
-      Kind words (Seen party slot bucket size) (Next process) (move_of Moves words Outside)
-  receives : (process party slot bucket size from : ℕ) → IsSlot words slot (Message bucket size) →
-      Kind words (Attached party slot bucket size from) (Next process) (move_of (Receives slot) words Outside)
-  is_late : (process party slot bucket size from : ℕ) →
-      Kind words (Attached party slot bucket size from) (Next process) (move_of Moves words (Late party bucket from 0))
-  late_ends : (process party bucket from slot : ℕ) → slice_get words.slots slot ≡ None →
-      Kind words (Late party bucket from slot) (Next process) (move_of Moves words (Returning party bucket from))
-  late_finds : (process party bucket from slot : ℕ) → IsIn words bucket slot →
-      Kind words (Late party bucket from slot) (Next process) (move_of Moves words (Posting party bucket))
-  late_passes : (process party bucket from slot : ℕ) → ¬ IsIn words bucket slot →
-      Kind words (Late party bucket from slot) (Next process)
-      (move_of Moves words (Late party bucket from (after_slot words slot)))
-  puts_late : (process party bucket from : ℕ) →
-      Kind words (Returning party bucket from) (Next process) (putting_back words party bucket from Outside)
-  is_holder : (process party slot bucket : ℕ) → IsHolder words bucket party →
-      Kind words (Finding party slot bucket) (Next process) (move_of Moves words (Ending party slot bucket))
-  no_holder : (process party slot bucket : ℕ) →
-      Kind words (Finding party slot bucket) (Next process) (move_of Moves words Outside)
-  empties : (process party slot bucket : ℕ) → Kind words (Ending party slot bucket) (Next process)
-      (move_of (OnSlot slot) (with_slot words slot Empty) Outside)
-  all_slots : (process party slot : ℕ) → slice_get words.slots slot ≡ None →
-      Kind words (Slots party slot) (Next process) (move_of Moves words (Flags party 0))
-  empty_slot : (process party slot : ℕ) → IsSlot words slot Empty →
-      Kind words (Slots party slot) (Next process) (move_of Moves words (Slots party (after_slot words slot)))
-  full_slot : (process party slot bucket size : ℕ) → IsSlot words slot (Message bucket size) →
-      Kind words (Slots party slot) (Next process) (move_of Moves words (Checking party slot bucket))
-  keeps : (process party slot bucket : ℕ) → IsHolder words bucket party →
-      Kind words (Checking party slot bucket) (Next process) (move_of Moves words (Keeping party slot bucket))
-  has_sent : (process party slot bucket : ℕ) → ¬ IsHolder words bucket party → IsFlag words bucket (DetachedBy party) →
-      Kind words (Checking party slot bucket) (Next process) (move_of Moves words (Addressing party slot bucket))
-  anothers : (process party slot bucket : ℕ) → ¬ IsHolder words bucket party → ¬ IsFlag words bucket (DetachedBy party) →
-      Kind words (Checking party slot bucket) (Next process) (move_of Moves words (Slots party (after_slot words slot)))
-  is_kept : (process party slot bucket : ℕ) → Kind words (Keeping party slot bucket) (Next process)
-      (detaching words party bucket (Addressing party slot bucket))
-  addresses : (process party slot bucket : ℕ) → IsFlag words bucket (DetachedBy party) →
-      Kind words (Addressing party slot bucket) (Next process)
-      (move_of (Addresses bucket party (nobody words)) (with_flag words bucket (DetachedBy (nobody words)))
-      (Slots party (after_slot words slot)))
-  is_gone : (process party slot bucket : ℕ) → ¬ IsFlag words bucket (DetachedBy party) →
-      Kind words (Addressing party slot bucket) (Next process) (move_of Moves words (Slots party (after_slot words slot)))
-  settles : (process party bucket : ℕ) → IsHolder words bucket party →
-      Kind words (Flags party bucket) (Next process) (giving_back words party bucket (Flags party (bucket + 1)))
+      IsEntry words bucket Nowhere → Kind words Outside (Post process party slot bucket size)
+      (move_of (OnEntry bucket) (with_entry words bucket (In slot size)) (Posting party slot bucket))
+  fills : (process party slot bucket lap : ℕ) → IsSlot words slot (Empty lap) →
+      Kind words (Posting party slot bucket) (Fill process lap)
+      (move_of (OnSlot slot) (with_slot words slot (Message lap bucket)) (Sending party slot bucket lap))
+  gives_up : (process party slot bucket : ℕ) →
+      Kind words (Posting party slot bucket) (Next process) (clearing words bucket Outside)
+  sends : (process party slot bucket lap : ℕ) →
+      Kind words (Sending party slot bucket lap) (Next process) (sending words party bucket slot lap Outside)
+  receives : (process party slot bucket lap : ℕ) → IsLock words party process → IsFlag words bucket (SentTo slot lap) →
+      Kind words Outside (Take process party slot bucket lap)
+      (move_of (Receives slot bucket party) (with_flag words bucket (HeldBy party)) Outside)
+  empties : (process party slot bucket lap next : ℕ) → IsLock words party process → IsHolder words bucket party →
+      IsSlot words slot (Message lap bucket) → Kind words Outside (Done process party slot bucket next)
+      (move_of (OnSlot slot) (with_slot words slot (Empty next)) (Clearing party bucket))
+  clears : (process party bucket : ℕ) → Kind words (Clearing party bucket) (Next process) (clearing words bucket Outside)
+  puts_back : (process party slot bucket lap : ℕ) → IsLock words party process → IsHolder words bucket party →
+      IsSlot words slot (Message lap bucket) →
+      Kind words Outside (PutBack process party slot bucket) (sending words party bucket slot lap Outside)
+  recovers : (process party bucket : ℕ) → IsFlag words bucket (DetachedBy party) →
+      Kind words (Flags party bucket) (Recover process) (attaching words party bucket party (Flags party bucket))
   is_unheld : (process party bucket : ℕ) → ¬ IsHolder words bucket party →
       Kind words (Flags party bucket) (Next process) (move_of Moves words (Flags party (bucket + 1)))
+  settles : (process party bucket : ℕ) → IsHolder words bucket party → ((slot : ℕ) → ¬ IsEntered words bucket slot) →
+      Kind words (Flags party bucket) (Next process) (giving_back words party bucket (Flags party (bucket + 1)))
+  settles_sent : (process party bucket slot lap : ℕ) → IsHolder words bucket party → IsSlot words slot (Message lap bucket) →
+      Kind words (Flags party bucket) (Next process) (sending words party bucket slot lap (Flags party (bucket + 1)))
+  settles_entry : (process party bucket slot : ℕ) → IsHolder words bucket party → IsEntered words bucket slot →
+      ¬ IsIn words bucket slot → Kind words (Flags party bucket) (Next process) (clearing words bucket (Flags party bucket))
   all_flags : (process party bucket : ℕ) → length words.flags ≤ bucket →
       Kind words (Flags party bucket) (Next process) (move_of Moves words (Settled party))
   joins : (process party : ℕ) → Kind words (Settled party) (Next process) (move_of Moves words Outside)
   unlocks_first : (process party : ℕ) →
-      Kind words (Slots party zero) (Unlock process) (move_of (OnLock party) (with_lock words party None) Outside)
+      Kind words (Flags party zero) (Unlock process) (move_of (OnLock party) (with_lock words party None) Outside)
   unlocks : (process party : ℕ) →
       Kind words (Settled party) (Unlock process) (move_of (OnLock party) (with_lock words party None) Outside)
   dies : (process : ℕ) (place : Place) → Kind words place (Kill process) (kill words)
@@ -145,11 +109,9 @@ module _ (words : FileWords) (process : ℕ) where
       let step : FileStep = Deallocate process party bucket in
       let refusal : Kind words Outside step (refused words Outside) = refuses Outside step in
       cond_both (is_own words process party) _ _ (λ move. Kind words Outside step move)
-      (λ own. cond_both (is_flag words bucket (HeldBy party)) _ _ (λ move. Kind words Outside step move)
-      (λ held. cond_both (some_has bucket words.slots) _ _ (λ move. Kind words Outside step move)
-      (λ e. refusal)
-      (λ e. gives process party bucket (own_there words process party own) (flag_there words bucket (HeldBy party) held)
-      (in_none words bucket e)))
+      (λ own. cond_both (has_clear words party bucket) _ _ (λ move. Kind words Outside step move)
+      (λ e. let clear = clear_there words party bucket e in
+      gives process party bucket (own_there words process party own) clear.0 clear.1)
       (λ e. refusal)) (λ e. refusal)
   kind_of_deallocate place party bucket = refuses place (Deallocate process party bucket)
 
@@ -159,12 +121,9 @@ module _ (words : FileWords) (process : ℕ) where
       let step : FileStep = DetachNumber process party bucket in
       let refusal : Kind words Outside step (refused words Outside) = refuses Outside step in
       cond_both (is_own words process party) _ _ (λ move. Kind words Outside step move)
-      (λ own. cond_both (is_flag words bucket (HeldBy party)) _ _ (λ move. Kind words Outside step move)
-      (λ held. cond_both (some_has bucket words.slots) _ _ (λ move. Kind words Outside step move)
-      (λ e. puts_back process party bucket (own_there words process party own)
-      (flag_there words bucket (HeldBy party) held) (in_some words bucket e))
-      (λ e. detaches process party bucket (own_there words process party own)
-      (flag_there words bucket (HeldBy party) held) (in_none words bucket e)))
+      (λ own. cond_both (has_clear words party bucket) _ _ (λ move. Kind words Outside step move)
+      (λ e. let clear = clear_there words party bucket e in
+      detaches process party bucket (own_there words process party own) clear.0 clear.1)
       (λ e. refusal)) (λ e. refusal)
   kind_of_detach place party bucket = refuses place (DetachNumber process party bucket)
 
@@ -186,125 +145,112 @@ module _ (words : FileWords) (process : ℕ) where
       let step : FileStep = Post process party slot bucket size in
       let refusal : Kind words Outside step (refused words Outside) = refuses Outside step in
       cond_both (is_own words process party) _ _ (λ move. Kind words Outside step move)
-      (λ own. cond_both (is_flag words bucket (HeldBy party)) _ _ (λ move. Kind words Outside step move)
-      (λ held. cond_both (some_has bucket words.slots) _ _ (λ move. Kind words Outside step move)
-      (λ e. refusal)
-      (λ none. cond_both (is_slot words slot Empty) _ _ (λ move. Kind words Outside step move)
-      (λ e. posts process party slot bucket size (own_there words process party own)
-      (flag_there words bucket (HeldBy party) held) (in_none words bucket none) (slot_there words slot Empty e))
-      (λ e. refusal)))
+      (λ own. cond_both (has_clear words party bucket) _ _ (λ move. Kind words Outside step move)
+      (λ e. let clear = clear_there words party bucket e in
+      posts process party slot bucket size (own_there words process party own) clear.0 clear.1)
       (λ e. refusal)) (λ e. refusal)
   kind_of_post place party slot bucket size = refuses place (Post process party slot bucket size)
 
-  kind_of_take_found : (party slot : ℕ) (found : Option Slot) → IsLock words party process →
-      slice_get words.slots slot ≡ found → Kind words Outside (Take process party slot) (take_found words party slot found)
-  kind_of_take_found party slot (Some (Message bucket size)) own is = sees process party slot bucket size own is
-  kind_of_take_found party slot (Some Empty) own is = refuses Outside (Take process party slot)
-  kind_of_take_found party slot None own is = refuses Outside (Take process party slot)
+  kind_of_fill : (place : Place) (lap : ℕ) → Kind words place (Fill process lap) (fill words place lap)
+  kind_of_fill (Posting party slot bucket) lap = cond_both (is_empty words slot lap) _ _
+      (λ move. Kind words (Posting party slot bucket) (Fill process lap) move)
+      (λ e. fills process party slot bucket lap (empty_there words slot lap e))
+      (λ e. refuses (Posting party slot bucket) (Fill process lap))
+  kind_of_fill place lap = refuses place (Fill process lap)
 
-  kind_of_take : (place : Place) (party slot : ℕ) →
-      Kind words place (Take process party slot) (begin_take words process place party slot)
-  kind_of_take Outside party slot = cond_both (is_own words process party) _ _
-      (λ move. Kind words Outside (Take process party slot) move)
-      (λ e. kind_of_take_found party slot (slice_get words.slots slot) (own_there words process party e) refl)
-      (λ e. refuses Outside (Take process party slot))
-  kind_of_take place party slot = refuses place (Take process party slot)
+  kind_of_take : (place : Place) (party slot bucket lap : ℕ) →
+      Kind words place (Take process party slot bucket lap) (take words process place party slot bucket lap)
+  kind_of_take Outside party slot bucket lap =
+      let step : FileStep = Take process party slot bucket lap in
+      let refusal : Kind words Outside step (refused words Outside) = refuses Outside step in
+      cond_both (is_own words process party) _ _ (λ move. Kind words Outside step move)
+      (λ own. cond_both (is_flag words bucket (SentTo slot lap)) _ _ (λ move. Kind words Outside step move)
+      (λ e. receives process party slot bucket lap (own_there words process party own)
+      (flag_there words bucket (SentTo slot lap) e))
+      (λ e. refusal)) (λ e. refusal)
+  kind_of_take place party slot bucket lap = refuses place (Take process party slot bucket lap)
 
-  kind_of_done_found : (party slot : ℕ) (found : Option Slot) → IsLock words party process →
-      slice_get words.slots slot ≡ found → Kind words Outside (Done process party slot) (done_found words party slot found)
-  kind_of_done_found party slot (Some (Message bucket size)) own is = begins_done process party slot bucket size own is
-  kind_of_done_found party slot (Some Empty) own is = refuses Outside (Done process party slot)
-  kind_of_done_found party slot None own is = refuses Outside (Done process party slot)
+  kind_of_done_at : (party slot bucket next : ℕ) (found : Option ℕ) → IsLock words party process →
+      IsHolder words bucket party → lap_of words slot bucket ≡ found →
+      Kind words Outside (Done process party slot bucket next) (done_at words Outside party slot bucket next found)
+  kind_of_done_at party slot bucket next None own held e = refuses Outside (Done process party slot bucket next)
+  kind_of_done_at party slot bucket next (Some lap) own held e =
+      empties process party slot bucket lap next own held (lap_there words slot bucket lap e)
 
-  kind_of_done : (place : Place) (party slot : ℕ) →
-      Kind words place (Done process party slot) (begin_done words process place party slot)
-  kind_of_done Outside party slot = cond_both (is_own words process party) _ _
-      (λ move. Kind words Outside (Done process party slot) move)
-      (λ e. kind_of_done_found party slot (slice_get words.slots slot) (own_there words process party e) refl)
-      (λ e. refuses Outside (Done process party slot))
-  kind_of_done place party slot = refuses place (Done process party slot)
+  kind_of_done : (place : Place) (party slot bucket next : ℕ) →
+      Kind words place (Done process party slot bucket next) (done words process place party slot bucket next)
+  kind_of_done Outside party slot bucket next =
+      let step : FileStep = Done process party slot bucket next in
+      let refusal : Kind words Outside step (refused words Outside) = refuses Outside step in
+      cond_both (is_own words process party) _ _ (λ move. Kind words Outside step move)
+      (λ own. cond_both (is_flag words bucket (HeldBy party)) _ _ (λ move. Kind words Outside step move)
+      (λ held. kind_of_done_at party slot bucket next (lap_of words slot bucket) (own_there words process party own)
+      (flag_there words bucket (HeldBy party) held) refl)
+      (λ e. refusal)) (λ e. refusal)
+  kind_of_done place party slot bucket next = refuses place (Done process party slot bucket next)
 
-  kind_of_exchange : (place : Place) (from : ℕ) → Kind words place (Exchange process from) (exchange words place from)
-  kind_of_exchange (Seen party slot bucket size) from = cond_both (is_flag words bucket (DetachedBy from)) _ _
-      (λ move. Kind words (Seen party slot bucket size) (Exchange process from) move)
-      (λ e. exchanges process party slot bucket size from (flag_there words bucket (DetachedBy from) e))
-      (λ e. refuses (Seen party slot bucket size) (Exchange process from))
-  kind_of_exchange place from = refuses place (Exchange process from)
+  kind_of_put_back_at : (party slot bucket : ℕ) (found : Option ℕ) → IsLock words party process →
+      IsHolder words bucket party → lap_of words slot bucket ≡ found →
+      Kind words Outside (PutBack process party slot bucket) (put_back_at words Outside party slot bucket found)
+  kind_of_put_back_at party slot bucket None own held e = refuses Outside (PutBack process party slot bucket)
+  kind_of_put_back_at party slot bucket (Some lap) own held e =
+      puts_back process party slot bucket lap own held (lap_there words slot bucket lap e)
 
-  kind_of_recover : (place : Place) (bucket : ℕ) → Kind words place (Recover process bucket) (recover words place bucket)
-  kind_of_recover (Flags party at) bucket = cond_both (is_flag words bucket (DetachedBy party)) _ _
-      (λ move. Kind words (Flags party at) (Recover process bucket) move)
-      (λ e. recovers process party at bucket (flag_there words bucket (DetachedBy party) e))
-      (λ e. refuses (Flags party at) (Recover process bucket))
-  kind_of_recover place bucket = refuses place (Recover process bucket)
+  kind_of_put_back : (place : Place) (party slot bucket : ℕ) →
+      Kind words place (PutBack process party slot bucket) (put_back words process place party slot bucket)
+  kind_of_put_back Outside party slot bucket =
+      let step : FileStep = PutBack process party slot bucket in
+      let refusal : Kind words Outside step (refused words Outside) = refuses Outside step in
+      cond_both (is_own words process party) _ _ (λ move. Kind words Outside step move)
+      (λ own. cond_both (is_flag words bucket (HeldBy party)) _ _ (λ move. Kind words Outside step move)
+      (λ held. kind_of_put_back_at party slot bucket (lap_of words slot bucket) (own_there words process party own)
+      (flag_there words bucket (HeldBy party) held) refl)
+      (λ e. refusal)) (λ e. refusal)
+  kind_of_put_back place party slot bucket = refuses place (PutBack process party slot bucket)
 
-  kind_of_settle_slot : (party slot : ℕ) (found : Option Slot) → slice_get words.slots slot ≡ found →
-      Kind words (Slots party slot) (Next process) (settle_slot words party slot found)
-  kind_of_settle_slot party slot None is = all_slots process party slot is
-  kind_of_settle_slot party slot (Some Empty) is = empty_slot process party slot is
-  kind_of_settle_slot party slot (Some (Message bucket size)) is = full_slot process party slot bucket size is
+  kind_of_recover : (place : Place) → Kind words place (Recover process) (recover words place)
+  kind_of_recover (Flags party bucket) = cond_both (is_flag words bucket (DetachedBy party)) _ _
+      (λ move. Kind words (Flags party bucket) (Recover process) move)
+      (λ e. recovers process party bucket (flag_there words bucket (DetachedBy party) e))
+      (λ e. refuses (Flags party bucket) (Recover process))
+  kind_of_recover place = refuses place (Recover process)
 
-  kind_of_settle_message : (party slot bucket : ℕ) →
-      Kind words (Checking party slot bucket) (Next process) (settle_message words party slot bucket)
-  kind_of_settle_message party slot bucket = cond_both (is_flag words bucket (HeldBy party)) _ _
-      (λ move. Kind words (Checking party slot bucket) (Next process) move)
-      (λ e. keeps process party slot bucket (flag_there words bucket (HeldBy party) e))
-      (λ unheld. cond_both (is_flag words bucket (DetachedBy party)) _ _
-      (λ move. Kind words (Checking party slot bucket) (Next process) move)
-      (λ e. has_sent process party slot bucket (flag_missing words bucket (HeldBy party) unheld)
-      (flag_there words bucket (DetachedBy party) e))
-      (λ e. anothers process party slot bucket (flag_missing words bucket (HeldBy party) unheld)
-      (flag_missing words bucket (DetachedBy party) e)))
+  kind_of_settle_at : (party bucket slot : ℕ) (found : Option ℕ) → IsHolder words bucket party →
+      IsEntered words bucket slot → lap_of words slot bucket ≡ found →
+      Kind words (Flags party bucket) (Next process) (settle_at words party bucket slot found)
+  kind_of_settle_at party bucket slot (Some lap) held entered e =
+      settles_sent process party bucket slot lap held (lap_there words slot bucket lap e)
+  kind_of_settle_at party bucket slot None held entered e =
+      settles_entry process party bucket slot held entered (λ has. lap_missing words slot bucket e has.0 has.1)
 
-  kind_of_late_slot : (party bucket from slot : ℕ) (found : Option Slot) → slice_get words.slots slot ≡ found →
-      Kind words (Late party bucket from slot) (Next process) (late_slot words party bucket from slot found)
-  kind_of_late_slot party bucket from slot None is = late_ends process party bucket from slot is
-  kind_of_late_slot party bucket from slot (Some word) is = cond_both (has_bucket bucket word) _ _
-      (λ move. Kind words (Late party bucket from slot) (Next process) move)
-      (λ e. let own = has_own bucket word e in late_finds process party bucket from slot (own.0, is ∙ ap Some own.1))
-      (λ e. late_passes process party bucket from slot
-      (λ has. has_not bucket word has.0 e (same_Some word (Message bucket has.0) (sym is ∙ has.1))))
+  kind_of_settle_entry : (party bucket : ℕ) (found : Option Entry) → IsHolder words bucket party →
+      slice_get words.entries bucket ≡ found →
+      Kind words (Flags party bucket) (Next process) (settle_entry words party bucket found)
+  kind_of_settle_entry party bucket None held is = settles process party bucket held (λ slot in_it. absurd (let e = in_it.1 in cc))
+  kind_of_settle_entry party bucket (Some Nowhere) held is =
+      settles process party bucket held (λ slot in_it. absurd (let e = in_it.1 in cc))
+  kind_of_settle_entry party bucket (Some (In slot size)) held is =
+      kind_of_settle_at party bucket slot (lap_of words slot bucket) held (size, is) refl
 
   kind_of_next : (place : Place) → Kind words place (Next process) (next words place)
   kind_of_next Outside = refuses Outside (Next process)
   kind_of_next Dead = refuses Dead (Next process)
-  kind_of_next (Posting party bucket) = posted process party bucket
-  kind_of_next (Sent party bucket) = cond_both (is_flag words bucket (DetachedBy party)) _ _
-      (λ move. Kind words (Sent party bucket) (Next process) move)
-      (λ e. sends process party bucket (flag_there words bucket (DetachedBy party) e))
-      (λ e. is_taken process party bucket)
-  kind_of_next (Seen party slot bucket size) = gives_up process party slot bucket size
-  kind_of_next (Attached party slot bucket size from) = cond_both (is_slot words slot (Message bucket size)) _ _
-      (λ move. Kind words (Attached party slot bucket size from) (Next process) move)
-      (λ e. receives process party slot bucket size from (slot_there words slot (Message bucket size) e))
-      (λ e. is_late process party slot bucket size from)
-  kind_of_next (Late party bucket from slot) = kind_of_late_slot party bucket from slot (slice_get words.slots slot) refl
-  kind_of_next (Returning party bucket from) = puts_late process party bucket from
+  kind_of_next (Posting party slot bucket) = gives_up process party slot bucket
+  kind_of_next (Sending party slot bucket lap) = sends process party slot bucket lap
+  kind_of_next (Clearing party bucket) = clears process party bucket
   kind_of_next (Counting party) = refuses (Counting party) (Next process)
-  kind_of_next (Finding party slot bucket) = cond_both (is_flag words bucket (HeldBy party)) _ _
-      (λ move. Kind words (Finding party slot bucket) (Next process) move)
-      (λ e. is_holder process party slot bucket (flag_there words bucket (HeldBy party) e))
-      (λ e. no_holder process party slot bucket)
-  kind_of_next (Ending party slot bucket) = empties process party slot bucket
-  kind_of_next (Slots party slot) = kind_of_settle_slot party slot (slice_get words.slots slot) refl
-  kind_of_next (Checking party slot bucket) = kind_of_settle_message party slot bucket
-  kind_of_next (Keeping party slot bucket) = is_kept process party slot bucket
-  kind_of_next (Addressing party slot bucket) = cond_both (is_flag words bucket (DetachedBy party)) _ _
-      (λ move. Kind words (Addressing party slot bucket) (Next process) move)
-      (λ e. addresses process party slot bucket (flag_there words bucket (DetachedBy party) e))
-      (λ e. is_gone process party slot bucket (flag_missing words bucket (DetachedBy party) e))
   kind_of_next (Flags party bucket) = cond_both (nat_lt bucket (length words.flags)) _ _
       (λ move. Kind words (Flags party bucket) (Next process) move)
       (λ below. cond_both (is_flag words bucket (HeldBy party)) _ _
       (λ move. Kind words (Flags party bucket) (Next process) move)
-      (λ e. settles process party bucket (flag_there words bucket (HeldBy party) e))
+      (λ e. kind_of_settle_entry party bucket (slice_get words.entries bucket) (flag_there words bucket (HeldBy party) e) refl)
       (λ e. is_unheld process party bucket (flag_missing words bucket (HeldBy party) e)))
       (λ e. all_flags process party bucket (ltb-false bucket (length words.flags) e))
   kind_of_next (Settled party) = joins process party
 
   kind_of_unlock : (place : Place) → Kind words place (Unlock process) (unlock words place)
-  kind_of_unlock (Slots party zero) = unlocks_first process party
-  kind_of_unlock (Slots party (suc slot)) = refuses (Slots party (suc slot)) (Unlock process)
+  kind_of_unlock (Flags party zero) = unlocks_first process party
+  kind_of_unlock (Flags party (suc bucket)) = refuses (Flags party (suc bucket)) (Unlock process)
   kind_of_unlock (Settled party) = unlocks process party
   kind_of_unlock place = refuses place (Unlock process)
 
@@ -325,10 +271,11 @@ kind_of words place (Deallocate process party bucket) = kind_of_deallocate words
 kind_of words place (DetachNumber process party bucket) = kind_of_detach words process place party bucket
 kind_of words place (AttachNumber process party bucket from) = kind_of_attach words process place party bucket from
 kind_of words place (Post process party slot bucket size) = kind_of_post words process place party slot bucket size
-kind_of words place (Take process party slot) = kind_of_take words process place party slot
-kind_of words place (Exchange process from) = kind_of_exchange words process place from
-kind_of words place (Done process party slot) = kind_of_done words process place party slot
-kind_of words place (Recover process bucket) = kind_of_recover words process place bucket
+kind_of words place (Fill process lap) = kind_of_fill words process place lap
+kind_of words place (Take process party slot bucket lap) = kind_of_take words process place party slot bucket lap
+kind_of words place (Done process party slot bucket next) = kind_of_done words process place party slot bucket next
+kind_of words place (PutBack process party slot bucket) = kind_of_put_back words process place party slot bucket
+kind_of words place (Recover process) = kind_of_recover words process place
 kind_of words place (Next process) = kind_of_next words process place
 kind_of words place (Unlock process) = kind_of_unlock words process place
 kind_of words place (Kill process) = dies process place

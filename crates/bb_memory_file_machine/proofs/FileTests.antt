@@ -1,107 +1,116 @@
 -- The machine's tests, and what they find.
-use Rattle.bb_memory_file_machine.specs.FileLaws.{IsFlag, IsInSome, IsLock, IsSlot}
-use Rattle.bb_memory_file_machine.specs.FileMachine.{DetachedBy, Empty, FileWords, Flag, Free, HeldBy, Message, Slot, finds_flag, finds_free, finds_less, finds_own, finds_slot, has_bucket, is_flag, is_own, is_slot, same_flag, same_slot, some_has}
+use Rattle.bb_memory_file_machine.specs.FileLaws.{IsEntry, IsFlag, IsHolder, IsLock, IsSlot}
+use Rattle.bb_memory_file_machine.specs.FileMachine.{DetachedBy, Empty, Entry, FileFlag, FileWords, Free, HeldBy, In, Message, Nowhere, SentTo, Slot, finds_empty, finds_flag, finds_free, finds_less, finds_nowhere, finds_own, has_clear, is_empty, is_flag, is_nowhere, is_own, lap_in, lap_of, same_flag}
 use Rattle.bb_memory_pool_machine.proofs.PoolSteps.{test_same}
-use Rattle.std.proofs.Common.{Bool, List, None, Option, Some, [], ap, false, refl, suc, true, zero, ℕ, ◌<◌, ◌∙◌, ◌∷◌, ◌≡◌}
+use Rattle.std.proofs.Common.{Bool, None, Option, Some, ap, false, refl, true, ℕ, ◌<◌, ◌∙◌, ◌≡◌}
 use Rattle.std.proofs.lemmas.Bool.{eqb-true, ltb-true}
 use Rattle.std.specs.Prelude.{if◌then◌else◌, slice_get, ◌==◌}
 
 -- FLAGS
 
-same_flags : (one other : Flag) → same_flag one other ≡ true → one ≡ other
+same_sent : (slot other lap same : ℕ) (here : Bool) → (slot == other) ≡ here →
+    (if here then lap == same else false) ≡ true → SentTo slot lap ≡ SentTo other same
+same_sent slot other lap same false test e = absurd (cc)
+same_sent slot other lap same true test e =
+    ap (λ (s : ℕ). SentTo s lap) (eqb-true slot other test) ∙ ap (λ (l : ℕ). SentTo other l) (eqb-true lap same e)
+
+same_flags : (one other : FileFlag) → same_flag one other ≡ true → one ≡ other
 same_flags Free Free e = refl
 same_flags (HeldBy party) (HeldBy other) e = ap HeldBy (eqb-true party other e)
 same_flags (DetachedBy party) (DetachedBy other) e = ap DetachedBy (eqb-true party other e)
+same_flags (SentTo slot lap) (SentTo other same) e = same_sent slot other lap same (slot == other) refl e
 same_flags Free (HeldBy other) e = absurd (cc)
 same_flags Free (DetachedBy other) e = absurd (cc)
+same_flags Free (SentTo other same) e = absurd (cc)
 same_flags (HeldBy party) Free e = absurd (cc)
 same_flags (HeldBy party) (DetachedBy other) e = absurd (cc)
+same_flags (HeldBy party) (SentTo other same) e = absurd (cc)
 same_flags (DetachedBy party) Free e = absurd (cc)
 same_flags (DetachedBy party) (HeldBy other) e = absurd (cc)
+same_flags (DetachedBy party) (SentTo other same) e = absurd (cc)
+same_flags (SentTo slot lap) Free e = absurd (cc)
+same_flags (SentTo slot lap) (HeldBy other) e = absurd (cc)
+same_flags (SentTo slot lap) (DetachedBy other) e = absurd (cc)
 
-flag_itself : (flag : Flag) → same_flag flag flag ≡ true
+sent_itself : (slot lap : ℕ) (here : Bool) → (slot == slot) ≡ here → (if here then lap == lap else false) ≡ true
+sent_itself slot lap true test = test_same lap lap refl
+sent_itself slot lap false test = let same = test_same slot slot refl in absurd (cc)
+
+flag_itself : (flag : FileFlag) → same_flag flag flag ≡ true
 flag_itself Free = refl
 flag_itself (HeldBy party) = test_same party party refl
 flag_itself (DetachedBy party) = test_same party party refl
+flag_itself (SentTo slot lap) = sent_itself slot lap (slot == slot) refl
 
-flag_found : (flag : Flag) (found : Option Flag) → finds_flag flag found ≡ true → found ≡ Some flag
+flag_found : (flag : FileFlag) (found : Option FileFlag) → finds_flag flag found ≡ true → found ≡ Some flag
 flag_found flag None e = absurd (cc)
 flag_found flag (Some found) e = ap Some (same_flags found flag e)
 
-pub flag_there : (words : FileWords) (bucket : ℕ) (flag : Flag) → is_flag words bucket flag ≡ true → IsFlag words bucket flag
+pub flag_there : (words : FileWords) (bucket : ℕ) (flag : FileFlag) → is_flag words bucket flag ≡ true → IsFlag words bucket flag
 flag_there words bucket flag e = flag_found flag (slice_get words.flags bucket) e
 
-pub flag_missing : (words : FileWords) (bucket : ℕ) (flag : Flag) → is_flag words bucket flag ≡ false → ¬ IsFlag words bucket flag
+pub flag_missing : (words : FileWords) (bucket : ℕ) (flag : FileFlag) → is_flag words bucket flag ≡ false →
+    ¬ IsFlag words bucket flag
 flag_missing words bucket flag e there = let same = ap (finds_flag flag) there ∙ flag_itself flag in absurd (cc)
+
+-- ENTRIES
+
+nowhere_found : (found : Option Entry) → finds_nowhere found ≡ true → found ≡ Some Nowhere
+nowhere_found None e = absurd (cc)
+nowhere_found (Some Nowhere) e = refl
+nowhere_found (Some (In slot length)) e = absurd (cc)
+
+nowhere_there : (words : FileWords) (bucket : ℕ) → is_nowhere words bucket ≡ true → IsEntry words bucket Nowhere
+nowhere_there words bucket e = nowhere_found (slice_get words.entries bucket) e
+
+-- the holder of a bucket whose entry says that it is in no slot
+
+clear_tested : (words : FileWords) (party bucket : ℕ) (held : Bool) → is_flag words bucket (HeldBy party) ≡ held →
+    (if held then is_nowhere words bucket else false) ≡ true → IsHolder words bucket party × IsEntry words bucket Nowhere
+clear_tested words party bucket true test e = (flag_there words bucket (HeldBy party) test, nowhere_there words bucket e)
+clear_tested words party bucket false test e = absurd (cc)
+
+pub clear_there : (words : FileWords) (party bucket : ℕ) → has_clear words party bucket ≡ true →
+    IsHolder words bucket party × IsEntry words bucket Nowhere
+clear_there words party bucket e = clear_tested words party bucket (is_flag words bucket (HeldBy party)) refl e
 
 -- SLOTS
 
-same_sizes : (one other : ℕ) (bucket there : ℕ) (same : Bool) → (bucket == there) ≡ same →
-    (if same then one == other else false) ≡ true → Message bucket one ≡ Message there other
-same_sizes one other bucket there false test e = absurd (cc)
-same_sizes one other bucket there true test e =
-    ap (λ (b : ℕ). Message b one) (eqb-true bucket there test) ∙ ap (λ (l : ℕ). Message there l) (eqb-true one other e)
+empty_found : (lap : ℕ) (found : Option Slot) → finds_empty lap found ≡ true → found ≡ Some (Empty lap)
+empty_found lap None e = absurd (cc)
+empty_found lap (Some (Empty other)) e = ap (λ (l : ℕ). Some (Empty l)) (eqb-true other lap e)
+empty_found lap (Some (Message other bucket)) e = absurd (cc)
 
-same_slots : (one other : Slot) → same_slot one other ≡ true → one ≡ other
-same_slots Empty Empty e = refl
-same_slots (Message bucket one) (Message there other) e = same_sizes one other bucket there (bucket == there) refl e
-same_slots Empty (Message there other) e = absurd (cc)
-same_slots (Message bucket one) Empty e = absurd (cc)
+pub empty_there : (words : FileWords) (slot lap : ℕ) → is_empty words slot lap ≡ true → IsSlot words slot (Empty lap)
+empty_there words slot lap e = empty_found lap (slice_get words.slots slot) e
 
-slot_found : (word : Slot) (found : Option Slot) → finds_slot word found ≡ true → found ≡ Some word
-slot_found word None e = absurd (cc)
-slot_found word (Some found) e = ap Some (same_slots found word e)
+-- the laps at which a slot has a bucket
 
-pub slot_there : (words : FileWords) (slot : ℕ) (word : Slot) → is_slot words slot word ≡ true → IsSlot words slot word
-slot_there words slot word e = slot_found word (slice_get words.slots slot) e
+lap_tested : (bucket lap other found : ℕ) (same : Bool) → (other == bucket) ≡ same →
+    (if same then Some lap else None) ≡ Some found → Some (Message lap other) ≡ Some (Message found bucket)
+lap_tested bucket lap other found true test e =
+    let laps : lap ≡ found = cc in
+    ap (λ (b : ℕ). Some (Message lap b)) (eqb-true other bucket test) ∙ ap (λ (l : ℕ). Some (Message l bucket)) laps
+lap_tested bucket lap other found false test e = absurd (cc)
 
--- which slots have a bucket
+lap_found : (bucket lap : ℕ) (found : Option Slot) → lap_in bucket found ≡ Some lap → found ≡ Some (Message lap bucket)
+lap_found bucket lap None e = absurd (cc)
+lap_found bucket lap (Some (Empty other)) e = absurd (cc)
+lap_found bucket lap (Some (Message found other)) e = lap_tested bucket found other lap (other == bucket) refl e
 
-pub has_own : (bucket : ℕ) (word : Slot) → has_bucket bucket word ≡ true → (length : ℕ) × (word ≡ Message bucket length)
-has_own bucket Empty e = absurd (cc)
-has_own bucket (Message other length) e = (length, ap (λ (b : ℕ). Message b length) (eqb-true other bucket e))
+pub lap_there : (words : FileWords) (slot bucket lap : ℕ) → lap_of words slot bucket ≡ Some lap →
+    IsSlot words slot (Message lap bucket)
+lap_there words slot bucket lap e = lap_found bucket lap (slice_get words.slots slot) e
 
-pub has_not : (bucket : ℕ) (word : Slot) (length : ℕ) → has_bucket bucket word ≡ false → ¬ (word ≡ Message bucket length)
-has_not bucket word length e same = let is = ap (has_bucket bucket) same ∙ test_same bucket bucket refl in absurd (cc)
+lap_of_own : (bucket lap : ℕ) (same : Bool) → (bucket == bucket) ≡ same → (if same then Some lap else None) ≡ Some lap
+lap_of_own bucket lap true test = refl
+lap_of_own bucket lap false test = let same = test_same bucket bucket refl in absurd (cc)
 
--- the bucket has a message in one of these slots
-abbrev HasIn : List Slot → ℕ → Type 0
-HasIn slots bucket = (slot : ℕ) × (length : ℕ) × (slice_get slots slot ≡ Some (Message bucket length))
-
-first_has : (bucket : ℕ) (word : Slot) (rest : List Slot) → (length : ℕ) × (word ≡ Message bucket length) → HasIn (word ∷ rest) bucket
-first_has bucket word rest has = (zero, has.0, ap Some has.1)
-
-later_has : (bucket : ℕ) (word : Slot) (rest : List Slot) → HasIn rest bucket → HasIn (word ∷ rest) bucket
-later_has bucket word rest has = (suc has.0, has.1, has.2)
-
-one_there : (bucket : ℕ) (word : Slot) (rest : List Slot) (has : Bool) → has_bucket bucket word ≡ has →
-    (if has then true else some_has bucket rest) ≡ true → (some_has bucket rest ≡ true → HasIn rest bucket) → HasIn (word ∷ rest) bucket
-one_there bucket word rest true test e later = first_has bucket word rest (has_own bucket word test)
-one_there bucket word rest false test e later = later_has bucket word rest (later e)
-
-some_there : (bucket : ℕ) (slots : List Slot) → some_has bucket slots ≡ true → HasIn slots bucket
-some_there bucket [] e = absurd (cc)
-some_there bucket (word ∷ rest) e = one_there bucket word rest (has_bucket bucket word) refl e (some_there bucket rest)
-
-none_here : (bucket : ℕ) (word : Slot) (rest : List Slot) (has : Bool) → has_bucket bucket word ≡ has →
-    (if has then true else some_has bucket rest) ≡ false → (has ≡ false) × (some_has bucket rest ≡ false)
-none_here bucket word rest true test e = absurd (cc)
-none_here bucket word rest false test e = (refl, e)
-
-none_there : (bucket : ℕ) (slots : List Slot) → some_has bucket slots ≡ false → ¬ HasIn slots bucket
-none_there bucket [] e (slot, length, there) = absurd (cc)
-none_there bucket (word ∷ rest) e (zero, length, there) =
-    let here = none_here bucket word rest (has_bucket bucket word) refl e in
-    let same : word ≡ Message bucket length = cc in
-    has_not bucket word length here.0 same
-none_there bucket (word ∷ rest) e (suc slot, length, there) =
-    none_there bucket rest (none_here bucket word rest (has_bucket bucket word) refl e).1 (slot, length, there)
-
-pub in_some : (words : FileWords) (bucket : ℕ) → some_has bucket words.slots ≡ true → IsInSome words bucket
-in_some words bucket e = let has = some_there bucket words.slots e in (has.0, (has.1, has.2))
-
-pub in_none : (words : FileWords) (bucket : ℕ) → some_has bucket words.slots ≡ false → ¬ IsInSome words bucket
-in_none words bucket e (slot, (length, there)) = none_there bucket words.slots e (slot, length, there)
+pub lap_missing : (words : FileWords) (slot bucket : ℕ) → lap_of words slot bucket ≡ None → (lap : ℕ) →
+    ¬ IsSlot words slot (Message lap bucket)
+lap_missing words slot bucket e lap there =
+    let own = lap_of_own bucket lap (bucket == bucket) refl in
+    let found = ap (lap_in bucket) there in absurd (cc)
 
 -- LOCKS
 
