@@ -2,8 +2,10 @@
 use Rattle.bb_memory_file_machine.specs.FileLaws.{IsDetached, IsHeld, IsSent}
 use Rattle.bb_memory_file_machine.specs.FileMachine.{AttachFrom, Detach, DetachedBy, FileFlag, FileOutcome, FileScene, FileStep, FileWords, Free, HeldBy, OnFlag, PoolStep, Receives, Sends, SentTo, left_by, opening_state, outcomes_of}
 use Rattle.bb_memory_pool_machine.specs.PoolLogs.{AllAllowed, history_of}
-use Rattle.bb_memory_pool_machine.specs.PoolMachine.{Flag, PoolScene}
+use Rattle.bb_memory_pool_machine.specs.PoolMachine.{PoolScene}
 use Rattle.bb_memory_pool_machine.specs.PoolMachine as pools
+use Rattle.bb_memory_pool_machine.specs.declared.steps.pool.Flag.{Flag}
+use Rattle.bb_memory_pool_machine.specs.declared.steps.pool.Flag.TheVariants as flags
 use Rattle.bb_memory_traits.specs.PoolObject.{PoolGeometry}
 use Rattle.std.specs.Prelude.{List, [], map, ℕ, ◌+◌, ◌∷◌, ◌≡◌, ◌⊎◌}
 
@@ -24,10 +26,10 @@ flag_steps scene steps = flag_steps_in scene.parties (outcomes_of (opening_state
 
 -- a flag of the file as one of a shared pool
 abbrev pub pool_flag : ℕ → FileFlag → Flag
-pool_flag nobody Free = pools.Free
-pool_flag nobody (HeldBy party) = pools.HeldBy party
-pool_flag nobody (DetachedBy party) = pools.DetachedBy party
-pool_flag nobody (SentTo slot lap) = pools.DetachedBy nobody
+pool_flag nobody Free = flags.Free
+pool_flag nobody (HeldBy party) = flags.HeldBy party
+pool_flag nobody (DetachedBy party) = flags.DetachedBy party
+pool_flag nobody (SentTo slot lap) = flags.DetachedBy nobody
 
 -- The shared pool over the file's flags. Its parties are the file's numbers and one more, which no
 -- party has: messages in slots are detached by it.
