@@ -1,220 +1,211 @@
 -- Each effect keeps the words sound.
-use Rattle.bb_memory_file_machine.proofs.FileEffects.{below_end, cleared_there, one_value, sent_before, set_cases, stays_in}
+use Rattle.bb_memory_file_machine.proofs.FileEffects.{one_value, set_cases, stays_apart}
 use Rattle.bb_memory_file_machine.proofs.FileInvariant.{Sound}
-use Rattle.bb_memory_file_machine.specs.FileLaws.{Effect, IsFlag, IsHolder, IsIn, IsInSome, IsSentBy, IsSlot, addresses, attaches, attaches_number, counts, detaches, detaches_number, empties, fills, frees_lock, gives_back, none, puts_back, takes, takes_lock}
-use Rattle.bb_memory_file_machine.specs.FileMachine.{DetachedBy, Empty, FileOutcome, FileWords, Flag, Free, HeldBy, Message, nobody, with_lock, with_outside, with_slot}
-use Rattle.bb_memory_file_machine.specs.FilePool.{IsTaken}
-use Rattle.bb_memory_lists.proofs.SliceGets.{length-set_at, slice_get-set, slice_get-set_apart, slice_get-set_at, slice_get-set_same}
-use Rattle.std.proofs.Common.{List, None, Option, Some, ap, arith, get_or, inl, inr, length, refl, sym, ℕ, ◌<◌, ◌∙◌, ◌≡◌, ◌≢◌}
+use Rattle.bb_memory_file_machine.specs.FileLaws.{Effect, IsEntered, IsEntry, IsFlag, IsHeld, IsHolder, IsIdle, IsIn, IsInSome, IsSlot, attaches, clears, counts, detaches, empties, enters, fills, frees_lock, gives_back, none, receives, sends, takes, takes_lock}
+use Rattle.bb_memory_file_machine.specs.FileMachine.{DetachedBy, Empty, Entry, FileFlag, FileOutcome, FileWords, Free, HeldBy, In, Message, Nowhere, SentTo, Slot, with_entry, with_flag, with_lock, with_slot}
+use Rattle.bb_memory_lists.proofs.SliceGets.{length-set_at, slice_get-set_apart, slice_get-set_at, slice_get-set_same}
+use Rattle.std.proofs.Common.{None, Option, Some, ap, inl, inr, length, refl, sym, ℕ, ◌∙◌, ◌≡◌, ◌≢◌}
 use Rattle.std.proofs.lemmas.Bool.{cases_eq}
-use Rattle.std.proofs.lemmas.Option.{slice_get-get_or}
 use Rattle.std.specs.Prelude.{slice_get, slice_set, ◌⊎◌}
 
--- the words with this flag, and what channels outside know
-abbrev with_both : FileWords → ℕ → Flag → List (Option ℕ) → FileWords
-with_both words bucket flag outside = record words { flags = slice_set words.flags bucket flag; outside = outside }
+-- the flag says that a party holds the bucket, or that the bucket is sent to this slot at this lap
+abbrev SaysTaken : FileFlag → ℕ → ℕ → Type 0
+SaysTaken flag slot lap = ((party : ℕ) × (flag ≡ HeldBy party)) ⊎ (flag ≡ SentTo slot lap)
 
--- the flag says that a party holds the bucket, or has detached it
-abbrev SaysTaken : Flag → Type 0
-SaysTaken flag = ((party : ℕ) × (flag ≡ HeldBy party)) ⊎ ((party : ℕ) × (flag ≡ DetachedBy party))
+-- the flag says that the bucket is free, or that a party has detached it by its number
+abbrev SaysIdle : FileFlag → Type 0
+SaysIdle flag = (flag ≡ Free) ⊎ ((party : ℕ) × (flag ≡ DetachedBy party))
 
-taken_there : (words : FileWords) (bucket : ℕ) (flag : Flag) → IsFlag words bucket flag → SaysTaken flag → IsTaken words bucket
-taken_there words bucket flag is (inl (party, held)) = inl (party, is ∙ ap Some held)
-taken_there words bucket flag is (inr (party, detached)) = inr (party, is ∙ ap Some detached)
+-- FLAGS
 
-taken_apart : (words : FileWords) (bucket at : ℕ) (flag : Flag) → at ≢ bucket → IsTaken words bucket →
-    ((party : ℕ) × (slice_get (slice_set words.flags at flag) bucket ≡ Some (HeldBy party)))
-    ⊎ ((party : ℕ) × (slice_get (slice_set words.flags at flag) bucket ≡ Some (DetachedBy party)))
-taken_apart words bucket at flag apart (inl (party, held)) =
-    inl (party, slice_get-set_apart words.flags at bucket flag apart ∙ held)
-taken_apart words bucket at flag apart (inr (party, detached)) =
-    inr (party, slice_get-set_apart words.flags at bucket flag apart ∙ detached)
-
--- a bucket at its number's place is in the slots in which its number is
-in_at : (words : FileWords) (bucket at : ℕ) → bucket ≡ at → IsInSome words bucket → IsInSome words at
-in_at words bucket at same has = (has.0, (has.1.0, has.1.1 ∙ ap (λ (b : ℕ). Some (Message b has.1.0)) same))
-
--- the senders of other buckets' numbers stay
-abbrev KeepsSenders : FileWords → ℕ → List (Option ℕ) → Type 0
-KeepsSenders words bucket outside =
-    (other party : ℕ) → bucket ≢ other → IsSentBy words other party → slice_get outside other ≡ Some (Some party)
-
--- only this bucket's number may get a sender: a party of the file, while the bucket is in no slot
-abbrev AddsSender : FileWords → ℕ → List (Option ℕ) → Type 0
-AddsSender words bucket outside = (other party : ℕ) → slice_get outside other ≡ Some (Some party) →
-    IsSentBy words other party ⊎ ((other ≡ bucket) × (party < length words.locks) × (¬ IsInSome words bucket))
-
-sound_flag : (words : FileWords) (bucket : ℕ) (old flag : Flag) (outside : List (Option ℕ)) → Sound words →
-    IsFlag words bucket old → length outside ≡ length words.outside → (IsInSome words bucket → SaysTaken flag) →
-    KeepsSenders words bucket outside → AddsSender words bucket outside →
-    ((party : ℕ) → flag ≡ DetachedBy party → IsInSome words bucket ⊎ (slice_get outside bucket ≡ Some (Some party))) →
-    Sound (with_both words bucket flag outside)
-sound_flag words bucket old flag outside sound is same says others adds known = record {
-  same_length = same ∙ sound.same_length ∙ sym (length-set_at words.flags bucket flag);
-  same_lives = sound.same_lives;
-  one_slot = sound.one_slot;
-  taken = λ at slot has. elim (cases_eq bucket at) [
+module _ (words : FileWords) (bucket : ℕ) (old flag : FileFlag) (is : IsFlag words bucket old) where
+  -- a bucket after another flag was written: the written one, or one whose flag is as before
+  taken_after : (at slot lap : ℕ) → (bucket ≡ at → SaysTaken flag slot lap) →
+      IsHeld words at ⊎ IsFlag words at (SentTo slot lap) →
+      IsHeld (with_flag words bucket flag) at ⊎ IsFlag (with_flag words bucket flag) at (SentTo slot lap)
+  taken_after at slot lap says before = elim (cases_eq bucket at) [
     | inl here ↦
-        let mine : SaysTaken flag = says (slot, (has.0, has.1 ∙ ap (λ (b : ℕ). Some (Message b has.0)) (sym here))) in
-        taken_there (with_both words bucket flag outside) at flag
-        (slice_get-set_at words.flags bucket at flag old here is) mine
-    | inr apart ↦ taken_apart words at bucket flag apart (sound.taken at slot has)
-  ];
-  known = λ at party now. elim (set_cases words.flags bucket at flag old (DetachedBy party) is now) [
-    | inl before ↦ elim (sound.known at party before.1) [
-      | inl has ↦ inl has
-      | inr told ↦ inr (others at party before.0 told)
-    ]
-    | inr this ↦ elim (known party this.1) [
-      | inl has ↦ inl (in_at words bucket at this.0 has)
-      | inr told ↦ inr (ap (slice_get outside) (sym this.0) ∙ told)
-    ]
-  ];
-  unsent = λ at party has now. elim (adds at party now) [
-    | inl before ↦ sound.unsent at party has before
-    | inr this ↦ this.2 (in_at words at bucket this.0 has)
-  ];
-  senders = λ at party now. elim (adds at party now) [
-    | inl before ↦ sound.senders at party before
-    | inr this ↦ this.1
-  ];
-}
+        let now : IsFlag (with_flag words bucket flag) at flag = slice_get-set_at words.flags bucket at flag old here is in
+        elim (says here) [
+          | inl held ↦ inl (held.0, now ∙ ap Some held.1)
+          | inr sent ↦ inr (now ∙ ap Some sent)
+        ]
+    | inr apart ↦
+        let same = slice_get-set_apart words.flags bucket at flag apart in
+        elim before [
+          | inl held ↦ inl (held.0, same ∙ held.1)
+          | inr sent ↦ inr (same ∙ sent)
+        ]
+  ]
 
--- a bucket's number has a place in what channels outside know
-outside_there : (words : FileWords) (bucket : ℕ) (flag : Flag) (sender : Option ℕ) → Sound words → IsFlag words bucket flag →
-    slice_get (slice_set words.outside bucket sender) bucket ≡ Some sender
-outside_there words bucket flag sender sound is =
-    let below = below_end words.flags bucket flag is in
-    let length_same = sound.same_length in
-    slice_get-set_same words.outside bucket sender (get_or words.outside bucket None)
-    (slice_get-get_or words.outside bucket None (omega (arith, below, length_same)))
+  idle_before : (at : ℕ) → ¬ (bucket ≡ at) → IsIdle (with_flag words bucket flag) at → IsIdle words at
+  idle_before at apart idle =
+      let same = slice_get-set_apart words.flags bucket at flag apart in
+      elim idle [
+        | inl free ↦ inl (sym same ∙ free)
+        | inr detached ↦ inr (detached.0, sym same ∙ detached.1)
+      ]
 
-keeps_same : (words : FileWords) (bucket : ℕ) → KeepsSenders words bucket words.outside
-keeps_same words bucket other party apart is = is
+  idle_here : (at : ℕ) → bucket ≡ at → IsIdle (with_flag words bucket flag) at → SaysIdle flag
+  idle_here at here idle =
+      let now : IsFlag (with_flag words bucket flag) at flag = slice_get-set_at words.flags bucket at flag old here is in
+      elim idle [
+        | inl free ↦ inl (one_value (slice_set words.flags bucket flag) at flag Free now free)
+        | inr detached ↦
+            inr (detached.0, one_value (slice_set words.flags bucket flag) at flag (DetachedBy detached.0) now detached.1)
+      ]
 
-keeps_senders : (words : FileWords) (bucket : ℕ) (sender : Option ℕ) →
-    KeepsSenders words bucket (slice_set words.outside bucket sender)
-keeps_senders words bucket sender other party apart is = slice_get-set_apart words.outside bucket other sender apart ∙ is
+  sound_flag : Sound words → ((slot lap : ℕ) → IsSlot words slot (Message lap bucket) → SaysTaken flag slot lap) →
+      ((slot lap : ℕ) → flag ≡ SentTo slot lap → IsSlot words slot (Message lap bucket)) →
+      (SaysIdle flag → IsEntry words bucket Nowhere) → Sound (with_flag words bucket flag)
+  sound_flag sound says sent idle = record {
+    same_entries = sound.same_entries ∙ sym (length-set_at words.flags bucket flag);
+    same_lives = sound.same_lives;
+    sent = λ at slot lap now. elim (set_cases words.flags bucket at flag old (SentTo slot lap) is now) [
+      | inl before ↦ sound.sent at slot lap before.1
+      | inr this ↦ sent slot lap this.1 ∙ ap (λ (b : ℕ). Some (Message lap b)) this.0
+    ];
+    taken = λ at slot lap has. taken_after at slot lap
+        (λ here. says slot lap (has ∙ ap (λ (b : ℕ). Some (Message lap b)) (sym here))) (sound.taken at slot lap has);
+    entered = sound.entered;
+    nowhere = λ at now. elim (cases_eq bucket at) [
+      | inl here ↦ ap (slice_get words.entries) (sym here) ∙ idle (idle_here at here now)
+      | inr apart ↦ sound.nowhere at (idle_before at apart now)
+    ];
+  }
 
-adds_none : (words : FileWords) (bucket : ℕ) → AddsSender words bucket words.outside
-adds_none words bucket other party is = inl is
+-- a bucket in a slot whose flag is this one is held or sent there
+in_slot : (words : FileWords) (bucket slot lap : ℕ) (flag : FileFlag) → Sound words → IsFlag words bucket flag →
+    IsSlot words slot (Message lap bucket) → SaysTaken flag slot lap
+in_slot words bucket slot lap flag sound is has = elim (sound.taken bucket slot lap has) [
+  | inl held ↦ inl (held.0, one_value words.flags bucket flag (HeldBy held.0) is held.1)
+  | inr sent ↦ inr (one_value words.flags bucket flag (SentTo slot lap) is sent)
+]
 
-adds_cleared : (words : FileWords) (bucket : ℕ) → AddsSender words bucket (slice_set words.outside bucket None)
-adds_cleared words bucket other party is = inl (sent_before words.outside bucket other party is)
+-- a bucket whose entry says that it is in no slot is in none
+pub not_in_slot : (words : FileWords) (bucket : ℕ) → Sound words → IsEntry words bucket Nowhere → ¬ IsInSome words bucket
+not_in_slot words bucket sound nowhere (slot, has) =
+    let entered = sound.entered bucket slot has in
+    let same = one_value words.entries bucket Nowhere (In slot entered.0) nowhere entered.1 in absurd (cc)
 
-adds_sender : (words : FileWords) (bucket sender : ℕ) → sender < length words.locks → ¬ IsInSome words bucket →
-    AddsSender words bucket (slice_set words.outside bucket (Some sender))
-adds_sender words bucket sender below not_in other party is =
-    elim (slice_get-set words.outside bucket other (Some sender) (Some party) is) [
-      | inl before ↦ inl before
-      | inr this ↦
-          let senders = this.1 in
-          let same : sender ≡ party = cc in inr (this.0, omega (arith, below, same), not_in)
-    ]
+-- a bucket is in at most one slot
+pub one_slot : (words : FileWords) (bucket slot other : ℕ) → Sound words → IsIn words bucket slot → IsIn words bucket other →
+    slot ≡ other
+one_slot words bucket slot other sound one two =
+    let first = sound.entered bucket slot one in
+    let second = sound.entered bucket other two in
+    let same = one_value words.entries bucket (In slot first.0) (In other second.0) first.1 second.1 in cc
 
--- no channel outside knows a bucket any more that a party holds
-sound_clear : (words : FileWords) (party bucket : ℕ) → Sound words → IsHolder words bucket party →
-    Sound (with_outside words bucket None)
-sound_clear words party bucket sound held = record {
-  same_length = length-set_at words.outside bucket None ∙ sound.same_length;
+-- a party comes to hold a bucket
+sound_held : (words : FileWords) (party bucket : ℕ) (old : FileFlag) → Sound words → IsFlag words bucket old →
+    Sound (with_flag words bucket (HeldBy party))
+sound_held words party bucket old sound is = sound_flag words bucket old (HeldBy party) is sound
+    (λ slot lap has. inl (party, refl)) (λ slot lap same. absurd (cc))
+    (λ idle. elim idle [ inl free ↦ absurd (cc) | inr away ↦ absurd (let same = away.1 in cc) ])
+
+-- a bucket in no slot is given back, or detached by its number
+sound_idle : (words : FileWords) (party bucket : ℕ) (flag : FileFlag) → Sound words → IsHolder words bucket party →
+    IsEntry words bucket Nowhere → ((slot lap : ℕ) → ¬ (flag ≡ SentTo slot lap)) → Sound (with_flag words bucket flag)
+sound_idle words party bucket flag sound held nowhere unsent = sound_flag words bucket (HeldBy party) flag held sound
+    (λ slot lap has. absurd (not_in_slot words bucket sound nowhere (slot, (lap, has))))
+    (λ slot lap same. absurd (unsent slot lap same)) (λ idle. nowhere)
+
+sound_sent : (words : FileWords) (party bucket slot lap : ℕ) → Sound words → IsHolder words bucket party →
+    IsSlot words slot (Message lap bucket) → Sound (with_flag words bucket (SentTo slot lap))
+sound_sent words party bucket slot lap sound held is = sound_flag words bucket (HeldBy party) (SentTo slot lap) held sound
+    (λ other same has. inr (only other same has))
+    (λ other same e. let slots : slot ≡ other = cc in let laps : lap ≡ same = cc in
+        ap (slice_get words.slots) (sym slots) ∙ is ∙ ap (λ (l : ℕ). Some (Message l bucket)) laps)
+    (λ idle. elim idle [ inl free ↦ absurd (cc) | inr away ↦ absurd (let same = away.1 in cc) ])
+  where
+    only : (other same : ℕ) → IsSlot words other (Message same bucket) → SentTo slot lap ≡ SentTo other same
+    only other same has =
+        let slots : slot ≡ other = one_slot words bucket slot other sound (lap, is) (same, has) in
+        let one = one_value words.slots other (Message lap bucket) (Message same bucket)
+        (ap (slice_get words.slots) (sym slots) ∙ is) has in
+        let laps : lap ≡ same = cc in cc
+
+-- ENTRIES
+
+-- the entry of a bucket that a party holds, and that is in no slot, is replaced
+sound_entry : (words : FileWords) (party bucket : ℕ) (entry : Entry) → Sound words → IsHolder words bucket party →
+    ¬ IsInSome words bucket → Sound (with_entry words bucket entry)
+sound_entry words party bucket entry sound held not_in = record {
+  same_entries = length-set_at words.entries bucket entry ∙ sound.same_entries;
   same_lives = sound.same_lives;
-  one_slot = sound.one_slot;
+  sent = sound.sent;
   taken = sound.taken;
-  known = λ at other is. elim (sound.known at other is) [
-    | inl has ↦ inl has
-    | inr told ↦ inr (keeps_senders words bucket None at other (λ same.
-        let flags = one_value words.flags at (HeldBy party) (DetachedBy other) (ap (slice_get words.flags) (sym same) ∙ held) is in
-        absurd (cc)) told)
-  ];
-  unsent = λ at other has now. sound.unsent at other has (sent_before words.outside bucket at other now);
-  senders = λ at other now. sound.senders at other (sent_before words.outside bucket at other now);
+  entered = λ at slot has.
+      let apart : bucket ≢ at = λ same. not_in (slot, (has.0, has.1 ∙ ap (λ (b : ℕ). Some (Message has.0 b)) (sym same))) in
+      let was = sound.entered at slot has in
+      (was.0, slice_get-set_apart words.entries bucket at entry apart ∙ was.1);
+  nowhere = λ at idle.
+      let apart : bucket ≢ at = λ same. held_idle words party at (ap (slice_get words.flags) (sym same) ∙ held) idle in
+      slice_get-set_apart words.entries bucket at entry apart ∙ sound.nowhere at idle;
+}
+  where
+    held_idle : (words : FileWords) (party at : ℕ) → IsHolder words at party → ¬ IsIdle words at
+    held_idle words party at held (inl free) = let same = one_value words.flags at (HeldBy party) Free held free in absurd (cc)
+    held_idle words party at held (inr away) =
+        let same = one_value words.flags at (HeldBy party) (DetachedBy away.0) held away.1 in absurd (cc)
+
+-- SLOTS
+
+sound_fill : (words : FileWords) (party slot bucket lap size : ℕ) → Sound words → IsHolder words bucket party →
+    IsEntry words bucket (In slot size) → IsSlot words slot (Empty lap) → Sound (with_slot words slot (Message lap bucket))
+sound_fill words party slot bucket lap size sound held entered empty = record {
+  same_entries = sound.same_entries;
+  same_lives = sound.same_lives;
+  sent = λ at other same is.
+      stays_apart words.slots slot other (Message lap bucket) (Empty lap) (Message same at) empty
+      (sound.sent at other same is) (λ e. absurd (cc));
+  taken = λ at other same now.
+      elim (set_cases words.slots slot other (Message lap bucket) (Empty lap) (Message same at) empty now) [
+        | inl before ↦ sound.taken at other same before.1
+        | inr this ↦ let e = this.1 in let one : bucket ≡ at = cc in inl (party, ap (slice_get words.flags) (sym one) ∙ held)
+      ];
+  entered = λ at other now.
+      elim (set_cases words.slots slot other (Message lap bucket) (Empty lap) (Message now.0 at) empty now.1) [
+        | inl before ↦ sound.entered at other (now.0, before.1)
+        | inr this ↦
+            let e = this.1 in
+            let one : bucket ≡ at = cc in
+            (size, ap (slice_get words.entries) (sym one) ∙ entered ∙ ap (λ (s : ℕ). Some (In s size)) this.0)
+      ];
+  nowhere = sound.nowhere;
 }
 
--- a message that is in a slot after one was filled is the one that was written, or was there before
-filled : (words : FileWords) (slot bucket size : ℕ) (at one : ℕ) → IsSlot words slot Empty →
-    IsIn (with_slot words slot (Message bucket size)) at one → ((slot ≡ one) × (bucket ≡ at)) ⊎ IsIn words at one
-filled words slot bucket size at one empty (length, now) =
-    elim (set_cases words.slots slot one (Message bucket size) Empty (Message at length) empty now) [
-      | inl before ↦ inr (length, before.1)
-      | inr here ↦ inl (here.0, let e = here.1 in cc)
-    ]
-
-sound_fill : (words : FileWords) (party slot bucket size : ℕ) → Sound words → IsHolder words bucket party →
-    ¬ IsInSome words bucket → IsSlot words slot Empty → ((sender : ℕ) → ¬ IsSentBy words bucket sender) →
-    Sound (with_slot words slot (Message bucket size))
-sound_fill words party slot bucket size sound held not_in empty unsent =
-    let later : FileWords = with_slot words slot (Message bucket size) in
-    let was : (at one : ℕ) → IsIn later at one → ((slot ≡ one) × (bucket ≡ at)) ⊎ IsIn words at one =
-    λ at one. filled words slot bucket size at one empty in
-    let other : (at one : ℕ) → IsIn words at one → bucket ≢ at =
-    λ at one has same. not_in (one, (has.0, has.1 ∙ ap (λ (b : ℕ). Some (Message b has.0)) (sym same))) in
-    record {
-      same_length = sound.same_length;
-      same_lives = sound.same_lives;
-      one_slot = λ at one two has too. elim (was at one has) [
-        | inl here ↦ elim (was at two too) [
-          | inl there ↦ sym here.0 ∙ there.0
-          | inr before ↦ absurd (other at two before here.1)
-        ]
-        | inr before ↦ elim (was at two too) [
-          | inl there ↦ absurd (other at one before there.1)
-          | inr second ↦ sound.one_slot at one two before second
-        ]
-      ];
-      taken = λ at one has. elim (was at one has) [
-        | inl here ↦ inl (party, ap (slice_get words.flags) (sym here.1) ∙ held)
-        | inr before ↦ sound.taken at one before
-      ];
-      known = λ at from is. elim (sound.known at from is) [
-        | inl has ↦ inl (has.0, stays_in words slot (Message bucket size) Empty at has.0 empty (λ length same. absurd (cc)) has.1)
-        | inr told ↦ inr told
-      ];
-      unsent = λ at other has now. elim (was at has.0 has.1) [
-        | inl here ↦ unsent other (ap (slice_get words.outside) here.1 ∙ now)
-        | inr before ↦ sound.unsent at other (has.0, before) now
-      ];
-      senders = sound.senders;
-    }
-
-sound_empty : (words : FileWords) (party slot bucket size : ℕ) → Sound words → IsHolder words bucket party →
-    IsSlot words slot (Message bucket size) → Sound (with_slot words slot Empty)
-sound_empty words party slot bucket size sound held is =
-    let was : (at one : ℕ) → IsIn (with_slot words slot Empty) at one → IsIn words at one = λ at one has.
-    elim (set_cases words.slots slot one Empty (Message bucket size) (Message at has.0) is has.1) [
-      | inl before ↦ (has.0, before.1)
-      | inr here ↦ let e = here.1 in absurd (cc)
+sound_empty : (words : FileWords) (party slot bucket lap next : ℕ) → Sound words → IsHolder words bucket party →
+    IsSlot words slot (Message lap bucket) → Sound (with_slot words slot (Empty next))
+sound_empty words party slot bucket lap next sound held is =
+    let was : (at other same : ℕ) → IsSlot (with_slot words slot (Empty next)) other (Message same at) →
+        IsSlot words other (Message same at) = λ at other same now.
+    elim (set_cases words.slots slot other (Empty next) (Message lap bucket) (Message same at) is now) [
+      | inl before ↦ before.1
+      | inr this ↦ let e = this.1 in absurd (cc)
     ] in
     record {
-      same_length = sound.same_length;
+      same_entries = sound.same_entries;
       same_lives = sound.same_lives;
-      one_slot = λ at one two has too. sound.one_slot at one two (was at one has) (was at two too);
-      taken = λ at one has. sound.taken at one (was at one has);
-      known = λ at other there. elim (sound.known at other there) [
-        | inl has ↦ inl (
-          has.0,
-          stays_in words slot Empty (Message bucket size) at has.0 is (λ length same.
-              let held_there : bucket ≡ at = cc in
-              let flags = one_value words.flags at (HeldBy party) (DetachedBy other)
-              (ap (slice_get words.flags) (sym held_there) ∙ held) there in absurd (cc)) has.1,
-        )
-        | inr told ↦ inr told
-      ];
-      unsent = λ at other has now. sound.unsent at other (has.0, was at has.0 has.1) now;
-      senders = sound.senders;
+      sent = λ at other same there.
+          stays_apart words.slots slot other (Empty next) (Message lap bucket) (Message same at) is (sound.sent at other same there)
+          (λ e. let one : bucket ≡ at = cc in
+          let flags = one_value words.flags at (HeldBy party) (SentTo other same)
+          (ap (slice_get words.flags) (sym one) ∙ held) there in absurd (cc));
+      taken = λ at other same now. sound.taken at other same (was at other same now);
+      entered = λ at other now. sound.entered at other (now.0, was at other now.0 now.1);
+      nowhere = sound.nowhere;
     }
 
 -- another lock, of as many
 sound_lock : (words : FileWords) (party : ℕ) (lock : Option ℕ) → Sound words → Sound (with_lock words party lock)
 sound_lock words party lock sound = record {
-  same_length = sound.same_length;
+  same_entries = sound.same_entries;
   same_lives = sound.same_lives ∙ sym (length-set_at words.locks party lock);
-  one_slot = sound.one_slot;
+  sent = sound.sent;
   taken = sound.taken;
-  known = sound.known;
-  unsent = sound.unsent;
-  senders = λ bucket sender is.
-      let below = sound.senders bucket sender is in
-      let same = length-set_at words.locks party lock in omega (arith, below, same);
+  entered = sound.entered;
+  nowhere = sound.nowhere;
 }
 
 pub sound_after : (words later : FileWords) (process : ℕ) (outcome : FileOutcome) → Effect words process outcome later →
@@ -223,46 +214,29 @@ sound_after words later process outcome (none said quiet) sound = sound
 sound_after words later process outcome (takes_lock party free) sound = sound_lock words party (Some process) sound
 sound_after words later process outcome (frees_lock party own) sound = sound_lock words party None sound
 sound_after words later process outcome (counts party life more own is less) sound = record {
-  same_length = sound.same_length;
+  same_entries = sound.same_entries;
   same_lives = length-set_at words.lives party more ∙ sound.same_lives;
-  one_slot = sound.one_slot;
+  sent = sound.sent;
   taken = sound.taken;
-  known = sound.known;
-  unsent = sound.unsent;
-  senders = sound.senders;
+  entered = sound.entered;
+  nowhere = sound.nowhere;
 }
-sound_after words later process outcome (takes party bucket own free) sound =
-    sound_flag words bucket Free (HeldBy party) words.outside sound free refl (λ has. inl (party, refl))
-    (keeps_same words bucket) (adds_none words bucket) (λ other same. absurd (cc))
-sound_after words later process outcome (gives_back party bucket own held not_in) sound =
-    sound_flag words bucket (HeldBy party) Free words.outside sound held refl (λ has. absurd (not_in has))
-    (keeps_same words bucket) (adds_none words bucket) (λ other same. absurd (cc))
-sound_after words later process outcome (detaches party bucket own held known) sound =
-    sound_flag words bucket (HeldBy party) (DetachedBy party) words.outside sound held refl (λ has. inr (party, refl))
-    (keeps_same words bucket) (adds_none words bucket) (λ other same. inl known)
-sound_after words later process outcome (detaches_number party bucket own held not_in) sound =
-    sound_flag words bucket (HeldBy party) (DetachedBy party) (slice_set words.outside bucket (Some party)) sound held
-    (length-set_at words.outside bucket (Some party)) (λ has. inr (party, refl)) (keeps_senders words bucket (Some party))
-    (adds_sender words bucket party (below_end words.locks party (Some process) own) not_in)
-    (λ other same.
-    let one : party ≡ other = cc in
-    inr (outside_there words bucket (HeldBy party) (Some party) sound held ∙ ap (λ (p : ℕ). Some (Some p)) one))
-sound_after words later process outcome (puts_back party bucket from own held not_in sent) sound =
-    sound_flag words bucket (HeldBy party) (DetachedBy from) words.outside sound held refl (λ has. inr (from, refl))
-    (keeps_same words bucket) (adds_none words bucket)
-    (λ other same. let one : from ≡ other = cc in inr (sent ∙ ap (λ (p : ℕ). Some (Some p)) one))
-sound_after words later process outcome (addresses party bucket own is has) sound =
-    sound_flag words bucket (DetachedBy party) (DetachedBy (nobody words)) words.outside sound is refl
-    (λ here. inr (nobody words, refl)) (keeps_same words bucket) (adds_none words bucket) (λ other same. inl has)
+sound_after words later process outcome (takes party bucket own free) sound = sound_held words party bucket Free sound free
+sound_after words later process outcome (gives_back party bucket own held nowhere) sound =
+    sound_idle words party bucket Free sound held nowhere (λ slot lap same. absurd (cc))
+sound_after words later process outcome (detaches party bucket own held nowhere) sound =
+    sound_idle words party bucket (DetachedBy party) sound held nowhere (λ slot lap same. absurd (cc))
 sound_after words later process outcome (attaches party bucket from own is) sound =
-    sound_flag words bucket (DetachedBy from) (HeldBy party) words.outside sound is refl (λ has. inl (party, refl))
-    (keeps_same words bucket) (adds_none words bucket) (λ other same. absurd (cc))
-sound_after words later process outcome (attaches_number party bucket from own is) sound =
-    sound_flag words bucket (DetachedBy from) (HeldBy party) (slice_set words.outside bucket None) sound is
-    (length-set_at words.outside bucket None) (λ has. inl (party, refl)) (keeps_senders words bucket None)
-    (adds_cleared words bucket) (λ other same. absurd (cc))
-sound_after words later process outcome (fills party slot bucket size own held not_in empty) sound =
-    sound_fill (with_outside words bucket None) party slot bucket size (sound_clear words party bucket sound held) held not_in
-    empty (λ sender. cleared_there words.outside bucket bucket refl sender)
-sound_after words later process outcome (empties party slot bucket size own held is) sound =
-    sound_empty words party slot bucket size sound held is
+    sound_held words party bucket (DetachedBy from) sound is
+sound_after words later process outcome (receives party bucket slot lap own is) sound =
+    sound_held words party bucket (SentTo slot lap) sound is
+sound_after words later process outcome (sends party bucket slot lap own held is) sound =
+    sound_sent words party bucket slot lap sound held is
+sound_after words later process outcome (enters party bucket slot size own held nowhere) sound =
+    sound_entry words party bucket (In slot size) sound held (not_in_slot words bucket sound nowhere)
+sound_after words later process outcome (clears party bucket own held not_in) sound =
+    sound_entry words party bucket Nowhere sound held not_in
+sound_after words later process outcome (fills party slot bucket lap size own held not_in entered empty) sound =
+    sound_fill words party slot bucket lap size sound held entered empty
+sound_after words later process outcome (empties party slot bucket lap next own held is) sound =
+    sound_empty words party slot bucket lap next sound held is
