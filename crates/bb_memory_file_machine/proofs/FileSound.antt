@@ -1,10 +1,10 @@
 -- Each effect keeps the words sound.
-use Rattle.bb_memory_file_machine.proofs.FileEffects.{one_value, set_cases, stays_apart}
+use Rattle.bb_memory_file_machine.proofs.FileEffects.{below_end, one_value, set_cases, stays_apart}
 use Rattle.bb_memory_file_machine.proofs.FileInvariant.{Sound}
 use Rattle.bb_memory_file_machine.specs.FileLaws.{Effect, IsEntered, IsEntry, IsFlag, IsHeld, IsHolder, IsIdle, IsIn, IsInSome, IsSlot, attaches, clears, counts, detaches, empties, enters, fills, frees_lock, gives_back, none, receives, sends, takes, takes_lock}
 use Rattle.bb_memory_file_machine.specs.FileMachine.{DetachedBy, Empty, Entry, FileFlag, FileOutcome, FileWords, Free, HeldBy, In, Message, Nowhere, SentTo, Slot, with_entry, with_flag, with_lock, with_slot}
 use Rattle.bb_memory_lists.proofs.SliceGets.{length-set_at, slice_get-set_apart, slice_get-set_at, slice_get-set_same}
-use Rattle.std.proofs.Common.{None, Option, Some, ap, inl, inr, length, refl, sym, ℕ, ◌∙◌, ◌≡◌, ◌≢◌}
+use Rattle.std.proofs.Common.{List, None, Option, Some, [], ap, arith, inl, inr, length, refl, suc, sym, zero, ℕ, ◌<◌, ◌∙◌, ◌∷◌, ◌≡◌, ◌≢◌}
 use Rattle.std.proofs.lemmas.Bool.{cases_eq}
 use Rattle.std.specs.Prelude.{slice_get, slice_set, ◌⊎◌}
 
@@ -95,6 +95,20 @@ one_slot words bucket slot other sound one two =
     let first = sound.entered bucket slot one in
     let second = sound.entered bucket other two in
     let same = one_value words.entries bucket (In slot first.0) (In other second.0) first.1 second.1 in cc
+
+-- a position before the end has a value
+pub there_below : {X : Type 0} (xs : List X) (i : ℕ) → i < length xs → (x : X) × (slice_get xs i ≡ Some x)
+there_below [] i below = absurd (omega (arith, below))
+there_below (x ∷ xs) zero below = (x, refl)
+there_below (x ∷ xs) (suc i) below = there_below xs i (omega (arith, below))
+
+-- a bucket that has a flag has an entry
+pub entry_there : (words : FileWords) (bucket : ℕ) (flag : FileFlag) → Sound words → IsFlag words bucket flag →
+    (entry : Entry) × IsEntry words bucket entry
+entry_there words bucket flag sound is =
+    let below = below_end words.flags bucket flag is in
+    let same = sound.same_entries in
+    there_below words.entries bucket (omega (arith, below, same))
 
 -- a party comes to hold a bucket
 sound_held : (words : FileWords) (party bucket : ℕ) (old : FileFlag) → Sound words → IsFlag words bucket old →

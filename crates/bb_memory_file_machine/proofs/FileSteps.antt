@@ -1,272 +1,324 @@
 -- The invariant of a state holds after each step.
-use Rattle.bb_memory_file_machine.proofs.FileEffects.{below_end, detached_apart, nobody_apart, one_value, place_rests, rests, same_message, set_cases}
-use Rattle.bb_memory_file_machine.proofs.FileInvariant.{Holds, IsCleared, IsGiven, IsInNoneBefore, Names, PlaceHas, Sound}
-use Rattle.bb_memory_file_machine.proofs.FileKinds.{Kind, addresses, all_flags, all_slots, allocates, anothers, attaches, begins_done, counts, counts_again, detaches, dies, empties, empty_slot, exchanges, full_slot, gives, has_sent, is_gone, is_holder, is_kept, is_late, is_unheld, keeps, kind_of, late_ends, late_finds, late_passes, leaves, locks, posted, posts, puts_back, puts_late, receives, recovers, refuses, releases, sees, sends, settles, unlocks, unlocks_first}
-use Rattle.bb_memory_file_machine.proofs.FileSound.{sound_after}
-use Rattle.bb_memory_file_machine.specs.FileLaws.{Effect, IsFlag, IsHolder, IsIn, IsInSome, IsLock, IsPlace, IsSlot}
+use Rattle.bb_memory_file_machine.proofs.FileEffects.{below_end, exact_rests, one_value, place_rests, rests, same_holder, set_cases, stays_apart}
+use Rattle.bb_memory_file_machine.proofs.FileInvariant.{AreExact, Holds, IsAtWork, IsGiven, PlaceHas, Sound}
+use Rattle.bb_memory_file_machine.proofs.FileKinds.{Kind, all_flags, allocates, attaches, clears, counts, counts_again, detaches, dies, empties, fills, gives, gives_up, is_unheld, joins, kind_of, leaves, locks, posts, puts_back, receives, recovers, refuses, releases, sends, settles, settles_entry, settles_sent, unlocks, unlocks_first}
+use Rattle.bb_memory_file_machine.proofs.FileSound.{entry_there, not_in_slot, one_slot, sound_after, there_below}
+use Rattle.bb_memory_file_machine.specs.FileLaws.{Effect, IsEntered, IsEntry, IsFlag, IsHolder, IsIn, IsInSome, IsLock, IsPlace, IsSlot}
 use Rattle.bb_memory_file_machine.specs.FileLaws as laws
-use Rattle.bb_memory_file_machine.specs.FileMachine.{DetachedBy, Dies, Empty, FileMove, FileScene, FileState, FileStep, FileWords, Flag, Free, HeldBy, Message, Moves, Outside, Place, Receives, Refused, after_slot, change_at, file_after, file_step, left_by, move_at, nobody, opening_state, process_of, with_flag, with_outside}
-use Rattle.bb_memory_lists.proofs.SliceGets.{slice_get-replicated, slice_get-set_same}
-use Rattle.std.proofs.Common.{List, None, Option, Some, [], ap, arith, inl, inr, length, refl, subst, suc, sym, zero, ℕ, ◌+◌, ◌<◌, ◌∙◌, ◌∷◌, ◌≡◌, ◌≢◌}
-use Rattle.std.proofs.lemmas.Bool.{cond_both}
+use Rattle.bb_memory_file_machine.specs.FileMachine.{Clearing, Counting, Dead, DetachedBy, Dies, Empty, Entry, FileFlag, FileMove, FileScene, FileState, FileStep, FileWords, Flags, Free, HeldBy, In, Message, Moves, Nowhere, Outside, Place, Posting, Refused, Sending, SentTo, Settled, Slot, change_at, file_after, file_step, left_by, move_at, opening_state, process_of, with_entry, with_flag, with_life, with_lock, with_slot}
+use Rattle.bb_memory_lists.proofs.SliceGets.{slice_get-replicated, slice_get-set_apart, slice_get-set_at, slice_get-set_same}
+use Rattle.std.proofs.Common.{List, None, Option, Some, [], ap, arith, inl, inr, length, refl, subst, sym, zero, ℕ, ◌+◌, ◌<◌, ◌∙◌, ◌∷◌, ◌≡◌, ◌≢◌}
+use Rattle.std.proofs.lemmas.Bool.{cases_eq}
 use Rattle.std.proofs.lemmas.List.{length-replicate}
-use Rattle.std.specs.Prelude.{nat_lt, replicate, slice_get, ◌⊎◌}
+use Rattle.std.specs.Prelude.{replicate, slice_get, slice_set, ◌⊎◌}
 
 -- EFFECTS OF STEPS
 
+-- a bucket whose entry names no slot
+nowhere_if : (words : FileWords) (bucket : ℕ) (entry : Entry) → ((slot : ℕ) → ¬ IsEntered words bucket slot) →
+    IsEntry words bucket entry → IsEntry words bucket Nowhere
+nowhere_if words bucket Nowhere unnamed is = is
+nowhere_if words bucket (In slot size) unnamed is = absurd (unnamed slot (size, is))
+
+unentered : (words : FileWords) (bucket : ℕ) (flag : FileFlag) → Sound words → IsFlag words bucket flag →
+    ((slot : ℕ) → ¬ IsEntered words bucket slot) → IsEntry words bucket Nowhere
+unentered words bucket flag sound is unnamed =
+    let there = entry_there words bucket flag sound is in nowhere_if words bucket there.0 unnamed there.1
+
+-- the entry of a bucket names one slot
+one_entry : (words : FileWords) (bucket slot other : ℕ) → IsEntered words bucket slot → IsEntered words bucket other →
+    slot ≡ other
+one_entry words bucket slot other one two =
+    let same = one_value words.entries bucket (In slot one.0) (In other two.0) one.1 two.1 in cc
+
+-- a bucket that isn't in the slot that its entry names is in no slot
+left_behind : (words : FileWords) (bucket slot : ℕ) → Sound words → IsEntered words bucket slot → ¬ IsIn words bucket slot →
+    ¬ IsInSome words bucket
+left_behind words bucket slot sound entered not_in (other, has) =
+    let same : other ≡ slot = one_entry words bucket other slot (sound.entered bucket other has) entered in
+    not_in (has.0, ap (slice_get words.slots) (sym same) ∙ has.1)
+
 -- the effect of a step of a process that has come so far
 pub effect_of : (words : FileWords) (place : Place) (step : FileStep) (move : FileMove) → Kind words place step move →
-    PlaceHas words (process_of step) place → Effect words (process_of step) move.outcome move.words
-effect_of words place step move (locks process party free) has = laws.takes_lock party free
-effect_of words place step move (counts process party life more is less) has = laws.counts party life more has is less
-effect_of words place step move (counts_again process party life more is less) (own, given, no_message) =
+    Sound words → PlaceHas words (process_of step) place → Effect words (process_of step) move.outcome move.words
+effect_of words place step move (locks process party free) sound has = laws.takes_lock party free
+effect_of words place step move (counts process party life more is less) sound has = laws.counts party life more has is less
+effect_of words place step move (counts_again process party life more is less) sound (own, given) =
     laws.counts party life more own is less
-effect_of words place step move (allocates process party bucket own free) has = laws.takes party bucket own free
-effect_of words place step move (gives process party bucket own held not_in) has = laws.gives_back party bucket own held not_in
-effect_of words place step move (puts_back process party bucket own held known) has =
-    laws.detaches party bucket own held known
-effect_of words place step move (detaches process party bucket own held not_in) has =
-    laws.detaches_number party bucket own held not_in
-effect_of words place step move (attaches process party bucket from own is) has = laws.attaches_number party bucket from own is
-effect_of words place step move (posts process party slot bucket size own held not_in empty) has =
-    laws.fills party slot bucket size own held not_in empty
-effect_of words place step move (exchanges process party slot bucket size from is) has = laws.attaches party bucket from has is
-effect_of words place step move (posted process party bucket) (own, held, known) = laws.detaches party bucket own held known
-effect_of words place step move (sends process party bucket is) (own, known, unsent) =
-    laws.addresses party bucket own is (known is)
-effect_of words place step move (puts_late process party bucket from) (own, held, not_in, sent) =
-    laws.puts_back party bucket from own held not_in sent
-effect_of words place step move (empties process party slot bucket) (own, held, (size, is)) =
-    laws.empties party slot bucket size own held is
-effect_of words place step move (is_kept process party slot bucket) (has, held) =
-    laws.detaches party bucket has.own held (slot, has.found (inl held))
-effect_of words place step move (addresses process party slot bucket is) (has, unheld) =
-    laws.addresses party bucket has.own is (slot, has.found (inr is))
-effect_of words place step move (settles process party bucket held) (own, no_message, given) =
-    laws.gives_back party bucket own held (λ known. no_message known.0 bucket known.1 (inl held))
-effect_of words place step move (recovers process party at bucket is) (own, no_message, given) =
-    laws.attaches_number party bucket party own is
-effect_of words place step move (unlocks_first process party) (own, cleared) = laws.frees_lock party own
-effect_of words place step move (unlocks process party) (own, given, no_message) = laws.frees_lock party own
-effect_of words place step move (releases process party own) has = laws.frees_lock party own
-effect_of words place step move (receives process party slot bucket size from is) has = laws.none (Receives slot) tt
-effect_of words place step move (dies process at) has = laws.none Dies tt
-effect_of words place step move (refuses at taken) has = laws.none Refused tt
-effect_of words place step move _ has = laws.none Moves tt
+effect_of words place step move (allocates process party bucket own free) sound has = laws.takes party bucket own free
+effect_of words place step move (gives process party bucket own held nowhere) sound has =
+    laws.gives_back party bucket own held nowhere
+effect_of words place step move (detaches process party bucket own held nowhere) sound has =
+    laws.detaches party bucket own held nowhere
+effect_of words place step move (attaches process party bucket from own is) sound has = laws.attaches party bucket from own is
+effect_of words place step move (posts process party slot bucket size own held nowhere) sound has =
+    laws.enters party bucket slot size own held nowhere
+effect_of words place step move (fills process party slot bucket lap empty) sound (own, held, entered, not_in) =
+    laws.fills party slot bucket lap entered.0 own held not_in entered.1 empty
+effect_of words place step move (gives_up process party slot bucket) sound (own, held, entered, not_in) =
+    laws.clears party bucket own held not_in
+effect_of words place step move (sends process party slot bucket lap) sound (own, held, is) =
+    laws.sends party bucket slot lap own held is
+effect_of words place step move (receives process party slot bucket lap own is) sound has =
+    laws.receives party bucket slot lap own is
+effect_of words place step move (empties process party slot bucket lap next own held is) sound has =
+    laws.empties party slot bucket lap next own held is
+effect_of words place step move (clears process party bucket) sound (own, held, not_in) =
+    laws.clears party bucket own held not_in
+effect_of words place step move (puts_back process party slot bucket lap own held is) sound has =
+    laws.sends party bucket slot lap own held is
+effect_of words place step move (recovers process party bucket is) sound (own, given) =
+    laws.attaches party bucket party own is
+effect_of words place step move (settles process party bucket held unnamed) sound (own, given) =
+    laws.gives_back party bucket own held (unentered words bucket (HeldBy party) sound held unnamed)
+effect_of words place step move (settles_sent process party bucket slot lap held is) sound (own, given) =
+    laws.sends party bucket slot lap own held is
+effect_of words place step move (settles_entry process party bucket slot held entered not_in) sound (own, given) =
+    laws.clears party bucket own held (left_behind words bucket slot sound entered not_in)
+effect_of words place step move (unlocks_first process party) sound (own, given) = laws.frees_lock party own
+effect_of words place step move (unlocks process party) sound (own, given) = laws.frees_lock party own
+effect_of words place step move (releases process party own) sound has = laws.frees_lock party own
+effect_of words place step move (dies process at) sound has = laws.none Dies tt
+effect_of words place step move (refuses at taken) sound has = laws.none Refused tt
+effect_of words place step move _ sound has = laws.none Moves tt
 
 -- HOW FAR A PROCESS HAS COME
-
-no_slot_before : (words : FileWords) (party : ℕ) → IsCleared words party 0
-no_slot_before words party before bucket less = absurd (omega (arith, less))
-
-in_none_before : (words : FileWords) (bucket : ℕ) → IsInNoneBefore words bucket 0
-in_none_before words bucket before less = absurd (omega (arith, less))
 
 no_bucket_before : (words : FileWords) (party : ℕ) → IsGiven words party 0
 no_bucket_before words party before less = absurd (omega (arith, less))
 
--- a slot that is there is before one that isn't
-pub before_end : {X : Type 0} (xs : List X) (i j : ℕ) (x : X) → slice_get xs i ≡ None → slice_get xs j ≡ Some x → j < i
-before_end [] i j x none is = absurd (cc)
-before_end (y ∷ ys) zero j x none is = absurd (cc)
-before_end (y ∷ ys) (suc i) zero x none is = omega arith
-before_end (y ∷ ys) (suc i) (suc j) x none is = let less = before_end ys i j x none is in omega (arith, less)
-
--- a settler goes on by one slot at most
-pub after_at_most : (words : FileWords) (slot before : ℕ) → before < after_slot words slot → before < slot + 1
-after_at_most words slot before = cond_both (nat_lt slot (length words.slots)) (slot + 1) slot
-    (λ after. before < after → before < slot + 1) (λ e less. less) (λ e less. omega (arith, less))
-
 below_or_at : (m n : ℕ) → m < n + 1 → (m < n) ⊎ (n ≡ m)
 below_or_at m n less = grind arith
 
--- the slots before the next are those before this one, and this one
-cleared_next : (words later : FileWords) (party slot : ℕ) → IsCleared later party slot →
-    ((bucket : ℕ) → IsIn later bucket slot → ¬ Names later bucket party) → IsCleared later party (after_slot words slot)
-cleared_next words later party slot cleared here before bucket less has =
-    elim (below_or_at before slot (after_at_most words slot before less)) [
-      | inl earlier ↦ cleared before bucket earlier has
-      | inr same ↦ here bucket (has.0, ap (slice_get later.slots) same ∙ has.1)
-    ]
-
--- If a flag names the party after another flag was written, it named the party before. The written
--- flag is what is left.
-named_before : (words : FileWords) (at party bucket : ℕ) (old flag : Flag) → IsFlag words at old →
-    Names (with_flag words at flag) bucket party →
-    ((at ≢ bucket) × Names words bucket party) ⊎ ((at ≡ bucket) × ((flag ≡ HeldBy party) ⊎ (flag ≡ DetachedBy party)))
-named_before words at party bucket old flag is (inl now) =
-    elim (set_cases words.flags at bucket flag old (HeldBy party) is now) [
-      | inl before ↦ inl (before.0, inl before.1)
-      | inr this ↦ inr (this.0, inl this.1)
-    ]
-named_before words at party bucket old flag is (inr now) =
-    elim (set_cases words.flags at bucket flag old (DetachedBy party) is now) [
-      | inl before ↦ inl (before.0, inr before.1)
-      | inr this ↦ inr (this.0, inr this.1)
-    ]
-
--- if a flag names the party after another one was written that doesn't, it named the party before,
--- at another bucket
-still_named : (words : FileWords) (at party bucket : ℕ) (old flag : Flag) → IsFlag words at old → ¬ (flag ≡ HeldBy party) →
-    ¬ (flag ≡ DetachedBy party) → Names (with_flag words at flag) bucket party → (at ≢ bucket) × Names words bucket party
-still_named words at party bucket old flag is unheld undetached now =
-    elim (named_before words at party bucket old flag is now) [
-      | inl before ↦ before
-      | inr this ↦ elim this.1 [
-        | inl held ↦ absurd (unheld held)
-        | inr detached ↦ absurd (undetached detached)
+-- the party holds no bucket up to one that it doesn't hold after a flag was written there
+given_next : (words : FileWords) (party bucket : ℕ) (old flag : FileFlag) → IsFlag words bucket old →
+    ¬ (flag ≡ HeldBy party) → IsGiven words party bucket → IsGiven (with_flag words bucket flag) party (bucket + 1)
+given_next words party bucket old flag is unheld given before less now =
+    elim (set_cases words.flags bucket before flag old (HeldBy party) is now) [
+      | inl was ↦ elim (below_or_at before bucket less) [
+        | inl earlier ↦ given before earlier was.1
+        | inr same ↦ was.0 same
       ]
+      | inr this ↦ unheld this.1
     ]
-
--- after a flag that named the party is written, each flag that names it named it before
-named_still : (words : FileWords) (at party bucket : ℕ) (old flag : Flag) → IsFlag words at old → Names words at party →
-    Names (with_flag words at flag) bucket party → Names words bucket party
-named_still words at party bucket old flag is named now =
-    elim (named_before words at party bucket old flag is now) [
-      | inl before ↦ before.1
-      | inr this ↦ elim named [
-        | inl held ↦ inl (ap (slice_get words.flags) (sym this.0) ∙ held)
-        | inr detached ↦ inr (ap (slice_get words.flags) (sym this.0) ∙ detached)
-      ]
-    ]
-
--- a flag that is neither "held by" nor "detached by" the party doesn't name it
-unnamed_there : (words : FileWords) (other bucket party : ℕ) → ¬ IsHolder words bucket party →
-    ¬ IsFlag words bucket (DetachedBy party) → other ≡ bucket → ¬ Names words other party
-unnamed_there words other bucket party unheld undetached same (inl held) =
-    unheld (ap (slice_get words.flags) (sym same) ∙ held)
-unnamed_there words other bucket party unheld undetached same (inr detached) =
-    undetached (ap (slice_get words.flags) (sym same) ∙ detached)
 
 -- the invariant of a process after its own step
 pub place_after : (words : FileWords) (place : Place) (step : FileStep) (move : FileMove) → Kind words place step move →
     Sound words → PlaceHas words (process_of step) place → PlaceHas move.words (process_of step) move.place
 place_after words place step move (locks process party free) sound has =
     slice_get-set_same words.locks party (Some process) None free
-place_after words place step move (counts process party life more is less) sound has = (has, no_slot_before words party)
+place_after words place step move (counts process party life more is less) sound has = (has, no_bucket_before words party)
 place_after words place step move (counts_again process party life more is less) sound has = has
-place_after words place step move (leaves process party own) sound has = (own, no_slot_before words party)
-place_after words place step move (posts process party slot bucket size own held not_in empty) sound has =
-    (own, held, (slot, (size, slice_get-set_same words.slots slot (Message bucket size) Empty empty)))
-place_after words place step move (sees process party slot bucket size own is) sound has = own
-place_after words place step move (posted process party bucket) sound (own, held, known) =
-    (own, (λ is. known), sound.unsent bucket party known)
-place_after words place step move (exchanges process party slot bucket size from is) sound has =
-    (has, slice_get-set_same words.flags bucket (HeldBy party) (DetachedBy from) is, sound.known bucket from is)
-place_after words place step move (begins_done process party slot bucket size own is) sound has = (own, (λ held. (size, is)))
-place_after words place step move (is_late process party slot bucket size from) sound (own, held, known) =
-    (own, held, known, in_none_before words bucket)
-place_after words place step move (late_ends process party bucket from slot end) sound (own, held, known, unseen) =
-    let not_in : ¬ IsInSome words bucket =
-    λ has. unseen has.0 (before_end words.slots slot has.0 (Message bucket has.1.0) end has.1.1) has.1 in
-    (own, held, not_in, (elim known [ inl has ↦ absurd (not_in has) | inr sent ↦ sent ]))
-place_after words place step move (late_finds process party bucket from slot has_it) sound (own, held, known, unseen) =
-    (own, held, (slot, has_it))
-place_after words place step move (late_passes process party bucket from slot not_here) sound (own, held, known, unseen) = (
+place_after words place step move (leaves process party own) sound has = (own, no_bucket_before words party)
+place_after words place step move (posts process party slot bucket size own held nowhere) sound has =
+    (own, held, (size, slice_get-set_same words.entries bucket (In slot size) Nowhere nowhere), not_in_slot words bucket sound nowhere)
+place_after words place step move (fills process party slot bucket lap empty) sound (own, held, entered, not_in) =
+    (own, held, slice_get-set_same words.slots slot (Message lap bucket) (Empty lap) empty)
+place_after words place step move (empties process party slot bucket lap next own held is) sound has = (
   own,
   held,
-  known,
-  (λ before less has. elim (below_or_at before slot (after_at_most words slot before less)) [
-    | inl earlier ↦ unseen before earlier has
-    | inr same ↦ not_here (has.0, ap (slice_get words.slots) same ∙ has.1)
+  (λ now. elim (set_cases words.slots slot now.0 (Empty next) (Message lap bucket) (Message now.1.0 bucket) is now.1.1) [
+    | inl before ↦ before.0 (one_slot words bucket slot now.0 sound (lap, is) (now.1.0, before.1))
+    | inr this ↦ let e = this.1 in absurd (cc)
   ]),
 )
-place_after words place step move (is_holder process party slot bucket held) sound (own, found) = (own, held, found held)
-place_after words place step move (all_slots process party slot end) sound (own, cleared) = (
+place_after words place step move (recovers process party bucket is) sound (own, given) = (
   own,
-  (λ other bucket has. cleared other bucket (before_end words.slots slot other (Message bucket has.0) end has.1) has),
-  no_bucket_before words party,
-)
-place_after words place step move (empty_slot process party slot is) sound (own, cleared) = (
-  own,
-  cleared_next words words party slot cleared
-      (λ bucket has. let same = one_value words.slots slot Empty (Message bucket has.0) is has.1 in absurd (cc)),
-)
-place_after words place step move (full_slot process party slot bucket size is) sound (own, cleared) = record {
-  own = own;
-  cleared = cleared;
-  found = λ named. (size, is);
-  one = λ other here named. same_message words slot other bucket here (size, is);
-  unsent = sound.unsent bucket party (slot, (size, is));
-}
-place_after words place step move (keeps process party slot bucket held) sound has = (has, held)
-place_after words place step move (has_sent process party slot bucket unheld is) sound has = (has, unheld)
-place_after words place step move (anothers process party slot bucket unheld undetached) sound has = (
-  has.own,
-  cleared_next words words party slot has.cleared (λ other here named. unnamed_there words other bucket party
-      unheld undetached (has.one other here named) named),
-)
-place_after words place step move (is_kept process party slot bucket) sound (has, held) =
-    let later : FileWords = with_flag words bucket (DetachedBy party) in
-    let was : (other : ℕ) → Names later other party → Names words other party =
-    λ other now. named_still words bucket party other (HeldBy party) (DetachedBy party) held (inl held) now in (
-      record {
-        own = has.own;
-        cleared = λ before other less here now. has.cleared before other less here (was other now);
-        found = λ now. has.found (inl held);
-        one = λ other here now. has.one other here (was other now);
-        unsent = has.unsent;
-      },
-      (λ now.
-          let flag = one_value later.flags bucket (HeldBy party) (DetachedBy party) now
-          (slice_get-set_same words.flags bucket (DetachedBy party) (HeldBy party) held) in absurd (cc)),
-    )
-place_after words place step move (addresses process party slot bucket is) sound (has, unheld) =
-    let later : FileWords = with_flag words bucket (DetachedBy (nobody words)) in
-    let apart = nobody_apart words party process has.own in
-    let was : (other : ℕ) → Names later other party → (bucket ≢ other) × Names words other party =
-    λ other now. still_named words bucket party other (DetachedBy party) (DetachedBy (nobody words)) is
-    (λ same. absurd (cc)) (detached_apart (nobody words) party apart) now in (
-      has.own,
-      cleared_next words later party slot
-          (λ before other less here now. has.cleared before other less here (was other now).1)
-          (λ other here now. (was other now).0 (sym (has.one other here (was other now).1))),
-    )
-place_after words place step move (is_gone process party slot bucket undetached) sound (has, unheld) = (
-  has.own,
-  cleared_next words words party slot has.cleared (λ other here named. unnamed_there words other bucket party
-      unheld undetached (has.one other here named) named),
-)
-place_after words place step move (settles process party bucket held) sound (own, no_message, given) =
-    let later : FileWords = with_flag words bucket Free in
-    let was : (other : ℕ) → Names later other party → (bucket ≢ other) × Names words other party =
-    λ other now. still_named words bucket party other (HeldBy party) Free held (λ same. absurd (cc)) (λ same. absurd (cc)) now in
-    let held_before : (other : ℕ) → IsHolder later other party → (bucket ≢ other) × IsHolder words other party =
-    λ other now. elim (set_cases words.flags bucket other Free (HeldBy party) (HeldBy party) held now) [
-      | inl before ↦ before
-      | inr this ↦ let flags = this.1 in absurd (cc)
-    ] in (
-      own,
-      (λ slot other has now. no_message slot other has (was other now).1),
-      (λ before less now. elim (below_or_at before bucket less) [
-        | inl earlier ↦ given before earlier (held_before before now).1
-        | inr same ↦ (held_before before now).0 same
+  (λ before less now.
+      elim (set_cases words.flags bucket before (HeldBy party) (DetachedBy party) (HeldBy party) is now) [
+        | inl was ↦ given before less was.1
+        | inr this ↦ let same = this.0 in absurd (omega (arith, less, same))
       ]),
-    )
-place_after words place step move (is_unheld process party bucket unheld) sound (own, no_message, given) = (
+)
+place_after words place step move (is_unheld process party bucket unheld) sound (own, given) = (
   own,
-  no_message,
   (λ before less now. elim (below_or_at before bucket less) [
     | inl earlier ↦ given before earlier now
     | inr same ↦ unheld (ap (slice_get words.flags) same ∙ now)
   ]),
 )
-place_after words place step move (all_flags process party bucket end) sound (own, no_message, given) = (
+place_after words place step move (settles process party bucket held unnamed) sound (own, given) =
+    (own, given_next words party bucket (HeldBy party) Free held (λ same. absurd (cc)) given)
+place_after words place step move (settles_sent process party bucket slot lap held is) sound (own, given) =
+    (own, given_next words party bucket (HeldBy party) (SentTo slot lap) held (λ same. absurd (cc)) given)
+place_after words place step move (settles_entry process party bucket slot held entered not_in) sound (own, given) = (own, given)
+place_after words place step move (all_flags process party bucket end) sound (own, given) = (
   own,
   (λ other held.
       let below = below_end words.flags other (HeldBy party) held in given other (omega (arith, below, end)) held),
-  no_message,
 )
-place_after words place step move (recovers process party at bucket is) sound (own, no_message, given) =
-    let later : FileWords = with_flag (with_outside words bucket None) bucket (HeldBy party) in
-    let was : (other : ℕ) → Names later other party → Names words other party =
-    λ other now. named_still (with_outside words bucket None) bucket party other (DetachedBy party) (HeldBy party) is (inr is) now in (
-      own,
-      (λ slot other has now. no_message slot other has (was other now)),
-      no_bucket_before later party,
-    )
 place_after words place step move (refuses at taken) sound has = has
 place_after words place step move _ sound has = tt
+
+-- WHAT ENTRIES SAY
+
+module _ (words : FileWords) (process : ℕ) (place : Place) (exact : AreExact words process place) where
+  -- entries stay exact when the process goes on, if it is still at work on what it was at work on
+  exact_there : (there : Place) →
+      ((party bucket : ℕ) → IsHolder words bucket party → IsAtWork place party bucket → IsAtWork there party bucket) →
+      AreExact words process there
+  exact_there there work party bucket slot lock held entered = elim (exact party bucket slot lock held entered) [
+    | inl has ↦ inl has
+    | inr was ↦ inr (work party bucket held was)
+  ]
+
+  -- a bucket is held by nobody any more
+  exact_left : (at : ℕ) (old flag : FileFlag) → IsFlag words at old → ((party : ℕ) → ¬ (flag ≡ HeldBy party)) →
+      AreExact (with_flag words at flag) process place
+  exact_left at old flag is unheld party bucket slot lock held entered =
+      elim (set_cases words.flags at bucket flag old (HeldBy party) is held) [
+        | inl before ↦ exact party bucket slot lock before.1 entered
+        | inr this ↦ absurd (unheld party this.1)
+      ]
+
+  -- a party comes to hold a bucket, whose entry is exact
+  exact_got : (at number : ℕ) (old : FileFlag) → IsFlag words at old →
+      ((slot : ℕ) → IsEntered words at slot → IsIn words at slot) → AreExact (with_flag words at (HeldBy number)) process place
+  exact_got at number old is true_there party bucket slot lock held entered =
+      elim (set_cases words.flags at bucket (HeldBy number) old (HeldBy party) is held) [
+        | inl before ↦ exact party bucket slot lock before.1 entered
+        | inr this ↦ inl (in_same at bucket slot this.0
+            (true_there slot (entered.0, ap (slice_get words.entries) this.0 ∙ entered.1)))
+      ]
+    where
+      in_same : (at bucket slot : ℕ) → at ≡ bucket → IsIn words at slot → IsIn words bucket slot
+      in_same at bucket slot same has = (has.0, has.1 ∙ ap (λ (b : ℕ). Some (Message has.0 b)) same)
+
+  -- the entry of a bucket is written
+  exact_entry : (at : ℕ) (old entry : Entry) (there : Place) → IsEntry words at old →
+      ((party bucket slot : ℕ) → IsHolder words bucket party → at ≡ bucket → (size : ℕ) → entry ≡ In slot size →
+          IsAtWork there party bucket) →
+      ((party bucket : ℕ) → at ≢ bucket → IsAtWork place party bucket → IsAtWork there party bucket) →
+      AreExact (with_entry words at entry) process there
+  exact_entry at old entry there is here apart party bucket slot lock held entered =
+      elim (set_cases words.entries at bucket entry old (In slot entered.0) is entered.1) [
+        | inl before ↦ elim (exact party bucket slot lock held (entered.0, before.1)) [
+          | inl has ↦ inl has
+          | inr was ↦ inr (apart party bucket before.0 was)
+        ]
+        | inr this ↦ inr (here party bucket slot held this.0 entered.0 this.1)
+      ]
+
+-- a party holds one bucket by one flag
+holder_at : (words : FileWords) (at bucket number party : ℕ) → IsHolder words at number → at ≡ bucket →
+    IsHolder words bucket party → number ≡ party
+holder_at words at bucket number party mine same held =
+    same_holder words bucket number party (ap (slice_get words.flags) (sym same) ∙ mine) held
+
+-- the entries of the process's own buckets after its own step
+exact_after : (words : FileWords) (place : Place) (step : FileStep) (move : FileMove) → Kind words place step move →
+    Sound words → PlaceHas words (process_of step) place → AreExact words (process_of step) place →
+    AreExact move.words (process_of step) move.place
+exact_after words place step move (locks process number free) sound has exact = λ party bucket slot lock held entered.
+    elim (set_cases words.locks number party (Some process) None (Some process) free lock) [
+      | inl before ↦ elim (exact party bucket slot before.1 held entered) [ inl there ↦ inl there | inr work ↦ absurd work ]
+      | inr this ↦ inr this.0
+    ]
+exact_after words place step move (counts process number life more is less) sound has exact =
+    exact_there words process place exact (Flags number 0) (λ party bucket held work. work)
+exact_after words place step move (counts_again process number life more is less) sound has exact = exact
+exact_after words place step move (leaves process number own) sound has exact =
+    exact_there words process place exact (Flags number 0) (λ party bucket held work. absurd work)
+exact_after words place step move (allocates process number at own free) sound has exact =
+    exact_got words process place exact at number Free free (λ slot entered.
+        let same = one_value words.entries at Nowhere (In slot entered.0) (sound.nowhere at (inl free)) entered.1 in absurd (cc))
+exact_after words place step move (gives process number at own held nowhere) sound has exact =
+    exact_left words process place exact at (HeldBy number) Free held (λ party same. absurd (cc))
+exact_after words place step move (detaches process number at own held nowhere) sound has exact =
+    exact_left words process place exact at (HeldBy number) (DetachedBy number) held (λ party same. absurd (cc))
+exact_after words place step move (attaches process number at from own is) sound has exact =
+    exact_got words process place exact at number (DetachedBy from) is (λ slot entered.
+        let same = one_value words.entries at Nowhere (In slot entered.0) (sound.nowhere at (inr (from, is))) entered.1 in
+        absurd (cc))
+exact_after words place step move (posts process number slot at size own held nowhere) sound has exact =
+    exact_entry words process place exact at Nowhere (In slot size) (Posting number slot at) nowhere
+    (λ party bucket other mine same size e. (holder_at words at bucket number party held same mine, same))
+    (λ party bucket apart work. absurd work)
+exact_after words place step move (fills process number slot at lap empty) sound (own, mine, entry, not_in) exact =
+    λ party bucket other lock held entered. inl (elim (exact party bucket other lock held entered) [
+      | inl there ↦ (
+        there.0,
+        stays_apart words.slots slot other (Message lap at) (Empty lap) (Message there.0 bucket) empty there.1 (λ same. absurd (cc)),
+      )
+      | inr work ↦
+          let slots : slot ≡ other =
+          one_entry words bucket slot other (entry.0, ap (slice_get words.entries) (sym work.1) ∙ entry.1) entered in (
+            lap,
+            slice_get-set_at words.slots slot other (Message lap at) (Empty lap) slots empty
+            ∙ ap (λ (b : ℕ). Some (Message lap b)) work.1,
+          )
+    ])
+exact_after words place step move (gives_up process number slot at) sound (own, mine, entry, not_in) exact =
+    exact_entry words process place exact at (In slot entry.0) Nowhere Outside entry.1
+    (λ party bucket other held same size e. absurd (cc)) (λ party bucket apart work. absurd (apart work.1))
+exact_after words place step move (sends process number slot at lap) sound (own, mine, is) exact =
+    let left = exact_left words process place exact at (HeldBy number) (SentTo slot lap) mine (λ party same. absurd (cc)) in
+    exact_there (with_flag words at (SentTo slot lap)) process place left Outside (λ party bucket held work. work)
+exact_after words place step move (receives process number slot at lap own is) sound has exact =
+    exact_got words process place exact at number (SentTo slot lap) is (λ other entered.
+        let same : slot ≡ other =
+        one_entry words at slot other (sound.entered at slot (lap, sound.sent at slot lap is)) entered in
+        (lap, ap (slice_get words.slots) (sym same) ∙ sound.sent at slot lap is))
+exact_after words place step move (empties process number slot at lap next own mine is) sound has exact =
+    λ party bucket other lock held entered. elim (exact party bucket other lock held entered) [
+      | inl there ↦ elim (cases_eq slot other) [
+        | inl same ↦
+            let message = one_value words.slots other (Message lap at) (Message there.0 bucket)
+            (ap (slice_get words.slots) (sym same) ∙ is) there.1 in
+            let one : at ≡ bucket = cc in
+            inr (holder_at words at bucket number party mine one held, one)
+        | inr apart ↦ inl (there.0, slice_get-set_apart words.slots slot other (Empty next) apart ∙ there.1)
+      ]
+      | inr work ↦ absurd work
+    ]
+exact_after words place step move (clears process number at) sound (own, mine, not_in) exact =
+    let entry = entry_there words at (HeldBy number) sound mine in
+    exact_entry words process place exact at entry.0 Nowhere Outside entry.1
+    (λ party bucket other held same size e. absurd (cc)) (λ party bucket apart work. absurd (apart work.1))
+exact_after words place step move (puts_back process number slot at lap own mine is) sound has exact =
+    exact_left words process place exact at (HeldBy number) (SentTo slot lap) mine (λ party same. absurd (cc))
+exact_after words place step move (recovers process number at is) sound (own, given) exact =
+    λ party bucket slot lock held entered.
+    elim (set_cases words.flags at bucket (HeldBy number) (DetachedBy number) (HeldBy party) is held) [
+      | inl before ↦ exact party bucket slot lock before.1 entered
+      | inr this ↦ let flags = this.1 in inr (cc)
+    ]
+exact_after words place step move (is_unheld process number at unheld) sound has exact =
+    exact_there words process place exact (Flags number (at + 1)) (λ party bucket held work. work)
+exact_after words place step move (settles process number at held unnamed) sound has exact =
+    let left = exact_left words process place exact at (HeldBy number) Free held (λ party same. absurd (cc)) in
+    exact_there (with_flag words at Free) process place left (Flags number (at + 1)) (λ party bucket mine work. work)
+exact_after words place step move (settles_sent process number at slot lap held is) sound has exact =
+    let left = exact_left words process place exact at (HeldBy number) (SentTo slot lap) held (λ party same. absurd (cc)) in
+    exact_there (with_flag words at (SentTo slot lap)) process place left (Flags number (at + 1)) (λ party bucket mine work. work)
+exact_after words place step move (settles_entry process number at slot held entry not_in) sound has exact =
+    exact_entry words process place exact at (In slot entry.0) Nowhere place entry.1
+    (λ party bucket other mine same size e. absurd (cc)) (λ party bucket apart work. work)
+exact_after words place step move (all_flags process number at end) sound (own, given) exact =
+    exact_there words process place exact (Settled number) (λ party bucket held work.
+        let below = below_end words.flags bucket (HeldBy party) held in
+        given bucket (omega (arith, below, end)) (held ∙ ap (λ (p : ℕ). Some (HeldBy p)) (sym work)))
+exact_after words place step move (joins process number) sound has exact =
+    exact_there words process place exact Outside (λ party bucket held work. work)
+exact_after words place step move (unlocks_first process number) sound (own, given) exact =
+    λ party bucket slot lock held entered.
+    elim (set_cases words.locks number party None (Some process) (Some process) own lock) [
+      | inl before ↦ elim (exact party bucket slot before.1 held entered) [
+        | inl there ↦ inl there
+        | inr work ↦ absurd (before.0 work)
+      ]
+      | inr this ↦ let locks = this.1 in absurd (cc)
+    ]
+exact_after words place step move (unlocks process number) sound (own, given) exact =
+    λ party bucket slot lock held entered.
+    elim (set_cases words.locks number party None (Some process) (Some process) own lock) [
+      | inl before ↦ exact party bucket slot before.1 held entered
+      | inr this ↦ let locks = this.1 in absurd (cc)
+    ]
+exact_after words place step move (dies process at) sound has exact = λ party bucket slot lock held entered. inr tt
+exact_after words place step move (releases process number own) sound has exact =
+    λ party bucket slot lock held entered. inr tt
+exact_after words place step move (refuses at taken) sound has exact = exact
 
 -- EACH STEP
 
@@ -276,6 +328,13 @@ own_after : (words : FileWords) (place : Place) (step : FileStep) (move : FileMo
 own_after words place step move kind sound has other there same is =
     subst (λ (p : ℕ). PlaceHas move.words p there) same
     (subst (PlaceHas move.words (process_of step)) is (place_after words place step move kind sound has))
+
+own_exact : (words : FileWords) (place : Place) (step : FileStep) (move : FileMove) → Kind words place step move →
+    Sound words → PlaceHas words (process_of step) place → AreExact words (process_of step) place →
+    (other : ℕ) (there : Place) → process_of step ≡ other → move.place ≡ there → AreExact move.words other there
+own_exact words place step move kind sound has exact other there same is =
+    subst (λ (p : ℕ). AreExact move.words p there) same
+    (subst (AreExact move.words (process_of step)) is (exact_after words place step move kind sound has exact))
 
 at_opening : (words : FileWords) (process : ℕ) (place : Place) → Outside ≡ place → PlaceHas words process place
 at_opening words process place same = subst (PlaceHas words process) same tt
@@ -288,13 +347,20 @@ holds_change state step (Some place) is holds =
     let move : FileMove = move_at state.words place step in
     let kind : Kind state.words place step move = kind_of state.words place step in
     let own : PlaceHas state.words process place = holds.each process place is in
-    let effect : Effect state.words process move.outcome move.words = effect_of state.words place step move kind own in
+    let exact : AreExact state.words process place = holds.exact process place is in
+    let effect : Effect state.words process move.outcome move.words =
+    effect_of state.words place step move kind holds.sound own in
     record {
       sound = sound_after state.words move.words process move.outcome effect holds.sound;
       each = λ other there now. elim (set_cases state.places process other move.place place there is now) [
         | inl before ↦ place_rests state.words move.words other there (holds.each other there before.1)
             (λ party lock. rests state.words move.words process move.outcome party other effect lock before.0)
         | inr this ↦ own_after state.words place step move kind holds.sound own other there this.0 this.1
+      ];
+      exact = λ other there now. elim (set_cases state.places process other move.place place there is now) [
+        | inl before ↦ exact_rests state.words move.words process other move.outcome there effect before.0
+            (holds.exact other there before.1)
+        | inr this ↦ own_exact state.words place step move kind holds.sound own exact other there this.0 this.1
       ];
     }
 
@@ -307,24 +373,36 @@ holds_after state (step ∷ steps) holds = holds_after (file_step state step).st
 
 pub holds_at_opening : (scene : FileScene) → Holds (opening_state scene)
 holds_at_opening scene =
-    let no_message : (slot bucket size : ℕ) → ¬ (slice_get (replicate scene.slots Empty) slot ≡ Some (Message bucket size)) =
-    λ slot bucket size is. let same = slice_get-replicated scene.slots slot Empty (Message bucket size) is in absurd (cc) in
-    let none_sent : (bucket party : ℕ) → ¬ (slice_get (replicate {A = Option ℕ} scene.buckets None) bucket ≡ Some (Some party)) =
-    λ bucket party is. let same = slice_get-replicated scene.buckets bucket None (Some party) is in absurd (cc) in
+    let no_message : (slot lap bucket : ℕ) → ¬ (slice_get (replicate scene.slots (Empty 0)) slot ≡ Some (Message lap bucket)) =
+    λ slot lap bucket is. let same = slice_get-replicated scene.slots slot (Empty 0) (Message lap bucket) is in absurd (cc) in
+    let all_free : (bucket : ℕ) (flag : FileFlag) → slice_get (replicate scene.buckets Free) bucket ≡ Some flag → Free ≡ flag =
+    λ bucket flag. slice_get-replicated scene.buckets bucket Free flag in
     record {
       sound = record {
-        same_length = length-replicate {A = Option ℕ} scene.buckets None ∙ sym (length-replicate scene.buckets Free);
+        same_entries = length-replicate scene.buckets Nowhere ∙ sym (length-replicate scene.buckets Free);
         same_lives = length-replicate scene.parties zero ∙ sym (length-replicate {A = Option ℕ} scene.parties None);
-        one_slot = λ bucket slot other has too. absurd (no_message slot bucket has.0 has.1);
-        taken = λ bucket slot has. absurd (no_message slot bucket has.0 has.1);
-        known = λ bucket party is.
-            let same = slice_get-replicated scene.buckets bucket Free (DetachedBy party) is in absurd (cc);
-        unsent = λ bucket party has is. absurd (none_sent bucket party is);
-        senders = λ bucket party is. absurd (none_sent bucket party is);
+        sent = λ bucket slot lap is. let same = all_free bucket (SentTo slot lap) is in absurd (cc);
+        taken = λ bucket slot lap is. absurd (no_message slot lap bucket is);
+        entered = λ bucket slot has. absurd (no_message slot has.0 bucket has.1);
+        nowhere = λ bucket idle. elim idle [
+          | inl free ↦ nowhere_first bucket free
+          | inr away ↦ let same = all_free bucket (DetachedBy away.0) away.1 in absurd (cc)
+        ];
       };
       each = λ process place is. at_opening (opening_state scene).words process place
           (slice_get-replicated scene.processes process Outside place is);
+      exact = λ process place is party bucket slot lock held entered.
+          let same = all_free bucket (HeldBy party) held in absurd (cc);
     }
+  where
+    nowhere_first : (bucket : ℕ) → slice_get (replicate scene.buckets Free) bucket ≡ Some Free →
+        slice_get (replicate scene.buckets Nowhere) bucket ≡ Some Nowhere
+    nowhere_first bucket free =
+        let below = below_end (replicate scene.buckets Free) bucket Free free in
+        let many = length-replicate scene.buckets Free in
+        let all = length-replicate scene.buckets Nowhere in
+        let there = there_below (replicate scene.buckets Nowhere) bucket (omega (arith, below, many, all)) in
+        let same = slice_get-replicated scene.buckets bucket Nowhere there.0 there.1 in there.1 ∙ ap Some (sym same)
 
 -- what holds after each list of steps from the opening
 pub holds_always : (scene : FileScene) (steps : List FileStep) → Holds (left_by scene steps)
