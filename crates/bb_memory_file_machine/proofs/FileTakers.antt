@@ -1,30 +1,28 @@
--- A party that says it is done with a message has attached its bucket since the post.
-use Rattle.bb_memory_file_machine.proofs.FileEffects.{lock_before, one_value, same_holder, same_message, same_process, set_cases}
-use Rattle.bb_memory_file_machine.proofs.FileInvariant.{Holds, Sound}
-use Rattle.bb_memory_file_machine.proofs.FileKinds.{Kind, addresses, all_slots, anothers, counts, dies, empty_slot, full_slot, has_sent, is_gone, is_kept, keeps, kind_of, locks, posted, posts, refuses, releases, unlocks, unlocks_first}
-use Rattle.bb_memory_file_machine.proofs.FileSteps.{after_at_most, before_end, effect_of, holds_always, holds_step}
+-- A party that says it is done with a message has received it since it was posted.
+use Rattle.bb_memory_file_machine.proofs.FileEffects.{below_end, lock_before, one_value, same_holder, same_process, set_cases}
+use Rattle.bb_memory_file_machine.proofs.FileInvariant.{Holds, PlaceHas, Sound}
+use Rattle.bb_memory_file_machine.proofs.FileKinds.{Kind, all_flags, counts, dies, empties, fills, is_unheld, kind_of, locks, recovers, refuses, releases, sends, settles, settles_entry, settles_sent, unlocks, unlocks_first}
+use Rattle.bb_memory_file_machine.proofs.FileSound.{one_slot}
+use Rattle.bb_memory_file_machine.proofs.FileSteps.{effect_of, holds_always, holds_step}
 use Rattle.bb_memory_file_machine.proofs.FileTests.{flag_missing, flag_there}
-use Rattle.bb_memory_file_machine.specs.FileLaws.{Effect, HasAttached, IsFlag, IsHolder, IsIn, IsLock, IsPlace, IsSlot, StaysIn, after_post}
+use Rattle.bb_memory_file_machine.specs.FileLaws.{Effect, HasTaken, IsFlag, IsHeld, IsHolder, IsIn, IsLock, IsPlace, IsSlot, StaysIn, after_fill}
 use Rattle.bb_memory_file_machine.specs.FileLaws as laws
-use Rattle.bb_memory_file_machine.specs.FileMachine.{Addressing, AttachFrom, Checking, Counting, Dead, DetachedBy, Empty, Ending, FileChange, FileMove, FileOutcome, FileScene, FileState, FileStep, FileWords, Free, HeldBy, Keeping, Message, OnFlag, OnSlot, Outside, Place, Post, Posting, Slots, after_slot, change_at, change_by, file_after, file_step, is_flag, left_by, move_at, nobody, outcomes_of, process_of}
+use Rattle.bb_memory_file_machine.specs.FileMachine.{Counting, Dead, DetachedBy, Done, Empty, FileChange, FileFlag, FileMove, FileOutcome, FileScene, FileState, FileStep, FileWords, Fill, Flags, Free, HeldBy, Message, OnSlot, Outside, Place, Posting, Receives, Sending, SentTo, change_at, change_by, file_after, file_step, is_flag, left_by, move_at, outcomes_of, process_of}
 use Rattle.bb_memory_lists.proofs.ListEntries.{contains-behind, contains-first}
-use Rattle.bb_memory_lists.proofs.SliceGets.{slice_get-set, slice_get-set_apart, slice_get-set_at, slice_get-set_same}
+use Rattle.bb_memory_lists.proofs.SliceGets.{slice_get-set_same}
 use Rattle.std.proofs.Common.{List, None, Option, Some, [], ap, arith, inl, inr, refl, subst, sym, ℕ, ◌+◌, ◌<◌, ◌∙◌, ◌∷◌, ◌≡◌, ◌≢◌, ◌≤◌}
-use Rattle.std.proofs.lemmas.Bool.{cases_Bool, cases_eq}
+use Rattle.std.proofs.lemmas.Bool.{cases_Bool}
 use Rattle.std.specs.Prelude.{slice_get, slice_set, ◌⊎◌}
 
-module _ (party slot bucket size : ℕ) where
+module _ (party slot bucket lap : ℕ) where
   -- A process that has the party's lock, and has come so far, hasn't taken the message: it posts
-  -- it, or it has just taken the lock, or it settles the party's number and has come to the slot at
+  -- it, or it has just taken the lock, or it settles the party's number and has come to the bucket at
   -- most, or it is dead.
   abbrev IsBefore : Place → Type 0
   IsBefore Dead = Unit {0}
-  IsBefore (Posting number at) = (number ≡ party) × (at ≡ bucket)
+  IsBefore (Sending number at other here) = (number ≡ party) × (other ≡ bucket)
   IsBefore (Counting number) = number ≡ party
-  IsBefore (Slots number at) = (number ≡ party) × (at ≤ slot)
-  IsBefore (Checking number at other) = (number ≡ party) × (at ≤ slot) × (at ≡ slot → other ≡ bucket)
-  IsBefore (Keeping number at other) = (number ≡ party) × (at ≤ slot) × (at ≡ slot → other ≡ bucket)
-  IsBefore (Addressing number at other) = (number ≡ party) × (at ≤ slot) × (at ≢ slot)
+  IsBefore (Flags number at) = (number ≡ party) × (at ≤ bucket)
   IsBefore _ = ⊥
 
   -- if the party holds the bucket, then it hasn't taken the message
@@ -32,256 +30,256 @@ module _ (party slot bucket size : ℕ) where
   IsUntaken state = IsHolder state.words bucket party →
       (process : ℕ) (place : Place) → IsLock state.words party process → IsPlace state process place → IsBefore place
 
-  cases_at : (n : ℕ) → (n ≤ slot) ⊎ (slot < n)
-  cases_at n = grind arith
+  -- a settler that passes another bucket than the message's comes to the message's at most
+  at_most_next : (at : ℕ) → at ≤ bucket → at ≢ bucket → at + 1 ≤ bucket
+  at_most_next at most apart = grind (arith, most, apart)
 
-  -- the next slot is the message's at most
-  at_most_slot : (words : FileWords) (at : ℕ) → at ≤ slot → at ≢ slot → after_slot words at ≤ slot
-  at_most_slot words at most apart =
-      let less : (n : ℕ) → n < after_slot words at → n < at + 1 = after_at_most words at in
-      elim (cases_at (after_slot words at)) [
-        | inl fits ↦ fits
-        | inr more ↦ let one = less slot more in let same : at ≡ slot = omega (arith, one, most) in absurd (apart same)
+  -- the party doesn't hold a bucket any more at which another flag was written
+  left_at : (words : FileWords) (at : ℕ) (old flag : FileFlag) → IsFlag words at old → ¬ (flag ≡ HeldBy party) →
+      slice_get (slice_set words.flags at flag) bucket ≡ Some (HeldBy party) → at ≢ bucket
+  left_at words at old flag is unheld now same =
+      elim (set_cases words.flags at bucket flag old (HeldBy party) is now) [
+        | inl before ↦ before.0 same
+        | inr this ↦ unheld this.1
       ]
-
-  -- nobody has a lock that was freed
-  number_unlocked : (words : FileWords) (number process : ℕ) → IsLock words party process → number ≡ party →
-      ¬ (slice_get (slice_set words.locks number None) party ≡ Some (Some process))
-  number_unlocked words number process lock same now =
-      let freed = slice_get-set_at words.locks number party None (Some process) same
-      (ap (slice_get words.locks) same ∙ lock) in
-      let locks = one_value (slice_set words.locks number None) party None (Some process) freed now in absurd (cc)
 
   -- what holds for a process before its own step holds after it, if the party holds the bucket all
   -- the time
   own_before : (words : FileWords) (place : Place) (step : FileStep) (move : FileMove) → Kind words place step move →
+      PlaceHas words (process_of step) place →
       (IsLock words party (process_of step) → IsBefore place) → IsLock move.words party (process_of step) →
-      IsHolder words bucket party → IsHolder move.words bucket party → IsSlot words slot (Message bucket size) →
-      IsBefore move.place
-  own_before words place step move (locks process number free) was lock held now is = elim (cases_eq number party) [
-    | inl same ↦ same
-    | inr apart ↦
-        let before = sym (slice_get-set_apart words.locks number party (Some process) apart) ∙ lock in absurd (was before)
-  ]
-  own_before words place step move (counts process number life more there less) was lock held now is = (was lock, omega arith)
-  own_before words place step move (unlocks_first process number) was lock held now is =
-      elim (slice_get-set words.locks number party None (Some process) lock) [
-        | inl before ↦ let own = was before in absurd (number_unlocked words number process before own.0 lock)
+      IsHolder words bucket party → IsHolder move.words bucket party → IsBefore move.place
+  own_before words place step move (locks process number free) has was lock held now =
+      elim (set_cases words.locks number party (Some process) None (Some process) free lock) [
+        | inl before ↦ absurd (was before.1)
+        | inr this ↦ this.0
+      ]
+  own_before words place step move (counts process number life more there less) has was lock held now = (was lock, omega arith)
+  own_before words place step move (sends process number at other found) (own, mine, is) was lock held now =
+      absurd (left_at words other (HeldBy number) (SentTo at found) mine (λ same. absurd (cc)) now (was lock).1)
+  own_before words place step move (recovers process number at is) has was lock held now = was lock
+  own_before words place step move (is_unheld process number at unheld) has was lock held now =
+      let own = was lock in (
+        own.0,
+        at_most_next at own.1 (λ same. unheld
+            (ap (slice_get words.flags) same ∙ held ∙ ap (λ (p : ℕ). Some (HeldBy p)) (sym own.0))),
+      )
+  own_before words place step move (settles process number at mine unnamed) has was lock held now =
+      let own = was lock in
+      (own.0, at_most_next at own.1 (left_at words at (HeldBy number) Free mine (λ same. absurd (cc)) now))
+  own_before words place step move (settles_sent process number at other found mine is) has was lock held now =
+      let own = was lock in
+      (own.0, at_most_next at own.1 (left_at words at (HeldBy number) (SentTo other found) mine (λ same. absurd (cc)) now))
+  own_before words place step move (settles_entry process number at other mine entered not_in) has was lock held now = was lock
+  own_before words place step move (all_flags process number at end) has was lock held now =
+      let own = was lock in
+      let below = below_end words.flags bucket (HeldBy party) held in absurd (omega (arith, own.1, below, end))
+  own_before words place step move (unlocks_first process number) (own, given) was lock held now =
+      elim (set_cases words.locks number party None (Some process) (Some process) own lock) [
+        | inl before ↦ absurd (before.0 (was before.1).0)
         | inr this ↦ let locks = this.1 in absurd (cc)
       ]
-  own_before words place step move (unlocks process number) was lock held now is =
-      elim (slice_get-set words.locks number party None (Some process) lock) [
-        | inl before ↦ absurd (was before)
+  own_before words place step move (unlocks process number) (own, given) was lock held now =
+      elim (set_cases words.locks number party None (Some process) (Some process) own lock) [
+        | inl before ↦ absurd (was before.1)
         | inr this ↦ let locks = this.1 in absurd (cc)
       ]
-  own_before words place step move (releases process number own) was lock held now is = tt
-  own_before words place step move (dies process at) was lock held now is = tt
-  own_before words place step move (refuses at taken) was lock held now is = was lock
-  own_before words place step move (posted process number at) was lock held now is =
-      let own = was lock in
-      elim (set_cases words.flags at bucket (DetachedBy number) (HeldBy party) (HeldBy party)
-      (ap (slice_get words.flags) own.1 ∙ held) now) [
-        | inl other ↦ absurd (other.0 own.1)
-        | inr this ↦ let flags = this.1 in absurd (cc)
-      ]
-  own_before words place step move (all_slots process number at end) was lock held now is =
-      let own = was lock in
-      let less = before_end words.slots at slot (Message bucket size) end is in absurd (omega (arith, less, own.1))
-  own_before words place step move (empty_slot process number at empty) was lock held now is =
-      let own = was lock in (
-        own.0,
-        at_most_slot words at own.1 (λ same.
-            let both = one_value words.slots slot Empty (Message bucket size) (ap (slice_get words.slots) (sym same) ∙ empty) is in
-            absurd (cc)),
-      )
-  own_before words place step move (full_slot process number at other length full) was lock held now is =
-      let own = was lock in (
-        own.0,
-        own.1,
-        (λ same. same_message words slot other bucket
-            (length, ap (slice_get words.slots) (sym same) ∙ full) (size, is)),
-      )
-  own_before words place step move (keeps process number at other mine) was lock held now is = was lock
-  own_before words place step move (has_sent process number at other unheld is_sent) was lock held now is =
-      let own = was lock in (
-        own.0,
-        own.1,
-        (λ same. unheld (
-            ap (slice_get words.flags) (own.2 same) ∙ held ∙ ap (λ (k : ℕ). Some (HeldBy k)) (sym own.0))),
-      )
-  own_before words place step move (anothers process number at other unheld undetached) was lock held now is =
-      let own = was lock in (
-        own.0,
-        at_most_slot words at own.1 (λ same. unheld (
-            ap (slice_get words.flags) (own.2 same) ∙ held ∙ ap (λ (k : ℕ). Some (HeldBy k)) (sym own.0))),
-      )
-  own_before words place step move (is_kept process number at other) was lock held now is =
-      let own = was lock in (
-        own.0,
-        own.1,
-        (λ same.
-            elim (set_cases words.flags other bucket (DetachedBy number) (HeldBy party) (HeldBy party)
-            (ap (slice_get words.flags) (own.2 same) ∙ held) now) [
-              | inl before ↦ before.0 (own.2 same)
-              | inr this ↦ let flags = this.1 in absurd (cc)
-            ]),
-      )
-  own_before words place step move (addresses process number at other there) was lock held now is =
-      let own = was lock in (own.0, at_most_slot words at own.1 own.2)
-  own_before words place step move (is_gone process number at other gone) was lock held now is =
-      let own = was lock in (own.0, at_most_slot words at own.1 own.2)
-  own_before words place step move _ was lock held now is = absurd (was lock)
+  own_before words place step move (releases process number own) has was lock held now = tt
+  own_before words place step move (dies process at) has was lock held now = tt
+  own_before words place step move (refuses at taken) has was lock held now = was lock
+  own_before words place step move _ has was lock held now = absurd (was lock)
 
-  attach_named : (number at from : ℕ) → at ≡ bucket → HeldBy number ≡ HeldBy party →
-      OnFlag (AttachFrom number at from) ≡ OnFlag (AttachFrom party bucket from)
-  attach_named number at from here flags = cc
-
-  never_free_there : (words : FileWords) (at : ℕ) → at ≡ bucket → Sound words → IsSlot words slot (Message bucket size) →
-      ¬ IsFlag words at Free
-  never_free_there words at here sound is free =
-      let there = ap (slice_get words.flags) (sym here) ∙ free in elim (sound.taken bucket slot (size, is)) [
-        | inl held ↦ let flags = one_value words.flags bucket (HeldBy held.0) Free held.1 there in absurd (cc)
-        | inr away ↦ let flags = one_value words.flags bucket (DetachedBy away.0) Free away.1 there in absurd (cc)
+  -- a bucket in the slot has no other flag than "held by" or "sent to" this slot
+  never : (words : FileWords) (at : ℕ) (flag : FileFlag) → at ≡ bucket → Sound words →
+      IsSlot words slot (Message lap bucket) → IsFlag words at flag → ((other : ℕ) → ¬ (flag ≡ HeldBy other)) →
+      ¬ (flag ≡ SentTo slot lap) → ⊥
+  never words at flag here sound is there unheld unsent =
+      let now : IsFlag words bucket flag = ap (slice_get words.flags) (sym here) ∙ there in
+      elim (sound.taken bucket slot lap is) [
+        | inl held ↦ unheld held.0 (one_value words.flags bucket flag (HeldBy held.0) now held.1)
+        | inr sent ↦ unsent (one_value words.flags bucket flag (SentTo slot lap) now sent)
       ]
 
-  -- a party that holds a bucket in a slot after an effect held it before, or attaches it
-  held_or_attaches : (words later : FileWords) (process : ℕ) (outcome : FileOutcome) → Effect words process outcome later →
-      Sound words → IsSlot words slot (Message bucket size) → IsHolder later bucket party →
-      IsHolder words bucket party ⊎ ((from : ℕ) × (outcome ≡ OnFlag (AttachFrom party bucket from)))
-  held_or_attaches words later process outcome (laws.takes number at own free) sound is now =
+  -- a party that holds the bucket after an effect held it before, or receives the message
+  held_or_receives : (words later : FileWords) (process : ℕ) (outcome : FileOutcome) → Effect words process outcome later →
+      Sound words → IsSlot words slot (Message lap bucket) → IsHolder later bucket party →
+      IsHolder words bucket party ⊎ (outcome ≡ Receives slot bucket party)
+  held_or_receives words later process outcome (laws.takes number at own free) sound is now =
       elim (set_cases words.flags at bucket (HeldBy number) Free (HeldBy party) free now) [
         | inl before ↦ inl before.1
-        | inr this ↦ absurd (never_free_there words at this.0 sound is free)
+        | inr this ↦ absurd (never words at Free this.0 sound is free (λ other same. absurd (cc)) (λ same. absurd (cc)))
       ]
-  held_or_attaches words later process outcome (laws.gives_back number at own held not_in) sound is now =
+  held_or_receives words later process outcome (laws.attaches number at from own there) sound is now =
+      elim (set_cases words.flags at bucket (HeldBy number) (DetachedBy from) (HeldBy party) there now) [
+        | inl before ↦ inl before.1
+        | inr this ↦ absurd
+            (never words at (DetachedBy from) this.0 sound is there (λ other same. absurd (cc)) (λ same. absurd (cc)))
+      ]
+  held_or_receives words later process outcome (laws.receives number at other found own there) sound is now =
+      elim (set_cases words.flags at bucket (HeldBy number) (SentTo other found) (HeldBy party) there now) [
+        | inl before ↦ inl before.1
+        | inr this ↦
+            let has : IsIn words bucket other = (
+              found,
+              sound.sent at other found there ∙ ap (λ (b : ℕ). Some (Message found b)) this.0,
+            ) in
+            let slots : other ≡ slot = one_slot words bucket other slot sound has (lap, is) in
+            let parties : number ≡ party = let e = this.1 in cc in
+            inr (ap (λ (s : ℕ). Receives s at number) slots ∙ ap (λ (b : ℕ). Receives slot b number) this.0
+            ∙ ap (Receives slot bucket) parties)
+      ]
+  held_or_receives words later process outcome (laws.gives_back number at own held nowhere) sound is now =
       elim (set_cases words.flags at bucket Free (HeldBy number) (HeldBy party) held now) [
         | inl before ↦ inl before.1
         | inr this ↦ let flags = this.1 in absurd (cc)
       ]
-  held_or_attaches words later process outcome (laws.detaches number at own held known) sound is now =
+  held_or_receives words later process outcome (laws.detaches number at own held nowhere) sound is now =
       elim (set_cases words.flags at bucket (DetachedBy number) (HeldBy number) (HeldBy party) held now) [
         | inl before ↦ inl before.1
         | inr this ↦ let flags = this.1 in absurd (cc)
       ]
-  held_or_attaches words later process outcome (laws.detaches_number number at own held not_in) sound is now =
-      elim (set_cases words.flags at bucket (DetachedBy number) (HeldBy number) (HeldBy party) held now) [
+  held_or_receives words later process outcome (laws.sends number at other found own held there) sound is now =
+      elim (set_cases words.flags at bucket (SentTo other found) (HeldBy number) (HeldBy party) held now) [
         | inl before ↦ inl before.1
         | inr this ↦ let flags = this.1 in absurd (cc)
       ]
-  held_or_attaches words later process outcome (laws.puts_back number at from own held not_in sent) sound is now =
-      elim (set_cases words.flags at bucket (DetachedBy from) (HeldBy number) (HeldBy party) held now) [
-        | inl before ↦ inl before.1
-        | inr this ↦ let flags = this.1 in absurd (cc)
-      ]
-  held_or_attaches words later process outcome (laws.addresses number at own there has) sound is now =
-      elim (set_cases words.flags at bucket (DetachedBy (nobody words)) (DetachedBy number) (HeldBy party) there now) [
-        | inl before ↦ inl before.1
-        | inr this ↦ let flags = this.1 in absurd (cc)
-      ]
-  held_or_attaches words later process outcome (laws.attaches number at from own there) sound is now =
-      elim (set_cases words.flags at bucket (HeldBy number) (DetachedBy from) (HeldBy party) there now) [
-        | inl before ↦ inl before.1
-        | inr this ↦ inr (from, attach_named number at from this.0 this.1)
-      ]
-  held_or_attaches words later process outcome (laws.attaches_number number at from own there) sound is now =
-      elim (set_cases words.flags at bucket (HeldBy number) (DetachedBy from) (HeldBy party) there now) [
-        | inl before ↦ inl before.1
-        | inr this ↦ inr (from, attach_named number at from this.0 this.1)
-      ]
-  held_or_attaches words later process outcome _ sound is now = inl now
+  held_or_receives words later process outcome _ sound is now = inl now
 
   -- a party that held the bucket, and didn't take the message, doesn't take it by a step after
   -- which it holds the bucket
   untaken_after : (state : FileState) (step : FileStep) (place : Place) → IsPlace state (process_of step) place → Holds state →
-      IsSlot state.words slot (Message bucket size) → IsUntaken state → IsHolder state.words bucket party →
-      IsUntaken (change_at state step (Some place)).state
-  untaken_after state step place there holds is untaken held now other at lock at_now =
+      IsUntaken state → IsHolder state.words bucket party → IsUntaken (change_at state step (Some place)).state
+  untaken_after state step place there holds untaken held now other at lock at_now =
       let move : FileMove = move_at state.words place step in
       let kind : Kind state.words place step move = kind_of state.words place step in
+      let has : PlaceHas state.words (process_of step) place = holds.each (process_of step) place there in
       let effect : Effect state.words (process_of step) move.outcome move.words =
-      effect_of state.words place step move kind (holds.each (process_of step) place there) in
+      effect_of state.words place step move kind holds.sound has in
       elim (set_cases state.places (process_of step) other move.place place at there at_now) [
         | inl before ↦
             untaken held other at (lock_before state.words move.words (process_of step) other party move.outcome effect before.0 lock)
             before.1
         | inr this ↦ subst IsBefore this.1
-            (own_before state.words place step move kind (λ own. untaken held (process_of step) place own there)
-            (lock ∙ ap (λ (p : ℕ). Some (Some p)) (sym this.0)) held now is)
+            (own_before state.words place step move kind has (λ own. untaken held (process_of step) place own there)
+            (lock ∙ ap (λ (p : ℕ). Some (Some p)) (sym this.0)) held now)
       ]
 
-  -- each step keeps that, or by it the party attaches the bucket
+  -- each step keeps that, or by it the party receives the message
   untaken_step : (state : FileState) (step : FileStep) (found : Option Place) → slice_get state.places (process_of step) ≡ found →
-      Holds state → IsSlot state.words slot (Message bucket size) → IsUntaken state →
-      IsUntaken (change_at state step found).state
-      ⊎ ((from : ℕ) × ((change_at state step found).outcome ≡ OnFlag (AttachFrom party bucket from)))
+      Holds state → IsSlot state.words slot (Message lap bucket) → IsUntaken state →
+      IsUntaken (change_at state step found).state ⊎ ((change_at state step found).outcome ≡ Receives slot bucket party)
   untaken_step state step None there holds is untaken = inl untaken
   untaken_step state step (Some place) there holds is untaken =
       let move : FileMove = move_at state.words place step in
       let effect : Effect state.words (process_of step) move.outcome move.words =
-      effect_of state.words place step move (kind_of state.words place step) (holds.each (process_of step) place there) in
+      effect_of state.words place step move (kind_of state.words place step) holds.sound
+      (holds.each (process_of step) place there) in
       elim (cases_Bool (is_flag move.words bucket (HeldBy party))) [
-        | inl test ↦ elim (held_or_attaches state.words move.words (process_of step) move.outcome effect holds.sound is
+        | inl test ↦ elim (held_or_receives state.words move.words (process_of step) move.outcome effect holds.sound is
             (flag_there move.words bucket (HeldBy party) test)) [
-              | inl held ↦ inl (untaken_after state step place there holds is untaken held)
-              | inr attaches ↦ inr attaches
+              | inl held ↦ inl (untaken_after state step place there holds untaken held)
+              | inr received ↦ inr received
             ]
         | inr test ↦ inl (λ held. absurd (flag_missing move.words bucket (HeldBy party) test held))
       ]
 
-  -- a party that says it is done has attached the bucket by some of the steps
-  attached_by : (state : FileState) (steps : List FileStep) → Holds state → StaysIn state steps slot (Message bucket size) →
-      IsUntaken state → (other : ℕ) → IsPlace (file_after state steps) other (Ending party slot bucket) →
-      HasAttached (outcomes_of state steps) party bucket
-  attached_by state [] holds stays untaken other there =
-      let has = holds.each other (Ending party slot bucket) there in
-      absurd (untaken has.1 other (Ending party slot bucket) has.0 there)
-  attached_by state (step ∷ steps) holds stays untaken other there =
+  -- a party that says it is done has received the message by some of the steps
+  taken_by : (state : FileState) (steps : List FileStep) → Holds state → StaysIn state steps slot (Message lap bucket) →
+      IsUntaken state → (other : ℕ) → IsPlace (file_after state steps) other Outside →
+      IsLock (file_after state steps).words party other → IsHolder (file_after state steps).words bucket party →
+      HasTaken (outcomes_of state steps) slot bucket party
+  taken_by state [] holds stays untaken other there lock held = absurd (untaken held other Outside lock there)
+  taken_by state (step ∷ steps) holds stays untaken other there lock held =
       let change : FileChange = file_step state step in
       let outcomes : List FileOutcome = outcomes_of change.state steps in
       elim (untaken_step state step (slice_get state.places (process_of step)) refl holds stays.0 untaken) [
-        | inl later ↦
-            let attached = attached_by change.state steps (holds_step state step holds) stays.1 later other there in
-            (attached.0, contains-behind change.outcome (OnFlag (AttachFrom party bucket attached.0)) outcomes attached.1)
-        | inr this ↦
-            (this.0, contains-first change.outcome (OnFlag (AttachFrom party bucket this.0)) outcomes this.1)
+        | inl later ↦ contains-behind change.outcome (Receives slot bucket party) outcomes
+            (taken_by change.state steps (holds_step state step holds) stays.1 later other there lock held)
+        | inr this ↦ contains-first change.outcome (Receives slot bucket party) outcomes this
       ]
 
 -- THE POST
 
--- after a post nobody has taken the message
-posted_untaken : (state : FileState) (place : Place) (step : FileStep) (move : FileMove) (process party slot bucket size taker : ℕ) →
-    Kind state.words place step move → step ≡ Post process party slot bucket size → move.outcome ≡ OnSlot slot →
-    IsPlace state (process_of step) place → IsUntaken taker slot bucket size (change_by state (process_of step) move).state
-posted_untaken state place step move process party slot bucket size taker
-    (posts by number at which length own held not_in empty) is said there = λ now other at_place lock at_now.
+-- after its slot is filled, nobody has taken the message
+filled_untaken : (state : FileState) (place : Place) (step : FileStep) (move : FileMove) (process found slot bucket lap party : ℕ) →
+    Kind state.words place step move → PlaceHas state.words (process_of step) place → step ≡ Fill process found →
+    move.outcome ≡ OnSlot slot → IsPlace state (process_of step) place →
+    IsSlot move.words slot (Message lap bucket) → IsUntaken party slot bucket lap (change_by state (process_of step) move).state
+filled_untaken state place step move process found slot bucket lap party (fills by number at which here empty)
+    (own, held, entered, not_in) is said there message = λ now other at_place lock at_now.
+    let slots : at ≡ slot = cc in
+    let written = one_value (slice_set state.words.slots at (Message here which)) at (Message here which) (Message lap bucket)
+    (slice_get-set_same state.words.slots at (Message here which) (Empty here) empty)
+    (ap (slice_get (slice_set state.words.slots at (Message here which))) slots ∙ message) in
     let buckets : which ≡ bucket = cc in
-    let same : number ≡ taker = same_holder state.words bucket number taker
-    (ap (slice_get state.words.flags) (sym buckets) ∙ held) now in
-    let owner : by ≡ other = same_process state.words taker by other (ap (slice_get state.words.locks) (sym same) ∙ own) lock in
-    let placed : Posting number which ≡ at_place =
-    one_value (slice_set state.places by (Posting number which)) by (Posting number which) at_place
-    (slice_get-set_same state.places by (Posting number which) Outside there)
-    (ap (slice_get (slice_set state.places by (Posting number which))) owner ∙ at_now) in
-    subst (IsBefore taker slot bucket size) placed (same, buckets)
-posted_untaken state place step move process party slot bucket size taker _ is said there = absurd (cc)
+    let same : number ≡ party =
+    same_holder state.words bucket number party (ap (slice_get state.words.flags) (sym buckets) ∙ held) now in
+    let owner : by ≡ other =
+    same_process state.words party by other (ap (slice_get state.words.locks) (sym same) ∙ own) lock in
+    let placed : Sending number at which here ≡ at_place =
+    one_value (slice_set state.places by (Sending number at which here)) by (Sending number at which here) at_place
+    (slice_get-set_same state.places by (Sending number at which here) (Posting number at which) there)
+    (ap (slice_get (slice_set state.places by (Sending number at which here))) owner ∙ at_now) in
+    subst (IsBefore party slot bucket lap) placed (same, buckets)
+filled_untaken state place step move process found slot bucket lap party _ has is said there message = absurd (cc)
 
-posted_at : (state : FileState) (process party slot bucket size taker : ℕ) (found : Option Place) →
-    slice_get state.places process ≡ found →
-    (change_at state (Post process party slot bucket size) found).outcome ≡ OnSlot slot →
-    IsUntaken taker slot bucket size (change_at state (Post process party slot bucket size) found).state
-posted_at state process party slot bucket size taker None there said = absurd (cc)
-posted_at state process party slot bucket size taker (Some place) there said =
-    let step : FileStep = Post process party slot bucket size in
-    posted_untaken state place step (move_at state.words place step) process party slot bucket size taker
-    (kind_of state.words place step) refl said there
+filled_at : (state : FileState) (process found slot bucket lap party : ℕ) (place : Option Place) →
+    slice_get state.places process ≡ place → Holds state →
+    (change_at state (Fill process found) place).outcome ≡ OnSlot slot →
+    IsSlot (change_at state (Fill process found) place).state.words slot (Message lap bucket) →
+    IsUntaken party slot bucket lap (change_at state (Fill process found) place).state
+filled_at state process found slot bucket lap party None there holds said message = absurd (cc)
+filled_at state process found slot bucket lap party (Some place) there holds said message =
+    let step : FileStep = Fill process found in
+    filled_untaken state place step (move_at state.words place step) process found slot bucket lap party
+    (kind_of state.words place step) (holds.each process place there) refl said there message
 
-pub taker_attached : (scene : FileScene) (before after : List FileStep) (process party slot bucket size other taker : ℕ) →
-    (file_step (left_by scene before) (Post process party slot bucket size)).outcome ≡ OnSlot slot →
-    StaysIn (after_post scene before (Post process party slot bucket size)) after slot (Message bucket size) →
-    IsPlace (file_after (after_post scene before (Post process party slot bucket size)) after) other (Ending taker slot bucket) →
-    HasAttached (outcomes_of (after_post scene before (Post process party slot bucket size)) after) taker bucket
-taker_attached scene before after process party slot bucket size other taker said stays there =
+-- THE DONE
+
+-- a party by which a process says that it is done holds the bucket
+done_by : (state : FileState) (place : Place) (step : FileStep) (move : FileMove) (process party slot bucket next : ℕ) →
+    Kind state.words place step move → step ≡ Done process party slot bucket next → move.outcome ≡ OnSlot slot →
+    (place ≡ Outside) × IsLock state.words party process × IsHolder state.words bucket party
+done_by state place step move process party slot bucket next (empties by number at which lap after own held is) same said =
+    let processes : by ≡ process = cc in
+    let parties : number ≡ party = cc in
+    let buckets : which ≡ bucket = cc in (
+      refl,
+      ap (slice_get state.words.locks) (sym parties) ∙ own ∙ ap (λ (p : ℕ). Some (Some p)) processes,
+      ap (slice_get state.words.flags) (sym buckets) ∙ held ∙ ap (λ (p : ℕ). Some (HeldBy p)) parties,
+    )
+done_by state place step move process party slot bucket next _ same said = absurd (cc)
+
+done_at : (state : FileState) (process party slot bucket next : ℕ) (place : Option Place) →
+    slice_get state.places process ≡ place →
+    (change_at state (Done process party slot bucket next) place).outcome ≡ OnSlot slot →
+    IsPlace state process Outside × IsLock state.words party process × IsHolder state.words bucket party
+done_at state process party slot bucket next None there said = absurd (cc)
+done_at state process party slot bucket next (Some place) there said =
+    let step : FileStep = Done process party slot bucket next in
+    let found = done_by state place step (move_at state.words place step) process party slot bucket next
+    (kind_of state.words place step) refl said in
+    (there ∙ ap Some found.0, found.1, found.2)
+
+stays_first : (state : FileState) (steps : List FileStep) (slot bucket lap : ℕ) →
+    StaysIn state steps slot (Message lap bucket) → IsSlot state.words slot (Message lap bucket)
+stays_first state [] slot bucket lap stays = stays
+stays_first state (step ∷ steps) slot bucket lap stays = stays.0
+
+pub taker_received : (scene : FileScene) (before after : List FileStep)
+    (process found slot bucket lap other party next : ℕ) →
+    (file_step (left_by scene before) (Fill process found)).outcome ≡ OnSlot slot →
+    StaysIn (after_fill scene before (Fill process found)) after slot (Message lap bucket) →
+    (file_step (file_after (after_fill scene before (Fill process found)) after)
+        (Done other party slot bucket next)).outcome ≡ OnSlot slot →
+    HasTaken (outcomes_of (after_fill scene before (Fill process found)) after) slot bucket party
+taker_received scene before after process found slot bucket lap other party next said stays done =
     let state : FileState = left_by scene before in
-    let step : FileStep = Post process party slot bucket size in
-    attached_by taker slot bucket size (after_post scene before step) after (holds_step state step (holds_always scene before)) stays
-    (posted_at state process party slot bucket size taker (slice_get state.places process) refl said) other there
+    let step : FileStep = Fill process found in
+    let filled : FileState = after_fill scene before step in
+    let end : FileState = file_after filled after in
+    let holds : Holds state = holds_always scene before in
+    let who = done_at end other party slot bucket next (slice_get end.places other) refl done in
+    taken_by party slot bucket lap filled after (holds_step state step holds) stays
+    (filled_at state process found slot bucket lap party (slice_get state.places process) refl holds said
+    (stays_first filled after slot bucket lap stays)) other who.0 who.1 who.2

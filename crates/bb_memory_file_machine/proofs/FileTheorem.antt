@@ -1,12 +1,12 @@
 -- Consequences of the invariant that holds for every state.
 use Rattle.bb_memory_file_machine.proofs.FileEffects.{below_end, one_value, other_number, rests, same_process, set_cases, stays_apart}
-use Rattle.bb_memory_file_machine.proofs.FileInvariant.{Holds, IsFrom, PlaceHas}
-use Rattle.bb_memory_file_machine.proofs.FileKinds.{Kind, empties, kind_of, posts, receives}
+use Rattle.bb_memory_file_machine.proofs.FileInvariant.{Holds, IsAtWork, PlaceHas}
+use Rattle.bb_memory_file_machine.proofs.FileKinds.{Kind, allocates, attaches, detaches, empties, fills, gives, kind_of, puts_back, receives, recovers, sends, settles, settles_sent}
+use Rattle.bb_memory_file_machine.proofs.FileSound.{there_below}
 use Rattle.bb_memory_file_machine.proofs.FileSteps.{effect_of, holds_always, holds_at_opening, holds_step}
-use Rattle.bb_memory_file_machine.specs.FileLaws.{AreSettled, CanCount, Effect, HasReceived, IsAccountedFor, IsFlag, IsHolder, IsIn, IsInCallBy, IsInSome, IsKnown, IsLife, IsLock, IsPlace, IsSentBy, IsSlot, SaysDone, number_of}
+use Rattle.bb_memory_file_machine.specs.FileLaws.{AreSettled, CanCount, Effect, HasReceived, IsAccountedFor, IsEntered, IsEntry, IsFlag, IsHolder, IsIn, IsInCallBy, IsLife, IsLock, IsPlace, IsSlot, SaysDone, number_of}
 use Rattle.bb_memory_file_machine.specs.FileLaws as laws
-use Rattle.bb_memory_file_machine.specs.FileMachine.{Addressing, Attached, Checking, Counting, DetachedBy, Empty, Ending, FileChange, FileMove, FileOutcome, FileScene, FileState, FileStep, FileWords, Finding, Flag, Flags, Free, HeldBy, Keeping, Late, Message, Place, Posting, Receives, Refused, Returning, Seen, Sent, Settled, Slots, change_at, file_after, file_step, left_by, move_at, nobody, opening_state, process_of}
-use Rattle.bb_memory_file_machine.specs.FilePool.{IsTaken}
+use Rattle.bb_memory_file_machine.specs.FileMachine.{Clearing, Counting, DetachNumber, DetachedBy, Done, Empty, Entry, FileChange, FileFlag, FileMove, FileOutcome, FileScene, FileState, FileStep, FileWords, Flags, Free, HeldBy, Message, Outside, Place, Posting, Receives, Refused, Sending, SentTo, Settled, change_at, file_after, file_step, left_by, move_at, opening_state, process_of, with_flag}
 use Rattle.bb_memory_lists.proofs.SliceGets.{length-set_at, slice_get-set_apart, slice_get-set_same}
 use Rattle.std.proofs.Common.{List, None, Option, Some, [], ap, arith, inl, inr, length, refl, suc, sym, zero, ℕ, ◌+◌, ◌<◌, ◌∙◌, ◌∷◌, ◌≡◌, ◌≢◌, ◌≤◌}
 use Rattle.std.proofs.lemmas.Bool.{cases_eq, lt-ltb}
@@ -21,7 +21,7 @@ effect_at : (state : FileState) (step : FileStep) (found : Option Place) → sli
 effect_at state step None is holds = laws.none Refused tt
 effect_at state step (Some place) is holds =
     effect_of state.words place step (move_at state.words place step) (kind_of state.words place step)
-    (holds.each (process_of step) place is)
+    holds.sound (holds.each (process_of step) place is)
 
 pub effect_in : (state : FileState) (step : FileStep) → Holds state → let change = file_step state step in
     Effect state.words (process_of step) change.outcome change.state.words
@@ -41,140 +41,205 @@ kept_always scene steps step process party bucket lock held apart =
     (rests state.words change.state.words (process_of step) change.outcome party process
     (effect_in state step (holds_always scene steps)) lock apart).kept bucket held
 
+pub kept_entry_always : (scene : FileScene) (steps : List FileStep) (step : FileStep) (process party bucket : ℕ)
+    (entry : Entry) → IsLock (left_by scene steps).words party process → IsHolder (left_by scene steps).words bucket party →
+    process_of step ≢ process → IsEntry (left_by scene steps).words bucket entry →
+    IsEntry (file_step (left_by scene steps) step).state.words bucket entry
+kept_entry_always scene steps step process party bucket entry lock held apart is =
+    let state : FileState = left_by scene steps in
+    let change : FileChange = file_step state step in
+    (rests state.words change.state.words (process_of step) change.outcome party process
+    (effect_in state step (holds_always scene steps)) lock apart).entries bucket held ∙ is
+
+pub kept_slot_always : (scene : FileScene) (steps : List FileStep) (step : FileStep) (process party bucket slot lap : ℕ) →
+    IsLock (left_by scene steps).words party process → IsHolder (left_by scene steps).words bucket party →
+    process_of step ≢ process → IsSlot (left_by scene steps).words slot (Message lap bucket) →
+    IsSlot (file_step (left_by scene steps) step).state.words slot (Message lap bucket)
+kept_slot_always scene steps step process party bucket slot lap lock held apart is =
+    let state : FileState = left_by scene steps in
+    let change : FileChange = file_step state step in
+    (rests state.words change.state.words (process_of step) change.outcome party process
+    (effect_in state step (holds_always scene steps)) lock apart).stays bucket slot lap held is
+
 -- RECEIVED
 
-received_by : (state : FileState) (place : Place) (step : FileStep) (move : FileMove) (slot : ℕ) →
-    Kind state.words place step move → PlaceHas state.words (process_of step) place → move.outcome ≡ Receives slot →
-    HasReceived state step slot
-received_by state place step move slot (receives process party at bucket size from is) (lock, held, known) said =
-    let same : at ≡ slot = cc in record {
-      party = party;
-      bucket = bucket;
-      size = size;
-      lock = lock;
-      holder = held;
-      message = ap (slice_get state.words.slots) (sym same) ∙ is;
-    }
-received_by state place step move slot _ has said = absurd (cc)
+received_by : (state : FileState) (place : Place) (step : FileStep) (slot bucket party : ℕ) → Holds state →
+    slice_get state.places (process_of step) ≡ Some place → Kind state.words place step (move_at state.words place step) →
+    (move_at state.words place step).outcome ≡ Receives slot bucket party → HasReceived state step slot bucket party
+received_by state place step slot bucket party holds there kind said =
+    received_kind state place step (move_at state.words place step) slot bucket party holds kind said
+    (ap (λ (found : Option Place). (change_at state step found).state.words) there)
+  where
+    received_kind : (state : FileState) (place : Place) (step : FileStep) (move : FileMove) (slot bucket party : ℕ) →
+        Holds state → Kind state.words place step move → move.outcome ≡ Receives slot bucket party →
+        (file_step state step).state.words ≡ move.words → HasReceived state step slot bucket party
+    received_kind state place step move slot bucket party holds (receives process number at other lap own is) said words =
+        let slots : at ≡ slot = cc in
+        let buckets : other ≡ bucket = cc in
+        let parties : number ≡ party = cc in
+        let sent : IsFlag state.words bucket (SentTo slot lap) =
+        ap (slice_get state.words.flags) (sym buckets) ∙ is ∙ ap (λ (s : ℕ). Some (SentTo s lap)) slots in
+        let message : IsSlot state.words slot (Message lap bucket) = holds.sound.sent bucket slot lap sent in
+        let entered : IsEntered state.words bucket slot = holds.sound.entered bucket slot (lap, message) in
+        record {
+          lap = lap;
+          size = entered.0;
+          lock = ap (slice_get state.words.locks) (sym parties) ∙ own;
+          sent = sent;
+          message = message;
+          entry = entered.1;
+          holder = ap (λ (w : FileWords). slice_get w.flags bucket) words ∙ ap (slice_get move.words.flags) (sym buckets)
+              ∙ slice_get-set_same state.words.flags other (HeldBy number) (SentTo at lap) is
+              ∙ ap (λ (p : ℕ). Some (HeldBy p)) parties;
+        }
+    received_kind state place step move slot bucket party holds _ said words = absurd (cc)
 
-received_at : (state : FileState) (step : FileStep) (slot : ℕ) (found : Option Place) →
-    slice_get state.places (process_of step) ≡ found → Holds state → (change_at state step found).outcome ≡ Receives slot →
-    HasReceived state step slot
-received_at state step slot None is holds said = absurd (cc)
-received_at state step slot (Some place) is holds said =
-    received_by state place step (move_at state.words place step) slot (kind_of state.words place step)
-    (holds.each (process_of step) place is) said
+received_at : (state : FileState) (step : FileStep) (slot bucket party : ℕ) (found : Option Place) →
+    slice_get state.places (process_of step) ≡ found → Holds state →
+    (change_at state step found).outcome ≡ Receives slot bucket party → HasReceived state step slot bucket party
+received_at state step slot bucket party None is holds said = absurd (cc)
+received_at state step slot bucket party (Some place) is holds said =
+    received_by state place step slot bucket party holds is (kind_of state.words place step) said
 
-pub received_always : (scene : FileScene) (steps : List FileStep) (step : FileStep) (slot : ℕ) →
-    (file_step (left_by scene steps) step).outcome ≡ Receives slot → HasReceived (left_by scene steps) step slot
-received_always scene steps step slot said =
+pub received_always : (scene : FileScene) (steps : List FileStep) (step : FileStep) (slot bucket party : ℕ) →
+    (file_step (left_by scene steps) step).outcome ≡ Receives slot bucket party →
+    HasReceived (left_by scene steps) step slot bucket party
+received_always scene steps step slot bucket party said =
     let state : FileState = left_by scene steps in
-    received_at state step slot (slice_get state.places (process_of step)) refl (holds_always scene steps) said
+    received_at state step slot bucket party (slice_get state.places (process_of step)) refl (holds_always scene steps) said
 
 -- STAYS
 
-stays_by : (state : FileState) (place : Place) (step : FileStep) (move : FileMove) (slot bucket size : ℕ) →
-    Kind state.words place step move → PlaceHas state.words (process_of step) place → IsPlace state (process_of step) place →
-    IsSlot state.words slot (Message bucket size) →
-    IsSlot move.words slot (Message bucket size) ⊎ SaysDone state step slot bucket
-stays_by state place step move slot bucket size (posts process party at other length own held not_in empty) has there is =
-    inl (stays_apart state.words.slots at slot (Message other length) Empty (Message bucket size) empty is
+stays_by : (state : FileState) (place : Place) (step : FileStep) (move : FileMove) (slot bucket lap : ℕ) →
+    Kind state.words place step move → IsSlot state.words slot (Message lap bucket) →
+    IsSlot move.words slot (Message lap bucket) ⊎ SaysDone state step slot bucket
+stays_by state place step move slot bucket lap (fills process party at other found empty) is =
+    inl (stays_apart state.words.slots at slot (Message found other) (Empty found) (Message lap bucket) empty is
     (λ same. absurd (cc)))
-stays_by state place step move slot bucket size (empties process party at other) (lock, held, (length, message)) there is =
+stays_by state place step move slot bucket lap (empties process party at other found next own held message) is =
     elim (cases_eq at slot) [
       | inl same ↦
-          let words = one_value state.words.slots slot (Message other length) (Message bucket size)
+          let words = one_value state.words.slots slot (Message found other) (Message lap bucket)
           (ap (slice_get state.words.slots) (sym same) ∙ message) is in
           let one : other ≡ bucket = cc in
           inr record {
             party = party;
-            done = there ∙ ap (λ (s : ℕ). Some (Ending party s other)) same ∙ ap (λ (b : ℕ). Some (Ending party slot b)) one;
-            lock = lock;
+            next = next;
+            done = ap (λ (s : ℕ). Done process party s other next) same ∙ ap (λ (b : ℕ). Done process party slot b next) one;
+            lock = own;
             holder = ap (slice_get state.words.flags) (sym one) ∙ held;
           }
-      | inr apart ↦ inl (slice_get-set_apart state.words.slots at slot Empty apart ∙ is)
+      | inr apart ↦ inl (slice_get-set_apart state.words.slots at slot (Empty next) apart ∙ is)
     ]
-stays_by state place step move slot bucket size _ has there is = inl is
+stays_by state place step move slot bucket lap _ is = inl is
 
-stays_at : (state : FileState) (step : FileStep) (slot bucket size : ℕ) (found : Option Place) →
-    slice_get state.places (process_of step) ≡ found → Holds state → IsSlot state.words slot (Message bucket size) →
-    IsSlot (change_at state step found).state.words slot (Message bucket size) ⊎ SaysDone state step slot bucket
-stays_at state step slot bucket size None there holds is = inl is
-stays_at state step slot bucket size (Some place) there holds is =
-    stays_by state place step (move_at state.words place step) slot bucket size (kind_of state.words place step)
-    (holds.each (process_of step) place there) there is
+stays_at : (state : FileState) (step : FileStep) (slot bucket lap : ℕ) (found : Option Place) →
+    IsSlot state.words slot (Message lap bucket) →
+    IsSlot (change_at state step found).state.words slot (Message lap bucket) ⊎ SaysDone state step slot bucket
+stays_at state step slot bucket lap None is = inl is
+stays_at state step slot bucket lap (Some place) is =
+    stays_by state place step (move_at state.words place step) slot bucket lap (kind_of state.words place step) is
 
-pub stays_always : (scene : FileScene) (steps : List FileStep) (step : FileStep) (slot bucket size : ℕ) →
-    IsSlot (left_by scene steps).words slot (Message bucket size) →
-    IsSlot (file_step (left_by scene steps) step).state.words slot (Message bucket size)
+pub stays_always : (scene : FileScene) (steps : List FileStep) (step : FileStep) (slot bucket lap : ℕ) →
+    IsSlot (left_by scene steps).words slot (Message lap bucket) →
+    IsSlot (file_step (left_by scene steps) step).state.words slot (Message lap bucket)
     ⊎ SaysDone (left_by scene steps) step slot bucket
-stays_always scene steps step slot bucket size is =
+stays_always scene steps step slot bucket lap is =
     let state : FileState = left_by scene steps in
-    stays_at state step slot bucket size (slice_get state.places (process_of step)) refl (holds_always scene steps) is
+    stays_at state step slot bucket lap (slice_get state.places (process_of step)) is
 
--- THE WORDS
+-- BY NUMBER
 
-never_free_if : (words : FileWords) (bucket : ℕ) → IsTaken words bucket → ¬ IsFlag words bucket Free
-never_free_if words bucket (inl (party, held)) free =
-    let same = one_value words.flags bucket (HeldBy party) Free held free in absurd (cc)
-never_free_if words bucket (inr (party, detached)) free =
-    let same = one_value words.flags bucket (DetachedBy party) Free detached free in absurd (cc)
+module _ (state : FileState) (bucket party : ℕ) where
+  -- a bucket was detached by the party before another flag was written that doesn't say so
+  detached_before : (at : ℕ) (old flag : FileFlag) → IsFlag state.words at old → ¬ (flag ≡ DetachedBy party) →
+      IsFlag (with_flag state.words at flag) bucket (DetachedBy party) → IsFlag state.words bucket (DetachedBy party)
+  detached_before at old flag is apart now =
+      elim (set_cases state.words.flags at bucket flag old (DetachedBy party) is now) [
+        | inl before ↦ before.1
+        | inr this ↦ absurd (apart this.1)
+      ]
 
-pub never_free_always : (scene : FileScene) (steps : List FileStep) (bucket : ℕ) →
-    IsInSome (left_by scene steps).words bucket → ¬ IsFlag (left_by scene steps).words bucket Free
-never_free_always scene steps bucket (slot, has) =
-    never_free_if (left_by scene steps).words bucket ((holds_always scene steps).sound.taken bucket slot has)
+  numbered_by : (place : Place) (step : FileStep) (move : FileMove) → PlaceHas state.words (process_of step) place →
+      Kind state.words place step move → IsFlag move.words bucket (DetachedBy party) →
+      IsFlag state.words bucket (DetachedBy party) ⊎ (step ≡ DetachNumber (process_of step) party bucket)
+  numbered_by place step move has (detaches process number at own held nowhere) now =
+      elim (set_cases state.words.flags at bucket (DetachedBy number) (HeldBy number) (DetachedBy party) held now) [
+        | inl before ↦ inl before.1
+        | inr this ↦
+            let e = this.1 in
+            let same : number ≡ party = cc in
+            inr (ap (λ (p : ℕ). DetachNumber process p at) same ∙ ap (DetachNumber process party) this.0)
+      ]
+  numbered_by place step move has (allocates process number at own free) now =
+      inl (detached_before at Free (HeldBy number) free (λ same. absurd (cc)) now)
+  numbered_by place step move has (gives process number at own held nowhere) now =
+      inl (detached_before at (HeldBy number) Free held (λ same. absurd (cc)) now)
+  numbered_by place step move has (attaches process number at from own is) now =
+      inl (detached_before at (DetachedBy from) (HeldBy number) is (λ same. absurd (cc)) now)
+  numbered_by place step move has (receives process number slot at lap own is) now =
+      inl (detached_before at (SentTo slot lap) (HeldBy number) is (λ same. absurd (cc)) now)
+  numbered_by place step move (own, held, is) (sends process number slot at lap) now =
+      inl (detached_before at (HeldBy number) (SentTo slot lap) held (λ same. absurd (cc)) now)
+  numbered_by place step move has (puts_back process number slot at lap own held is) now =
+      inl (detached_before at (HeldBy number) (SentTo slot lap) held (λ same. absurd (cc)) now)
+  numbered_by place step move has (recovers process number at is) now =
+      inl (detached_before at (DetachedBy number) (HeldBy number) is (λ same. absurd (cc)) now)
+  numbered_by place step move has (settles process number at held unnamed) now =
+      inl (detached_before at (HeldBy number) Free held (λ same. absurd (cc)) now)
+  numbered_by place step move has (settles_sent process number at slot lap held is) now =
+      inl (detached_before at (HeldBy number) (SentTo slot lap) held (λ same. absurd (cc)) now)
+  numbered_by place step move has _ now = inl now
+
+  numbered_at : (step : FileStep) (found : Option Place) → slice_get state.places (process_of step) ≡ found → Holds state →
+      IsFlag (change_at state step found).state.words bucket (DetachedBy party) →
+      IsFlag state.words bucket (DetachedBy party) ⊎ (step ≡ DetachNumber (process_of step) party bucket)
+  numbered_at step None is holds now = inl now
+  numbered_at step (Some place) is holds now =
+      numbered_by place step (move_at state.words place step) (holds.each (process_of step) place is)
+      (kind_of state.words place step) now
+
+pub by_number_always : (scene : FileScene) (steps : List FileStep) (step : FileStep) (bucket party : ℕ) →
+    IsFlag (file_step (left_by scene steps) step).state.words bucket (DetachedBy party) →
+    IsFlag (left_by scene steps).words bucket (DetachedBy party) ⊎ (step ≡ DetachNumber (process_of step) party bucket)
+by_number_always scene steps step bucket party now =
+    let state : FileState = left_by scene steps in
+    numbered_at state bucket party step (slice_get state.places (process_of step)) refl (holds_always scene steps) now
+
+-- ENTRIES
+
+pub exact_always : (scene : FileScene) (steps : List FileStep) (process party bucket slot : ℕ) →
+    IsPlace (left_by scene steps) process Outside → IsLock (left_by scene steps).words party process →
+    IsHolder (left_by scene steps).words bucket party → IsEntered (left_by scene steps).words bucket slot →
+    IsIn (left_by scene steps).words bucket slot
+exact_always scene steps process party bucket slot there lock held entered =
+    elim ((holds_always scene steps).exact process Outside there party bucket slot lock held entered) [
+      | inl has ↦ has
+      | inr work ↦ absurd work
+    ]
+
+-- SETTLED
 
 pub settled_always : (scene : FileScene) (steps : List FileStep) (process party bucket : ℕ) →
     IsPlace (left_by scene steps) process (Settled party) → ¬ IsHolder (left_by scene steps).words bucket party
 settled_always scene steps process party bucket there =
     ((holds_always scene steps).each process (Settled party) there).1 bucket
 
-pub addressed_always : (scene : FileScene) (steps : List FileStep) (process party bucket slot : ℕ) →
-    IsPlace (left_by scene steps) process (Settled party) → IsIn (left_by scene steps).words bucket slot →
-    ¬ IsFlag (left_by scene steps).words bucket (DetachedBy party)
-addressed_always scene steps process party bucket slot there has detached =
-    ((holds_always scene steps).each process (Settled party) there).2 slot bucket has (inr detached)
-
-known_from : (words : FileWords) (bucket party : ℕ) → IsFrom words bucket party → IsKnown words bucket
-known_from words bucket party (inl has) = inl has
-known_from words bucket party (inr sent) = inr (party, sent)
-
-pub known_always : (scene : FileScene) (steps : List FileStep) (bucket party : ℕ) →
-    IsFlag (left_by scene steps).words bucket (DetachedBy party) → IsKnown (left_by scene steps).words bucket
-known_always scene steps bucket party is =
-    known_from (left_by scene steps).words bucket party ((holds_always scene steps).sound.known bucket party is)
-
-sent_by : (words : FileWords) (bucket party : ℕ) → IsFrom words bucket party → ¬ IsInSome words bucket →
-    IsSentBy words bucket party
-sent_by words bucket party (inl has) not_in = absurd (not_in has)
-sent_by words bucket party (inr sent) not_in = sent
-
-pub sender_always : (scene : FileScene) (steps : List FileStep) (bucket party : ℕ) →
-    IsFlag (left_by scene steps).words bucket (DetachedBy party) → ¬ IsInSome (left_by scene steps).words bucket →
-    IsSentBy (left_by scene steps).words bucket party
-sender_always scene steps bucket party is not_in =
-    sent_by (left_by scene steps).words bucket party ((holds_always scene steps).sound.known bucket party is) not_in
-
 -- NOTHING IS LOST
 
 buckets_effect : (words later : FileWords) (process : ℕ) (outcome : FileOutcome) → Effect words process outcome later →
     length later.flags ≡ length words.flags
 buckets_effect words later process outcome (laws.takes party bucket own free) = length-set_at words.flags bucket (HeldBy party)
-buckets_effect words later process outcome (laws.gives_back party bucket own held not_in) =
+buckets_effect words later process outcome (laws.gives_back party bucket own held nowhere) =
     length-set_at words.flags bucket Free
-buckets_effect words later process outcome (laws.detaches party bucket own held known) =
+buckets_effect words later process outcome (laws.detaches party bucket own held nowhere) =
     length-set_at words.flags bucket (DetachedBy party)
-buckets_effect words later process outcome (laws.detaches_number party bucket own held not_in) =
-    length-set_at words.flags bucket (DetachedBy party)
-buckets_effect words later process outcome (laws.puts_back party bucket from own held not_in sent) =
-    length-set_at words.flags bucket (DetachedBy from)
-buckets_effect words later process outcome (laws.addresses party bucket own is has) =
-    length-set_at words.flags bucket (DetachedBy (nobody words))
 buckets_effect words later process outcome (laws.attaches party bucket from own is) =
     length-set_at words.flags bucket (HeldBy party)
-buckets_effect words later process outcome (laws.attaches_number party bucket from own is) =
+buckets_effect words later process outcome (laws.receives party bucket slot lap own is) =
     length-set_at words.flags bucket (HeldBy party)
+buckets_effect words later process outcome (laws.sends party bucket slot lap own held is) =
+    length-set_at words.flags bucket (SentTo slot lap)
 buckets_effect words later process outcome _ = refl
 
 buckets_after : (state : FileState) (steps : List FileStep) → Holds state →
@@ -189,16 +254,12 @@ pub buckets_always : (scene : FileScene) (steps : List FileStep) → length (lef
 buckets_always scene steps =
     buckets_after (opening_state scene) steps (holds_at_opening scene) ∙ length-replicate scene.buckets Free
 
-there_below : {X : Type 0} (xs : List X) (i : ℕ) → i < length xs → (x : X) × (slice_get xs i ≡ Some x)
-there_below [] i below = absurd (omega (arith, below))
-there_below (x ∷ xs) zero below = (x, refl)
-there_below (x ∷ xs) (suc i) below = there_below xs i (omega (arith, below))
-
-accounted : (state : FileState) (bucket : ℕ) (flag : Flag) → Holds state → AreSettled state →
+accounted : (state : FileState) (bucket : ℕ) (flag : FileFlag) → Holds state → AreSettled state →
     IsFlag state.words bucket flag → IsAccountedFor state bucket
 accounted state bucket Free holds settled is = inl is
 accounted state bucket (HeldBy party) holds settled is = inr (inl (party, is, settled bucket party is))
-accounted state bucket (DetachedBy party) holds settled is = inr (inr (party, is, known_from state.words bucket party (holds.sound.known bucket party is)))
+accounted state bucket (SentTo slot lap) holds settled is = inr (inr (inl (slot, lap, is, holds.sound.sent bucket slot lap is)))
+accounted state bucket (DetachedBy party) holds settled is = inr (inr (inr (party, is)))
 
 pub nothing_lost : (scene : FileScene) (steps : List FileStep) (bucket : ℕ) → AreSettled (left_by scene steps) →
     bucket < scene.buckets → IsAccountedFor (left_by scene steps) bucket
@@ -217,19 +278,10 @@ own_number words process number party lock is = let same = same_Some number part
 
 lock_of_place : (words : FileWords) (process party : ℕ) (place : Place) → PlaceHas words process place →
     number_of place ≡ Some party → IsLock words party process
-lock_of_place words process party (Posting number bucket) has is = own_number words process number party has.0 is
-lock_of_place words process party (Sent number bucket) has is = own_number words process number party has.0 is
-lock_of_place words process party (Seen number slot bucket size) has is = own_number words process number party has is
-lock_of_place words process party (Attached number slot bucket size from) has is = own_number words process number party has.0 is
-lock_of_place words process party (Late number bucket from slot) has is = own_number words process number party has.0 is
-lock_of_place words process party (Returning number bucket from) has is = own_number words process number party has.0 is
-lock_of_place words process party (Finding number slot bucket) has is = own_number words process number party has.0 is
-lock_of_place words process party (Ending number slot bucket) has is = own_number words process number party has.0 is
+lock_of_place words process party (Posting number slot bucket) has is = own_number words process number party has.0 is
+lock_of_place words process party (Sending number slot bucket lap) has is = own_number words process number party has.0 is
+lock_of_place words process party (Clearing number bucket) has is = own_number words process number party has.0 is
 lock_of_place words process party (Counting number) has is = own_number words process number party has is
-lock_of_place words process party (Slots number slot) has is = own_number words process number party has.0 is
-lock_of_place words process party (Checking number slot bucket) has is = own_number words process number party has.own is
-lock_of_place words process party (Keeping number slot bucket) has is = own_number words process number party has.0.own is
-lock_of_place words process party (Addressing number slot bucket) has is = own_number words process number party has.0.own is
 lock_of_place words process party (Flags number bucket) has is = own_number words process number party has.0 is
 lock_of_place words process party (Settled number) has is = own_number words process number party has.0 is
 lock_of_place words process party place has is = absurd (cc)
@@ -304,5 +356,5 @@ can_count scene steps process party there =
     let found = life_there state process party holds (holds.each process (Counting party) there) in (
       found.0 + 1,
       simp (there, found.1, lt-ltb found.0 (found.0 + 1) (more_than found.0))
-          (slice_get-set_same state.places process (Slots party 0) (Counting party) there),
+          (slice_get-set_same state.places process (Flags party 0) (Counting party) there),
     )
