@@ -89,7 +89,8 @@ detach_undone words place step = None
 
 -- SETTLERS
 
--- the move by which a settler attaches a bucket with this flag, whoever has sent or detached it
+-- The move by which a settler takes back a bucket with this flag, whoever has sent or detached it.
+-- The settler frees a bucket that is sent, and attaches one that is detached, which it frees next.
 abbrev pub attach_any : FileWords → ℕ → ℕ → Option FileFlag → Option FileMove
 attach_any words party bucket (Some (DetachedBy from)) = Some (attaching words party bucket from (Flags party bucket))
 attach_any words party bucket (Some (SentTo slot lap)) = Some (giving_back words party bucket (Flags party bucket))
