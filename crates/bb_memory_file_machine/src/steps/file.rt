@@ -209,11 +209,7 @@ pub enum FileOutcome {
     Sends { bucket: u32, party: u32 },
     /// A flag changed: the party has received the message in this bucket, which is in the slot, and
     /// now holds the bucket.
-    Receives {
-        slot: u32,
-        bucket: u32,
-        party: u32,
-    },
+    Receives { slot: u32, bucket: u32, party: u32 },
     /// The entry of this bucket changed.
     OnEntry(u32),
     /// The word of this slot changed.
