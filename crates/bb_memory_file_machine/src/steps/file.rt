@@ -7,7 +7,7 @@ ghost use Rattle.bb_memory_pool_machine.specs.PoolLogs.{AreAsked, IsPoolRun, Lay
 ghost use Rattle.bb_memory_traits.specs.Chunk.{Chunk, IsSound};
 ghost use Rattle.bb_memory_traits.specs.PoolObject.{IsPoolGeometry, PoolGeometry};
 ghost use Rattle.bb_memory_traits.specs.PoolObject as objects;
-ghost use Rattle.std.specs.Prelude.{List, Some, slice_get, ℕ, ◌<◌, ◌↔◌, ◌≡◌, ◌≢◌, ◌≤◌, ◌⊎◌};
+ghost use Rattle.std.specs.Prelude.{List, ℕ, ◌<◌, ◌↔◌, ◌≡◌, ◌≢◌, ◌≤◌, ◌⊎◌};
 
 use bb_memory_pool_machine::steps::PoolStep;
 
