@@ -1,114 +1,156 @@
 -- For each wrong protocol, steps with which it goes wrong.
-use Rattle.bb_memory_file_machine.proofs.FileTests.{in_none}
-use Rattle.bb_memory_file_machine.specs.FileLaws.{IsInSome, IsKnown, IsOutside}
-use Rattle.bb_memory_file_machine.specs.FileMachine.{Allocate, AttachNumber, Count, DetachNumber, Done, Exchange, FileScene, FileStep, FileWords, Kill, Leave, Lock, Next, Outside, Post, Recover, Release, Slots, Take}
-use Rattle.bb_memory_file_machine.specs.FileVariants.{FreesMessage, LosesBucket, ReceivesNothing, RecoversAnothers, SharesLife, SharesNumber, TakesAway, attach_from_any, detach_then_post, join_counts_not, late_take_keeps_name, late_take_looks_not, no_second_look, reaps_the_living, settle_addresses_not, settle_forgets_slots, unlock_before, wrong_left_by}
-use Rattle.std.proofs.Common.{List, None, Some, [], arith, inl, inr, refl, ℕ, ◌++◌, ◌∷◌, ◌≡◌}
-use Rattle.std.specs.Prelude.{slice_get}
+use Rattle.bb_memory_file_machine.specs.FileMachine.{Allocate, Count, Deallocate, DetachNumber, Done, FileScene, FileStep, Fill, Flags, Kill, Leave, Lock, Next, Outside, Post, Recover, Release, Take}
+use Rattle.bb_memory_file_machine.specs.FileVariants.{DetachesMessage, FreesMessage, IsInTwo, LosesBucket, ReceivesAnothers, SharesLife, SharesNumber, TakesAway, deallocate_undone, detach_undone, done_clears_first, join_counts_not, post_fills_first, post_undone, reaps_the_living, recover_any, send_then_fill, settle_sends_blindly, settle_skips_entries, take_any, unlock_before}
+use Rattle.std.proofs.Common.{List, [], arith, refl, ℕ, ◌++◌, ◌∷◌}
 
--- one bucket, one slot, two numbers and three processes
+-- one bucket, two slots, two numbers and two processes
 abbrev small : FileScene
-small = record { buckets = 1; slots = 1; parties = 2; processes = 3 }
+small = record { buckets = 1; slots = 2; parties = 2; processes = 2 }
 
 -- the steps by which a process joins with a number that nobody had before
 abbrev joining : ℕ → ℕ → List FileStep
-joining process party =
-    Lock process party ∷ Count process 1 ∷ Next process ∷ Next process ∷ Next process ∷ Next process ∷ Next process ∷ []
+joining process party = Lock process party ∷ Count process 1 ∷ Next process ∷ Next process ∷ Next process ∷ []
 
--- a settler takes back a detached bucket, which another process has posted meanwhile
-abbrev lost_and_posted : List FileStep
-lost_and_posted = joining 0 0 ++ joining 1 1
-    ++ Allocate 0 0 0 ∷ DetachNumber 0 0 0 ∷ Kill 0 ∷ Release 0 0
-    ∷ Lock 2 0 ∷ Count 2 2 ∷ Next 2 ∷ Next 2
-    ∷ AttachNumber 1 1 0 0 ∷ Post 1 1 0 0 7 ∷ Next 1 ∷ Next 1
-    ∷ Recover 2 0 ∷ Next 2 ∷ []
+-- process 0 has number 0, and holds the bucket
+abbrev held : List FileStep
+held = joining 0 0 ++ Allocate 0 0 0 ∷ []
 
-pub any_frees : FreesMessage attach_from_any
+-- process 0 has posted the bucket to slot 0
+abbrev posted : List FileStep
+posted = held ++ Post 0 0 0 0 7 ∷ Fill 0 0 ∷ Next 0 ∷ []
+
+-- process 0 has taken the message again
+abbrev taken : List FileStep
+taken = posted ++ Take 0 0 0 0 0 ∷ []
+
+-- process 0 is dead, and process 1 has settled the bucket for its number
+abbrev settled : List FileStep
+settled = Kill 0 ∷ Release 0 0 ∷ Lock 1 0 ∷ Count 1 2 ∷ Next 1 ∷ []
+
+-- TAKES
+
+-- a take at slot 1 attaches the bucket that is sent to slot 0
+pub any_receives : ReceivesAnothers take_any
+any_receives = record {
+  scene = small;
+  steps = posted;
+  step = Take 0 0 1 0 0;
+  slot = 1;
+  bucket = 0;
+  party = 0;
+  received = refl;
+  not_in = λ has. absurd (cc);
+}
+
+-- POSTS
+
+-- the process is killed after the bucket is sent to slot 0, which is still empty
+pub early_loses : LosesBucket send_then_fill
+early_loses = record {
+  scene = small;
+  steps = held ++ Post 0 0 0 0 7 ∷ Fill 0 0 ∷ [];
+  bucket = 0;
+  slot = 0;
+  lap = 0;
+  sent = refl;
+  not_in = λ has. absurd (cc);
+}
+
+-- the process is killed after it has filled slot 0, and the entry names no slot
+pub unentered_frees : FreesMessage post_fills_first
+unentered_frees = record {
+  scene = small;
+  steps = held ++ Post 0 0 0 0 7 ∷ Fill 0 0 ∷ settled;
+  bucket = 0;
+  has = (0, (0, refl));
+  free = refl;
+}
+
+-- the party posts the message that it has taken to slot 1, and isn't done with slot 0
+pub undone_doubles : IsInTwo post_undone
+undone_doubles = record {
+  scene = small;
+  steps = taken ++ Post 0 0 1 0 7 ∷ Fill 0 0 ∷ [];
+  bucket = 0;
+  slot = 0;
+  other = 1;
+  one = (0, refl);
+  two = (0, refl);
+  apart = λ same. absurd (omega (arith, same));
+}
+
+-- OTHER CALLS OF A HOLDER
+
+-- the process is killed after the entry is cleared, and slot 0 still has the bucket
+pub cleared_frees : FreesMessage done_clears_first
+cleared_frees = record {
+  scene = small;
+  steps = taken ++ Done 0 0 0 0 1 ∷ settled;
+  bucket = 0;
+  has = (0, (0, refl));
+  free = refl;
+}
+
+pub undone_frees : FreesMessage deallocate_undone
+undone_frees = record {
+  scene = small;
+  steps = taken ++ Deallocate 0 0 0 ∷ [];
+  bucket = 0;
+  has = (0, (0, refl));
+  free = refl;
+}
+
+pub undone_detaches : DetachesMessage detach_undone
+undone_detaches = record {
+  scene = small;
+  steps = taken ++ DetachNumber 0 0 0 ∷ [];
+  bucket = 0;
+  party = 0;
+  has = (0, (0, refl));
+  detached = refl;
+}
+
+-- SETTLERS
+
+-- a settler of number 1 takes back the bucket that number 0 has sent
+pub any_frees : FreesMessage recover_any
 any_frees = record {
   scene = small;
-  steps = lost_and_posted;
+  steps = posted ++ Lock 1 1 ∷ Count 1 1 ∷ Recover 1 ∷ [];
   bucket = 0;
-  has = (0, (7, refl));
+  has = (0, (0, refl));
   free = refl;
 }
 
--- a process is killed in a post, and its number is settled
-abbrev killed_in_post : List FileStep
-killed_in_post = joining 0 0
-    ++ Allocate 0 0 0 ∷ Post 0 0 0 0 7 ∷ Kill 0 ∷ Release 0 0 ∷ Lock 1 0 ∷ Count 1 2 ∷ Next 1 ∷ Next 1 ∷ []
-
-pub forgetting_frees : FreesMessage settle_forgets_slots
-forgetting_frees = record {
+-- the process is killed after it has filled slot 0
+pub skipping_frees : FreesMessage settle_skips_entries
+skipping_frees = record {
   scene = small;
-  steps = killed_in_post;
+  steps = held ++ Post 0 0 0 0 7 ∷ Fill 0 0 ∷ settled;
   bucket = 0;
-  has = (0, (7, refl));
+  has = (0, (0, refl));
   free = refl;
 }
 
--- a process is killed in a post, after it has detached the bucket, and its number is settled by one
--- that takes back such buckets
-abbrev killed_when_sent : List FileStep
-killed_when_sent = joining 0 0
-    ++ Allocate 0 0 0 ∷ Post 0 0 0 0 7 ∷ Next 0 ∷ Kill 0 ∷ Release 0 0
-    ∷ Lock 1 0 ∷ Count 1 2 ∷ Next 1 ∷ Next 1 ∷ Next 1 ∷ Next 1 ∷ Recover 1 0 ∷ Next 1 ∷ []
-
-pub unaddressed_frees : FreesMessage settle_addresses_not
-unaddressed_frees = record {
+-- the process is killed before it has filled slot 0, which the entry names
+pub blindly_loses : LosesBucket settle_sends_blindly
+blindly_loses = record {
   scene = small;
-  steps = killed_when_sent;
+  steps = held ++ Post 0 0 0 0 7 ∷ settled;
   bucket = 0;
-  has = (0, (7, refl));
-  free = refl;
-}
-
--- another process takes the message and detaches the bucket by its number, between a take's look
--- and its exchange
-abbrev taken_meanwhile : List FileStep
-taken_meanwhile = joining 0 0 ++ joining 1 1
-    ++ Allocate 0 0 0 ∷ Post 0 0 0 0 7 ∷ Next 0 ∷ Next 0 ∷ Take 1 1 0
-    ∷ Take 0 0 0 ∷ Exchange 0 2 ∷ Next 0 ∷ Done 0 0 0 ∷ Next 0 ∷ Next 0 ∷ DetachNumber 0 0 0
-    ∷ Exchange 1 0 ∷ []
-
-pub unlooked_receives : ReceivesNothing no_second_look
-unlooked_receives = record {
-  scene = small;
-  steps = taken_meanwhile;
-  step = Next 1;
   slot = 0;
-  received = refl;
-  empty = refl;
+  lap = 0;
+  sent = refl;
+  not_in = λ has. absurd (cc);
 }
 
-abbrev posted_once : List FileStep
-posted_once = joining 0 0 ++ Allocate 0 0 0 ∷ Post 0 0 0 0 7 ∷ []
+-- LOCKS AND LIVES
 
-unsent_then : (words : FileWords) → slice_get words.outside 0 ≡ Some None → ¬ IsOutside words 0
-unsent_then words is (party, sent) = absurd (cc)
-
-unknown_then : (words : FileWords) → ¬ IsInSome words 0 → slice_get words.outside 0 ≡ Some None → ¬ IsKnown words 0
-unknown_then words not_in is (inl has) = not_in has
-unknown_then words not_in is (inr told) = unsent_then words is told
-
-pub early_loses : LosesBucket detach_then_post
-early_loses =
-    let words : FileWords = (wrong_left_by detach_then_post small posted_once).words in
-    record {
-      scene = small;
-      steps = posted_once;
-      bucket = 0;
-      party = 0;
-      detached = refl;
-      unknown = unknown_then words (in_none words 0 refl) refl;
-    }
-
-abbrev settled_alive : List FileStep
-settled_alive = joining 0 0 ++ Allocate 0 0 0 ∷ Lock 1 0 ∷ Next 1 ∷ Next 1 ∷ []
-
+-- process 1 settles the number of process 0, which is alive
 pub reaping_takes : TakesAway reaps_the_living
 reaping_takes = record {
   scene = small;
-  steps = settled_alive;
+  steps = held ++ Lock 1 0 ∷ [];
   step = Next 1;
   process = 0;
   party = 0;
@@ -119,59 +161,15 @@ reaping_takes = record {
   free = refl;
 }
 
--- a take attaches a bucket that its receiver has sent on by number, and leaves its own name; then
--- its process is killed, and its number is settled
-abbrev late_and_killed : List FileStep
-late_and_killed = taken_meanwhile
-    ++ Next 1 ∷ Next 1 ∷ Next 1 ∷ Next 1 ∷ Kill 1 ∷ Release 1 1 ∷ Lock 2 1 ∷ Count 2 2 ∷ Next 2 ∷ Next 2 ∷ []
-
-pub keeping_recovers : RecoversAnothers late_take_keeps_name
-keeping_recovers = record {
-  scene = small;
-  steps = late_and_killed;
-  process = 2;
-  bucket = 0;
-  party = 1;
-  sender = 0;
-  recovered = refl;
-  sent = refl;
-  living = (0, refl, (λ dead. absurd (cc)));
-  apart = λ same. absurd (omega (arith, same));
-}
-
--- A take attaches a bucket that was posted again since the take's look, before its sender has
--- addressed it. The sender is killed, and a settler of its number passes the slot; then the take
--- puts the flag back.
-abbrev late_and_posted : List FileStep
-late_and_posted = joining 0 0 ++ joining 1 1
-    ++ Allocate 0 0 0 ∷ Post 0 0 0 0 7 ∷ Next 0 ∷ Next 0 ∷ Take 1 1 0
-    ∷ Take 0 0 0 ∷ Exchange 0 2 ∷ Next 0 ∷ Done 0 0 0 ∷ Next 0 ∷ Next 0
-    ∷ Post 0 0 0 0 8 ∷ Next 0 ∷ Exchange 1 0 ∷ Next 1
-    ∷ Kill 0 ∷ Release 0 0 ∷ Lock 2 0 ∷ Count 2 2 ∷ Next 2 ∷ Next 2 ∷ Next 2
-    ∷ Next 1 ∷ Recover 2 0 ∷ Next 2 ∷ []
-
-pub unlooking_frees : FreesMessage late_take_looks_not
-unlooking_frees = record {
-  scene = small;
-  steps = late_and_posted;
-  bucket = 0;
-  has = (0, (8, refl));
-  free = refl;
-}
-
 -- the steps by which a process joins with a number without counting
 abbrev joining_uncounted : ℕ → ℕ → List FileStep
-joining_uncounted process party =
-    Lock process party ∷ Next process ∷ Next process ∷ Next process ∷ Next process ∷ Next process ∷ []
-
-abbrev killed_and_joined : List FileStep
-killed_and_joined = Kill 0 ∷ Release 0 0 ∷ joining_uncounted 1 0
+joining_uncounted process party = Lock process party ∷ Next process ∷ Next process ∷ Next process ∷ []
 
 pub uncounted_shares : SharesLife join_counts_not
 uncounted_shares = record {
   scene = small;
   before = joining_uncounted 0 0;
-  after = killed_and_joined;
+  after = Kill 0 ∷ Release 0 0 ∷ joining_uncounted 1 0;
   process = 0;
   other = 1;
   party = 0;
@@ -195,17 +193,15 @@ uncounted_shares = record {
   };
 }
 
-abbrev left_and_joined : List FileStep
-left_and_joined = joining 0 0 ++ Leave 0 0 ∷ Lock 1 0 ∷ Count 1 2 ∷ []
-
+-- process 1 takes the lock while process 0 still settles the number
 pub unlocking_shares : SharesNumber unlock_before
 unlocking_shares = record {
   scene = small;
-  steps = left_and_joined;
+  steps = joining 0 0 ++ Leave 0 0 ∷ Lock 1 0 ∷ Count 1 2 ∷ [];
   process = 0;
   other = 1;
   party = 0;
   apart = λ same. absurd (omega (arith, same));
-  one = (Slots 0 0, refl, refl);
-  two = (Slots 0 0, refl, refl);
+  one = (Flags 0 0, refl, refl);
+  two = (Flags 0 0, refl, refl);
 }

@@ -1,6 +1,6 @@
 -- Protocols that differ from the machine's at one step, and what goes wrong with each.
 use Rattle.bb_memory_file_machine.specs.FileLaws.{HasCounted, IsFlag, IsHolder, IsIn, IsInCallBy, IsInSome, IsLock}
-use Rattle.bb_memory_file_machine.specs.FileMachine.{Clearing, Deallocate, Detach, DetachNumber, DetachedBy, Done, Entry, FileChange, FileFlag, FileMove, FileOutcome, FileScene, FileState, FileStep, FileWords, Fill, Flags, Free, HeldBy, In, Leave, Lock, Moves, Next, OnEntry, OnFlag, OnLock, OnSlot, Outside, Place, Post, Posting, Receives, Recover, Refused, Sending, SentTo, Take, attaching, change_by, clearing, done, fill, finds_free, giving_back, is_flag, lap_of, may_call, move_at, move_of, opening_state, process_of, sending, with_entry, with_flag, with_lock, with_slot}
+use Rattle.bb_memory_file_machine.specs.FileMachine.{Deallocate, Detach, DetachNumber, DetachedBy, Done, Entry, FileChange, FileFlag, FileMove, FileOutcome, FileScene, FileState, FileStep, FileWords, Fill, Flags, Free, HeldBy, In, Leave, Lock, Moves, Next, OnEntry, OnFlag, OnLock, OnSlot, Outside, Place, Post, Posting, Receives, Recover, Refused, SentTo, Take, attaching, change_by, clearing, done, fill, finds_free, giving_back, is_flag, may_call, move_at, move_of, opening_state, process_of, sending, with_entry, with_flag, with_lock}
 use Rattle.bb_memory_file_machine.specs.FileMachine as machine
 use Rattle.std.specs.Prelude.{Bool, List, None, Option, Some, [], false, if◌then◌else◌, slice_get, true, ℕ, ◌∷◌, ◌≡◌, ◌≢◌}
 
@@ -89,7 +89,8 @@ detach_undone words place step = None
 
 -- SETTLERS
 
--- the move by which a settler attaches a bucket with this flag, whoever has sent or detached it
+-- The move by which a settler takes back a bucket with this flag, whoever has sent or detached it.
+-- The settler frees a bucket that is sent, and attaches one that is detached, which it frees next.
 abbrev pub attach_any : FileWords → ℕ → ℕ → Option FileFlag → Option FileMove
 attach_any words party bucket (Some (DetachedBy from)) = Some (attaching words party bucket from (Flags party bucket))
 attach_any words party bucket (Some (SentTo slot lap)) = Some (giving_back words party bucket (Flags party bucket))

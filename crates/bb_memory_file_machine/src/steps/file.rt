@@ -7,7 +7,7 @@ ghost use Rattle.bb_memory_pool_machine.specs.PoolLogs.{AreAsked, IsPoolRun, Lay
 ghost use Rattle.bb_memory_traits.specs.Chunk.{Chunk, IsSound};
 ghost use Rattle.bb_memory_traits.specs.PoolObject.{IsPoolGeometry, PoolGeometry};
 ghost use Rattle.bb_memory_traits.specs.PoolObject as objects;
-ghost use Rattle.std.specs.Prelude.{List, Some, slice_get, ℕ, ◌<◌, ◌↔◌, ◌≡◌, ◌≢◌, ◌≤◌, ◌⊎◌};
+ghost use Rattle.std.specs.Prelude.{List, ℕ, ◌<◌, ◌↔◌, ◌≡◌, ◌≢◌, ◌≤◌, ◌⊎◌};
 
 use bb_memory_pool_machine::steps::PoolStep;
 
@@ -209,11 +209,7 @@ pub enum FileOutcome {
     Sends { bucket: u32, party: u32 },
     /// A flag changed: the party has received the message in this bucket, which is in the slot, and
     /// now holds the bucket.
-    Receives {
-        slot: u32,
-        bucket: u32,
-        party: u32,
-    },
+    Receives { slot: u32, bucket: u32, party: u32 },
     /// The entry of this bucket changed.
     OnEntry(u32),
     /// The word of this slot changed.

@@ -1,10 +1,10 @@
 //! The law about the kinds of steps of the machine of a pool in a file: each is possible.
-ghost use Rattle.bb_memory_file_machine.specs.FileLaws.{IsFlag, IsHolder, IsIn, IsInSome, IsLife, IsLock, IsPlace, IsSlot};
-ghost use Rattle.bb_memory_file_machine.specs.FileMachine.{Addresses, Addressing, Allocate, AttachFrom, AttachNumber, Attached, Checking, Count, Counting, Dead, Deallocate, Detach, DetachNumber, DetachedBy, Dies, Done, Empty, Ending, Exchange, FileState, Finding, Flags, Free, GiveBack, HeldBy, Keeping, Kill, Late, Leave, Lock, Message, Moves, Next, OnFlag, OnLife, OnLock, OnSlot, Outside, Place, Post, Posting, PutsBack, Receives, Recover, Release, Returning, Seen, Sent, Settled, Slots, Take, TryAt, Unlock, nobody, with_flag, with_life, with_lock, with_outside, with_slot};
+ghost use Rattle.bb_memory_file_machine.specs.FileLaws.{IsEntry, IsFlag, IsHolder, IsIn, IsLife, IsLock, IsPlace, IsSlot};
+ghost use Rattle.bb_memory_file_machine.specs.FileMachine.{Allocate, AttachFrom, AttachNumber, Clearing, Count, Counting, Dead, Deallocate, Detach, DetachNumber, DetachedBy, Dies, Done, Empty, FileState, Fill, Flags, Free, GiveBack, HeldBy, In, Kill, Leave, Lock, Message, Moves, Next, Nowhere, OnEntry, OnFlag, OnLife, OnLock, OnSlot, Outside, Place, Post, Posting, PutBack, Receives, Recover, Release, Sending, Sends, SentTo, Settled, Take, TryAt, Unlock, with_entry, with_flag, with_life, with_lock, with_slot};
 ghost use Rattle.bb_memory_file_machine.specs.FileMoves.{IsUnlocked, Makes, MayBegin};
 ghost use Rattle.std.specs.Prelude.{None, Some, length, ℕ, ◌+◌, ◌<◌, ◌≤◌};
 
-/// States that each kind of step is possible: if the places, locks, flags and slots are as its clause
+/// States that each kind of step is possible: if the places, locks and words are as its clause
 /// requires, the step makes the change of its clause, and no other. The function does nothing: its
 /// contract is the law.
 ///
@@ -23,11 +23,11 @@ pub fn file_steps_law()
     // number.
     ensures counts { (state : FileState) (process party life more : ℕ) → IsPlace state process (Counting party)
         → IsLife state.words party life → life < more
-        → Makes state (Count process more) (OnLife party) (with_life state.words party more) (Slots party 0) }
+        → Makes state (Count process more) (OnLife party) (with_life state.words party more) (Flags party 0) }
 
     // A process begins to settle a number whose lock it has.
     ensures leaves { (state : FileState) (process party : ℕ) → MayBegin state process party
-        → Makes state (Leave process party) Moves state.words (Slots party 0) }
+        → Makes state (Leave process party) Moves state.words (Flags party 0) }
 
     // FLAGS
 
@@ -37,184 +37,100 @@ pub fn file_steps_law()
         → Makes state (Allocate process party bucket)
         (OnFlag (TryAt party bucket)) (with_flag state.words bucket (HeldBy party)) Outside }
 
-    // A party gives back a bucket that it holds and that is in no slot.
+    // A party gives back a bucket that it holds, and whose entry names no slot.
     ensures deallocates { (state : FileState) (process party bucket : ℕ) → MayBegin state process party
-        → IsHolder state.words bucket party → ¬ IsInSome state.words bucket
+        → IsHolder state.words bucket party → IsEntry state.words bucket Nowhere
         → Makes state (Deallocate process party bucket)
         (OnFlag (GiveBack party bucket)) (with_flag state.words bucket Free) Outside }
 
-    // A party detaches a bucket that it holds and that is in no slot. From then on a channel
-    // outside knows the bucket's number.
+    // A party detaches, by its number, a bucket that it holds, and whose entry names no slot.
     ensures detaches { (state : FileState) (process party bucket : ℕ) → MayBegin state process party
-        → IsHolder state.words bucket party → ¬ IsInSome state.words bucket
-        → Makes state (DetachNumber process party bucket) (OnFlag (Detach party bucket))
-        (with_flag (with_outside state.words bucket (Some party)) bucket (DetachedBy party)) Outside }
-
-    // A party that has taken a message puts it back: it detaches the bucket, which is in a slot.
-    ensures puts_back { (state : FileState) (process party bucket : ℕ) → MayBegin state process party
-        → IsHolder state.words bucket party → IsInSome state.words bucket
+        → IsHolder state.words bucket party → IsEntry state.words bucket Nowhere
         → Makes state (DetachNumber process party bucket)
         (OnFlag (Detach party bucket)) (with_flag state.words bucket (DetachedBy party)) Outside }
 
-    // A party attaches, by its number, a bucket that the party `from` has detached. No channel
-    // outside knows the number any more.
+    // A party attaches, by its number, a bucket that the party `from` has detached.
     ensures attaches { (state : FileState) (process party bucket from : ℕ) → MayBegin state process party
         → IsFlag state.words bucket (DetachedBy from)
-        → Makes state (AttachNumber process party bucket from) (OnFlag (AttachFrom party bucket from))
-        (with_flag (with_outside state.words bucket None) bucket (HeldBy party)) Outside }
+        → Makes state (AttachNumber process party bucket from)
+        (OnFlag (AttachFrom party bucket from)) (with_flag state.words bucket (HeldBy party)) Outside }
 
     // POSTS
 
-    // A party fills an empty slot with a bucket that it holds and that is in no slot. No channel
-    // outside counts as knowing the number any more.
+    // A post begins with a bucket that its party holds, and whose entry names no slot: it writes the
+    // slot and the length of the message into the entry.
     ensures posts { (state : FileState) (process party slot bucket size : ℕ) → MayBegin state process party
-        → IsHolder state.words bucket party → ¬ IsInSome state.words bucket → IsSlot state.words slot Empty
+        → IsHolder state.words bucket party → IsEntry state.words bucket Nowhere
         → Makes state (Post process party slot bucket size)
-        (OnSlot slot) (with_slot (with_outside state.words bucket None) slot (Message bucket size)) (Posting party bucket) }
+        (OnEntry bucket) (with_entry state.words bucket (In slot size)) (Posting party slot bucket) }
 
-    // A post, or a take that is late, detaches the bucket that is in a slot.
-    ensures post_detaches { (state : FileState) (process party bucket : ℕ)
-        → IsPlace state process (Posting party bucket)
+    // A post fills its slot, which is empty, at the slot's lap.
+    ensures post_fills { (state : FileState) (process party slot bucket lap : ℕ)
+        → IsPlace state process (Posting party slot bucket) → IsSlot state.words slot (Empty lap)
+        → Makes state (Fill process lap)
+        (OnSlot slot) (with_slot state.words slot (Message lap bucket)) (Sending party slot bucket lap) }
+
+    // A post that has filled its slot sends the bucket there, at the slot's lap, and ends.
+    ensures post_sends { (state : FileState) (process party slot bucket lap : ℕ)
+        → IsPlace state process (Sending party slot bucket lap)
         → Makes state (Next process)
-        (OnFlag (Detach party bucket)) (with_flag state.words bucket (DetachedBy party)) (Sent party bucket) }
+        (Sends bucket party) (with_flag state.words bucket (SentTo slot lap)) Outside }
 
-    // A post, or a take that is late, addresses the bucket in a slot to the number that nobody
-    // joins.
-    ensures post_addresses { (state : FileState) (process party bucket : ℕ)
-        → IsPlace state process (Sent party bucket) → IsFlag state.words bucket (DetachedBy party)
-        → Makes state (Next process) (Addresses bucket party (nobody state.words))
-        (with_flag state.words bucket (DetachedBy (nobody state.words))) Outside }
-
-    // A post, or a take that is late, changes nothing more if its bucket has been attached already.
-    ensures post_is_taken { (state : FileState) (process party bucket : ℕ)
-        → IsPlace state process (Sent party bucket) → ¬ IsFlag state.words bucket (DetachedBy party)
-        → Makes state (Next process) Moves state.words Outside }
+    // A post that hasn't filled its slot, as the slot is full, clears the bucket's entry, and ends.
+    ensures post_gives_up { (state : FileState) (process party slot bucket : ℕ)
+        → IsPlace state process (Posting party slot bucket)
+        → Makes state (Next process) (OnEntry bucket) (with_entry state.words bucket Nowhere) Outside }
 
     // TAKES
 
-    // A party begins a take at a slot that has a message.
-    ensures takes { (state : FileState) (process party slot bucket size : ℕ) → MayBegin state process party
-        → IsSlot state.words slot (Message bucket size)
-        → Makes state (Take process party slot) Moves state.words (Seen party slot bucket size) }
+    // A party takes the message in a bucket that is sent to a slot, and holds the bucket from then
+    // on.
+    ensures takes { (state : FileState) (process party slot bucket lap : ℕ) → MayBegin state process party
+        → IsFlag state.words bucket (SentTo slot lap)
+        → Makes state (Take process party slot bucket lap)
+        (Receives slot bucket party) (with_flag state.words bucket (HeldBy party)) Outside }
 
-    // A take attaches the bucket that it has seen, which the party `from` has detached.
-    ensures take_attaches { (state : FileState) (process party slot bucket size from : ℕ)
-        → IsPlace state process (Seen party slot bucket size) → IsFlag state.words bucket (DetachedBy from)
-        → Makes state (Exchange process from) (OnFlag (AttachFrom party bucket from))
-        (with_flag state.words bucket (HeldBy party)) (Attached party slot bucket size from) }
+    // A party puts back the message in a bucket that it holds: it sends the bucket again to the slot
+    // that has it, at the slot's lap.
+    ensures puts_back { (state : FileState) (process party slot bucket lap : ℕ) → MayBegin state process party
+        → IsHolder state.words bucket party → IsSlot state.words slot (Message lap bucket)
+        → Makes state (PutBack process party slot bucket)
+        (Sends bucket party) (with_flag state.words bucket (SentTo slot lap)) Outside }
 
-    // A take that hasn't attached its bucket ends.
-    ensures take_ends { (state : FileState) (process party slot bucket size : ℕ)
-        → IsPlace state process (Seen party slot bucket size)
-        → Makes state (Next process) Moves state.words Outside }
+    // A party that holds the bucket of a message begins a `done`: it empties the slot, which goes on
+    // with any lap.
+    ensures says_done { (state : FileState) (process party slot bucket lap next : ℕ) → MayBegin state process party
+        → IsHolder state.words bucket party → IsSlot state.words slot (Message lap bucket)
+        → Makes state (Done process party slot bucket next)
+        (OnSlot slot) (with_slot state.words slot (Empty next)) (Clearing party bucket) }
 
-    // A take has received the message if the slot still has it at the second look.
-    ensures take_receives { (state : FileState) (process party slot bucket size from : ℕ)
-        → IsPlace state process (Attached party slot bucket size from) → IsSlot state.words slot (Message bucket size)
-        → Makes state (Next process) (Receives slot) state.words Outside }
-
-    // A take is late if the slot has another word at the second look. It goes over the slots.
-    ensures take_is_late { (state : FileState) (process party slot bucket size from : ℕ)
-        → IsPlace state process (Attached party slot bucket size from) → ¬ IsSlot state.words slot (Message bucket size)
-        → Makes state (Next process) Moves state.words (Late party bucket from 0) }
-
-    // A take that is late passes a slot that hasn't the bucket.
-    ensures take_passes { (state : FileState) (process party bucket from slot : ℕ)
-        → IsPlace state process (Late party bucket from slot) → ¬ IsIn state.words bucket slot
-        → slot < length state.words.slots
-        → Makes state (Next process) Moves state.words (Late party bucket from (slot + 1)) }
-
-    // A take that is late, and finds the bucket in a slot, goes on as a post that has filled it.
-    ensures take_finds { (state : FileState) (process party bucket from slot : ℕ)
-        → IsPlace state process (Late party bucket from slot) → IsIn state.words bucket slot
-        → Makes state (Next process) Moves state.words (Posting party bucket) }
-
-    // A take that is late has been over all slots.
-    ensures take_ends_slots { (state : FileState) (process party bucket from slot : ℕ)
-        → IsPlace state process (Late party bucket from slot) → length state.words.slots ≤ slot
-        → Makes state (Next process) Moves state.words (Returning party bucket from) }
-
-    // A take that is late, and has found the bucket in no slot, puts the flag back as it found it.
-    ensures take_puts_back { (state : FileState) (process party bucket from : ℕ)
-        → IsPlace state process (Returning party bucket from)
-        → Makes state (Next process)
-        (PutsBack bucket party from) (with_flag state.words bucket (DetachedBy from)) Outside }
-
-    // A party begins a `done` at a slot that has a message.
-    ensures says_done { (state : FileState) (process party slot bucket size : ℕ) → MayBegin state process party
-        → IsSlot state.words slot (Message bucket size)
-        → Makes state (Done process party slot) Moves state.words (Finding party slot bucket) }
-
-    // A `done` goes on if its party holds the message's bucket.
-    ensures done_finds_own { (state : FileState) (process party slot bucket : ℕ)
-        → IsPlace state process (Finding party slot bucket) → IsHolder state.words bucket party
-        → Makes state (Next process) Moves state.words (Ending party slot bucket) }
-
-    // A `done` ends if its party doesn't hold the message's bucket.
-    ensures done_ends { (state : FileState) (process party slot bucket : ℕ)
-        → IsPlace state process (Finding party slot bucket) → ¬ IsHolder state.words bucket party
-        → Makes state (Next process) Moves state.words Outside }
-
-    // A `done` empties its slot.
-    ensures done_empties { (state : FileState) (process party slot bucket : ℕ)
-        → IsPlace state process (Ending party slot bucket)
-        → Makes state (Next process) (OnSlot slot) (with_slot state.words slot Empty) Outside }
+    // A `done` that has emptied its slot clears the bucket's entry, and ends.
+    ensures done_clears { (state : FileState) (process party bucket : ℕ)
+        → IsPlace state process (Clearing party bucket)
+        → Makes state (Next process) (OnEntry bucket) (with_entry state.words bucket Nowhere) Outside }
 
     // SETTLERS
 
-    // A settler passes an empty slot.
-    ensures settler_passes_empty { (state : FileState) (process party slot : ℕ)
-        → IsPlace state process (Slots party slot) → IsSlot state.words slot Empty
-        → Makes state (Next process) Moves state.words (Slots party (slot + 1)) }
+    // A settler sends a bucket that the settled number holds to the slot that the entry names, if
+    // the slot has it, at the slot's lap.
+    ensures settler_sends { (state : FileState) (process party bucket slot size lap : ℕ)
+        → IsPlace state process (Flags party bucket) → IsHolder state.words bucket party
+        → IsEntry state.words bucket (In slot size) → IsSlot state.words slot (Message lap bucket)
+        → Makes state (Next process)
+        (Sends bucket party) (with_flag state.words bucket (SentTo slot lap)) (Flags party (bucket + 1)) }
 
-    // A settler that finds a message in a slot looks at the flag of its bucket next.
-    ensures settler_finds { (state : FileState) (process party slot bucket size : ℕ)
-        → IsPlace state process (Slots party slot) → IsSlot state.words slot (Message bucket size)
-        → Makes state (Next process) Moves state.words (Checking party slot bucket) }
+    // A settler clears the entry of a bucket that the settled number holds, if the slot that the
+    // entry names hasn't the bucket, and stays at the bucket.
+    ensures settler_clears { (state : FileState) (process party bucket slot size : ℕ)
+        → IsPlace state process (Flags party bucket) → IsHolder state.words bucket party
+        → IsEntry state.words bucket (In slot size) → ¬ IsIn state.words bucket slot
+        → Makes state (Next process)
+        (OnEntry bucket) (with_entry state.words bucket Nowhere) (Flags party bucket) }
 
-    // A settler that has been over all slots goes over the flags.
-    ensures settler_ends_slots { (state : FileState) (process party slot : ℕ)
-        → IsPlace state process (Slots party slot) → length state.words.slots ≤ slot
-        → Makes state (Next process) Moves state.words (Flags party 0) }
-
-    // A settler keeps a message whose bucket the settled number holds.
-    ensures settler_keeps { (state : FileState) (process party slot bucket : ℕ)
-        → IsPlace state process (Checking party slot bucket) → IsHolder state.words bucket party
-        → Makes state (Next process) Moves state.words (Keeping party slot bucket) }
-
-    // A settler addresses a message whose bucket the settled number has detached.
-    ensures settler_finds_sent { (state : FileState) (process party slot bucket : ℕ)
-        → IsPlace state process (Checking party slot bucket) → IsFlag state.words bucket (DetachedBy party)
-        → Makes state (Next process) Moves state.words (Addressing party slot bucket) }
-
-    // A settler passes a message whose bucket the settled number neither holds nor has detached.
-    ensures settler_passes_others { (state : FileState) (process party slot bucket : ℕ)
-        → IsPlace state process (Checking party slot bucket) → ¬ IsHolder state.words bucket party
-        → ¬ IsFlag state.words bucket (DetachedBy party) → slot < length state.words.slots
-        → Makes state (Next process) Moves state.words (Slots party (slot + 1)) }
-
-    // A settler detaches the bucket of a message that it keeps.
-    ensures settler_detaches { (state : FileState) (process party slot bucket : ℕ)
-        → IsPlace state process (Keeping party slot bucket)
-        → Makes state (Next process) (OnFlag (Detach party bucket))
-        (with_flag state.words bucket (DetachedBy party)) (Addressing party slot bucket) }
-
-    // A settler addresses the bucket to the number that nobody joins.
-    ensures settler_addresses { (state : FileState) (process party slot bucket : ℕ)
-        → IsPlace state process (Addressing party slot bucket) → IsFlag state.words bucket (DetachedBy party)
-        → slot < length state.words.slots
-        → Makes state (Next process) (Addresses bucket party (nobody state.words))
-        (with_flag state.words bucket (DetachedBy (nobody state.words))) (Slots party (slot + 1)) }
-
-    // A settler passes a message whose bucket has been attached in the meantime.
-    ensures settler_passes_taken { (state : FileState) (process party slot bucket : ℕ)
-        → IsPlace state process (Addressing party slot bucket) → ¬ IsFlag state.words bucket (DetachedBy party)
-        → slot < length state.words.slots
-        → Makes state (Next process) Moves state.words (Slots party (slot + 1)) }
-
-    // A settler gives back a bucket that the settled number holds.
+    // A settler gives back a bucket that the settled number holds, and whose entry names no slot.
     ensures settler_gives_back { (state : FileState) (process party bucket : ℕ)
         → IsPlace state process (Flags party bucket) → IsHolder state.words bucket party
+        → IsEntry state.words bucket Nowhere
         → Makes state (Next process)
         (OnFlag (GiveBack party bucket)) (with_flag state.words bucket Free) (Flags party (bucket + 1)) }
 
@@ -229,12 +145,12 @@ pub fn file_steps_law()
         → IsPlace state process (Flags party bucket) → length state.words.flags ≤ bucket
         → Makes state (Next process) Moves state.words (Settled party) }
 
-    // A settler that has been over all slots takes back a bucket that the settled number has
-    // detached, and goes over the flags again. No channel outside knows the number any more.
-    ensures settler_recovers { (state : FileState) (process party at bucket : ℕ)
-        → IsPlace state process (Flags party at) → IsFlag state.words bucket (DetachedBy party)
-        → Makes state (Recover process bucket) (OnFlag (AttachFrom party bucket party))
-        (with_flag (with_outside state.words bucket None) bucket (HeldBy party)) (Flags party 0) }
+    // A settler attaches the bucket to which it has come, if the settled number has detached it, and
+    // stays there.
+    ensures settler_recovers { (state : FileState) (process party bucket : ℕ)
+        → IsPlace state process (Flags party bucket) → IsFlag state.words bucket (DetachedBy party)
+        → Makes state (Recover process)
+        (OnFlag (AttachFrom party bucket party)) (with_flag state.words bucket (HeldBy party)) (Flags party bucket) }
 
     // A settler that is done counts any greater life, as one that leaves does.
     ensures settler_counts { (state : FileState) (process party life more : ℕ) → IsPlace state process (Settled party)
@@ -249,8 +165,8 @@ pub fn file_steps_law()
     ensures settler_unlocks { (state : FileState) (process party : ℕ) → IsPlace state process (Settled party)
         → Makes state (Unlock process) (OnLock party) (with_lock state.words party None) Outside }
 
-    // A settler that hasn't looked at a slot yet frees the lock.
-    ensures settler_gives_up { (state : FileState) (process party : ℕ) → IsPlace state process (Slots party 0)
+    // A settler that has settled no bucket yet frees the lock.
+    ensures settler_gives_up { (state : FileState) (process party : ℕ) → IsPlace state process (Flags party 0)
         → Makes state (Unlock process) (OnLock party) (with_lock state.words party None) Outside }
 
     // KILLS

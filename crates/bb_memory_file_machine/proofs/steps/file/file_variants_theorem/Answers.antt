@@ -1,16 +1,19 @@
-use Rattle.bb_memory_file_machine.proofs.FileCounterexamples.{any_frees, early_loses, forgetting_frees, keeping_recovers, reaping_takes, unaddressed_frees, uncounted_shares, unlocking_shares, unlooked_receives, unlooking_frees}
+use Rattle.bb_memory_file_machine.proofs.FileCounterexamples.{any_frees, any_receives, blindly_loses, cleared_frees, early_loses, reaping_takes, skipping_frees, uncounted_shares, undone_detaches, undone_doubles, undone_frees, unentered_frees, unlocking_shares}
 use Rattle.bb_memory_file_machine.proofs.steps.file.file_variants_theorem.Goals as goal
 
 pub returns : goal.returns
 returns c = record {
-  attach_from_any = any_frees;
-  no_second_look = unlooked_receives;
-  settle_forgets_slots = forgetting_frees;
-  settle_addresses_not = unaddressed_frees;
-  detach_then_post = early_loses;
+  take_any = any_receives;
+  send_then_fill = early_loses;
+  post_fills_first = unentered_frees;
+  post_undone = undone_doubles;
+  done_clears_first = cleared_frees;
+  deallocate_undone = undone_frees;
+  detach_undone = undone_detaches;
+  recover_any = any_frees;
+  settle_skips_entries = skipping_frees;
+  settle_sends_blindly = blindly_loses;
   reaps_the_living = reaping_takes;
-  late_take_keeps_name = keeping_recovers;
-  late_take_looks_not = unlooking_frees;
   join_counts_not = uncounted_shares;
   unlock_before = unlocking_shares;
 }
