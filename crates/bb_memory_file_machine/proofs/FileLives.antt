@@ -1,82 +1,23 @@
--- The lives of numbers: whoever takes a number's lock counts a greater life than all before.
-use Rattle.bb_memory_file_machine.proofs.FileEffects.{lock_before, one_value, other_number, set_cases}
+-- Whoever takes a number's lock counts a greater life than all before.
+use Rattle.bb_memory_file_machine.proofs.FileEffects.{lock_before, one_value, set_cases}
 use Rattle.bb_memory_file_machine.proofs.FileInvariant.{Holds}
 use Rattle.bb_memory_file_machine.proofs.FileKinds.{Kind, counts, dies, kind_of, locks, refuses, releases, unlocks, unlocks_first}
 use Rattle.bb_memory_file_machine.proofs.FileSteps.{effect_of, holds_always, holds_step}
-use Rattle.bb_memory_file_machine.proofs.FileTheorem.{effect_in}
-use Rattle.bb_memory_file_machine.specs.FileLaws.{CanCount, Effect, HasCounted, IsLife, IsLock, IsPlace}
+use Rattle.bb_memory_file_machine.proofs.FileTheorem.{life_effect}
+use Rattle.bb_memory_file_machine.specs.FileLaws.{Effect, HasCounted, IsLife, IsLock, IsPlace}
 use Rattle.bb_memory_file_machine.specs.FileLaws as laws
-use Rattle.bb_memory_file_machine.specs.FileMachine.{Counting, Dead, FileChange, FileMove, FileOutcome, FileScene, FileState, FileStep, FileWords, Flags, Lock, OnLock, Place, change_at, change_by, file_after, file_step, left_by, move_at, process_of}
+use Rattle.bb_memory_file_machine.specs.FileMachine.{Counting, Dead, FileChange, FileMove, FileOutcome, FileScene, FileState, FileStep, FileWords, Lock, OnLock, Place, change_at, change_by, file_after, file_step, left_by, move_at, process_of}
 use Rattle.bb_memory_lists.proofs.SliceGets.{slice_get-set, slice_get-set_apart, slice_get-set_at, slice_get-set_same}
-use Rattle.std.proofs.Common.{List, None, Option, Some, [], ap, arith, get_or, inl, inr, lt-ltb, refl, subst, sym, ℕ, ◌+◌, ◌<◌, ◌∙◌, ◌∷◌, ◌≡◌, ◌≢◌, ◌≤◌}
+use Rattle.std.proofs.Common.{List, None, Option, Some, [], ap, arith, inl, inr, refl, subst, sym, ℕ, ◌<◌, ◌∙◌, ◌∷◌, ◌≡◌, ◌≢◌, ◌≤◌}
 use Rattle.std.proofs.lemmas.Bool.{cases_eq}
-use Rattle.std.proofs.lemmas.Option.{slice_get-get_or, slice_get_within}
 use Rattle.std.specs.Prelude.{slice_get, slice_set, ◌⊎◌}
 
--- LIVES
-
--- after an effect, a number's life is at least what it was
-life_effect : (words later : FileWords) (process : ℕ) (outcome : FileOutcome) (party life more : ℕ) →
-    Effect words process outcome later → IsLife words party life → IsLife later party more → life ≤ more
-life_effect words later process outcome party life more (laws.counts number old new own is less) before now =
-    elim (set_cases words.lives number party new old more is now) [
-      | inl rest ↦ let same = one_value words.lives party life more before rest.1 in omega (arith, same)
-      | inr this ↦
-          let was = one_value words.lives number old life is (ap (slice_get words.lives) this.0 ∙ before) in
-          let new_is = this.1 in omega (arith, was, new_is, less)
-    ]
-life_effect words later process outcome party life more _ before now =
-    let same = one_value words.lives party life more before now in omega (arith, same)
-
-pub lives_always : (scene : FileScene) (steps : List FileStep) (step : FileStep) (party life more : ℕ) →
-    IsLife (left_by scene steps).words party life → IsLife (file_step (left_by scene steps) step).state.words party more →
-    life ≤ more
-lives_always scene steps step party life more before now =
-    let state : FileState = left_by scene steps in
-    let change : FileChange = file_step state step in
-    life_effect state.words change.state.words (process_of step) change.outcome party life more
-    (effect_in state step (holds_always scene steps)) before now
-
--- only the process that has a number's lock changes the number's life
-own_life_effect : (words later : FileWords) (process : ℕ) (outcome : FileOutcome) (party other life : ℕ) →
-    Effect words process outcome later → IsLock words party other → process ≢ other → IsLife words party life →
-    IsLife later party life
-own_life_effect words later process outcome party other life (laws.counts number old new own is less) lock apart before =
-    slice_get-set_apart words.lives number party new (other_number words number party process other own lock apart) ∙ before
-own_life_effect words later process outcome party other life _ lock apart before = before
-
-pub own_life_always : (scene : FileScene) (steps : List FileStep) (step : FileStep) (process party life : ℕ) →
-    IsLock (left_by scene steps).words party process → IsLife (left_by scene steps).words party life →
-    process_of step ≢ process → IsLife (file_step (left_by scene steps) step).state.words party life
-own_life_always scene steps step process party life lock before apart =
-    let state : FileState = left_by scene steps in
-    let change : FileChange = file_step state step in
-    own_life_effect state.words change.state.words (process_of step) change.outcome party process life
-    (effect_in state step (holds_always scene steps)) lock apart before
-
--- a number with a lock has a life
-life_there : (state : FileState) (process party : ℕ) → Holds state → IsLock state.words party process →
-    (life : ℕ) × IsLife state.words party life
-life_there state process party holds lock =
-    let below = slice_get_within state.words.locks party (Some process) lock in
-    let same = holds.sound.same_lives in
-    (get_or state.words.lives party 0, slice_get-get_or state.words.lives party 0 (omega (arith, below, same)))
-
-more_than : (n : ℕ) → n < n + 1
-more_than n = omega arith
-
-pub can_count : (scene : FileScene) (steps : List FileStep) (process party : ℕ) →
-    IsPlace (left_by scene steps) process (Counting party) → CanCount (left_by scene steps) process party
-can_count scene steps process party there =
-    let state : FileState = left_by scene steps in
-    let holds = holds_always scene steps in
-    let found = life_there state process party holds (holds.each process (Counting party) there) in (
-      found.0 + 1,
-      simp (there, found.1, lt-ltb found.0 (found.0 + 1) (more_than found.0))
-          (slice_get-set_same state.places process (Flags party 0) (Counting party) there),
-    )
-
--- ONE PROCESS OF A LIFE
+-- the effect of a step whose process is at this place
+effect_by : (state : FileState) (step : FileStep) (place : Place) → IsPlace state (process_of step) place → Holds state →
+    let move = move_at state.words place step in Effect state.words (process_of step) move.outcome move.words
+effect_by state step place there holds =
+    effect_of state.words place step (move_at state.words place step) (kind_of state.words place step) holds.sound
+    (holds.each (process_of step) place there)
 
 module _ (party life : ℕ) where
   -- a process with the number's lock that has come so far hasn't counted, or is dead
@@ -157,8 +98,7 @@ module _ (party life : ℕ) where
     (λ other at lock at_now.
         let move : FileMove = move_at state.words place step in
         let kind : Kind state.words place step move = kind_of state.words place step in
-        let effect : Effect state.words (process_of step) move.outcome move.words =
-        effect_of state.words place step move kind (holds.each (process_of step) place there) in
+        let effect : Effect state.words (process_of step) move.outcome move.words = effect_by state step place there holds in
         elim (set_cases state.places (process_of step) other move.place place at there at_now) [
           | inl rest ↦
               fresh other at (lock_before state.words move.words (process_of step) other party move.outcome effect rest.0 lock) rest.1
@@ -175,13 +115,11 @@ module _ (party life : ℕ) where
   counted_by state step None there holds is = is
   counted_by state step (Some place) there holds (inl beyond) =
       let move : FileMove = move_at state.words place step in
-      let effect : Effect state.words (process_of step) move.outcome move.words =
-      effect_of state.words place step move (kind_of state.words place step) (holds.each (process_of step) place there) in
+      let effect : Effect state.words (process_of step) move.outcome move.words = effect_by state step place there holds in
       inl (beyond_after state.words move.words (process_of step) move.outcome effect beyond)
   counted_by state step (Some place) there holds (inr uncounted) =
       let move : FileMove = move_at state.words place step in
-      let effect : Effect state.words (process_of step) move.outcome move.words =
-      effect_of state.words place step move (kind_of state.words place step) (holds.each (process_of step) place there) in
+      let effect : Effect state.words (process_of step) move.outcome move.words = effect_by state step place there holds in
       let found = life_after state.words move.words (process_of step) move.outcome life effect uncounted.0 in
       let most = life_effect state.words move.words (process_of step) move.outcome party life found.0 effect uncounted.0 found.1 in
       elim (same_or_more found.0 most) [
