@@ -201,7 +201,6 @@ def check_texts(top: Path) -> None:
     must_show([top / ".ci/pages"], top)
     show_rows(top)
     must_show([top / "tools/imports", "--check"], top)
-    layout.install()
     layout.run(top)
 
 
@@ -215,20 +214,25 @@ def ci_words(anew: bool) -> list[str]:
 def run_commands(top: Path, work: Path, anew: bool) -> str:
     """Runs `rt ci`, and beside it the parts of the gate that don't need all of its results.
 
-    Returns the output of `rt ci`. Raises Failed if a command fails.
+    The tools that hosts look for are installed before the parts that use them begin. Returns the
+    output of `rt ci`. Raises Failed if a command fails.
     """
     copy = work / libraries.COPY
     log = work / libraries.LOG
     nice: list[str | Path] = ["nice", "-n", str(NICE)]
-    with (
-        background("rt ci", ci_words(anew), copy, log) as rt_ci,
-        background("mutants", [*nice, top / ".ci/mutants", *["--anew"] * anew], top) as judged,
-        background("memrun on scripts", [top / ".ci/run-memrun"], top) as scripts,
-        background("hosts: C, C++ and Rust", [top / ".ci/run-c"], top) as hosts,
-    ):
+    with ExitStack() as parts:
+        rt_ci = parts.enter_context(background("rt ci", ci_words(anew), copy, log))
+        layout.install()
+        others = [
+            parts.enter_context(background(part, words, top))
+            for part, words in (
+                ("mutants", [*nice, top / ".ci/mutants", *["--anew"] * anew]),
+                ("memrun on scripts", [top / ".ci/run-memrun"]),
+                ("hosts: C, C++ and Rust", [top / ".ci/run-c"]),
+            )
+        ]
         with times.part("texts"):
             check_texts(top)
-        others = [judged, scripts, hosts]
         show_until_end(rt_ci, log, "rt: ", others)
         said = rt_ci.finish()
         (work / libraries.ENDED).touch()
