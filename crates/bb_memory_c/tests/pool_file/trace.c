@@ -156,7 +156,7 @@ enum hand {
 
 static bb_pool_file *file;
 static bb_pool_file *second;
-static bb_pool_party *handles[PARTIES];
+static bb_file_party *handles[PARTIES];
 static enum hand hands[PARTIES][BUCKETS];
 static uint32_t slots_of[BUCKETS];
 static uint32_t cached;
@@ -165,7 +165,7 @@ static uint32_t me;
 static struct shared *mine;
 
 static bb_place place_at(uint32_t party, uint32_t bucket) {
-    return bb_pool_party_place_at(handles[party], bucket).place;
+    return bb_file_party_place_at(handles[party], bucket).place;
 }
 
 static uint32_t count_joined(void) {
@@ -289,8 +289,8 @@ static uint32_t show(void) {
 }
 
 static void operate(void) {
-    bb_pool_party *party = mine->party < PARTIES ? handles[mine->party] : NULL;
-    bb_pool_party *joined = NULL;
+    bb_file_party *party = mine->party < PARTIES ? handles[mine->party] : NULL;
+    bb_file_party *joined = NULL;
     bb_chunk chunk = {BB_OK, NULL};
     bb_message message = {BB_OK, 0, NULL, 0};
     mine->got = 0;
@@ -301,7 +301,7 @@ static void operate(void) {
         mine->code = bb_pool_file_join(file, &joined);
         if (mine->code != BB_OK)
             break;
-        mine->got = (uint32_t)bb_pool_party_number(joined).number;
+        mine->got = (uint32_t)bb_file_party_number(joined).number;
         handles[mine->got] = joined;
         memset(hands[mine->got], 0, sizeof hands[mine->got]);
         break;
@@ -312,16 +312,16 @@ static void operate(void) {
     case LEAVE: mine->code = bb_pool_file_leave(file, party); break;
     case GIVE_ALL_BACK: mine->code = bb_pool_file_give_all_back(file, party); break;
     case FLUSH:
-        mine->code = bb_pool_party_flush(party);
+        mine->code = bb_file_party_flush(party);
         if (mine->len % 2 == 0)
-            mine->code = bb_pool_party_cache(party, cached);
+            mine->code = bb_file_party_cache(party, cached);
         break;
     case ALLOCATE:
-        chunk = bb_pool_party_take(party);
+        chunk = bb_file_party_take(party);
         mine->code = chunk.code;
         break;
     case DEALLOCATE:
-        mine->code = bb_pool_file_deallocate(file, party, place_at(mine->party, mine->bucket));
+        mine->code = bb_file_party_deallocate(party, place_at(mine->party, mine->bucket));
         break;
     case DETACH:
         mine->code = bb_pool_file_detach(file, party, place_at(mine->party, mine->bucket)).code;
@@ -340,7 +340,7 @@ static void operate(void) {
     default: mine->code = bb_pool_file_done(file, party, mine->slot);
     }
     if (mine->call == ALLOCATE && mine->code == BB_OK)
-        mine->got = (uint32_t)bb_pool_party_number_at(party, chunk.place).number;
+        mine->got = (uint32_t)bb_file_party_number_at(party, chunk.place).number;
 }
 
 // Notes what a call that succeeded has done to the party's buckets.
@@ -429,7 +429,7 @@ static void work(uint32_t process, uint32_t first_seed) {
         raise(SIGUSR1);
         if (mine->call == JOIN && mine->code == BB_OK) {
             if (cached > 0)
-                EXPECT(bb_pool_party_cache(handles[mine->got], cached) == BB_OK);
+                EXPECT(bb_file_party_cache(handles[mine->got], cached) == BB_OK);
             if (process % 4 < 2 && mine->idle[0] == 0)
                 start_idle();
         }
