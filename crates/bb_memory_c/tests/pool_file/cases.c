@@ -34,8 +34,9 @@
 enum {
     PAGE = 4096,
     // The first slot's word, in the file of OPTIONS: after the header, a page of words, and the
-    // line of events.
+    // line of events. After the slots, and a line of lives, comes the first bucket's entry.
     FIRST_SLOT = 2 * PAGE + 128,
+    FIRST_ENTRY = FIRST_SLOT + 4 * 128 + 128,
     // The file's state, and the machine's boot when it was made.
     STATE = 12,
     BOOT = 48,
@@ -413,6 +414,8 @@ static void impossible_options(void) {
         {8, (size_t)1 << 62, 1, 6, 4, 0, 0},
         {100, 8, 20, 6, 4, 0, SIZE_MAX},
         {100, 8, 20, 6, 4, 0, SIZE_MAX / 8 + 1},
+        {100, 8, 20, 6, UINT32_MAX - 5, 0, 0},
+        {100, 8, 20, 65535, UINT32_MAX, 0, 0},
     };
     for (size_t at = 0; at < sizeof impossible / sizeof *impossible; at++) {
         EXPECT(code_of(path, &impossible[at]) == BB_INVALID_ARGUMENT);
@@ -507,6 +510,10 @@ static void full(void) {
     large.bucket_size = (size_t)1 << 46;
     EXPECT(fails_with(ENOSPC, path, &large) && requested == 0);
     EXPECT(stat(path, &stat_of) == 0 && stat_of.st_size == 0 && stat_of.st_blocks == 0);
+    remove_it();
+    large.slots = UINT32_MAX - large.parties;  // as many as there can be
+    EXPECT(fails_with(ENOSPC, path, &large) && requested == 0);
+    large.slots = OPTIONS.slots;
     remove_it();
     const int fd = memfd_create("pool", MFD_CLOEXEC);
     bb_pool_file *file = NULL;
@@ -916,6 +923,26 @@ static void layouts(void) {
     }
 }
 
+// Returns the length of a new file.
+static off_t length_of(const bb_pool_file_options *options) {
+    struct stat stat_of;
+    EXPECT(code_of(path, options) == BB_OK && stat(path, &stat_of) == 0);
+    remove_it();
+    return stat_of.st_size;
+}
+
+// The buckets have entries of 8 bytes, but none if there are no slots. The rest of this file is a
+// page for the header, 4 for the flags, and 4 for the buckets.
+static void lengths(void) {
+    bb_pool_file_options options = {
+        .bucket_size = 8, .bucket_align = 8, .buckets = 2000, .parties = 1, .slots = 0};
+    EXPECT(length_of(&options) == (1 + 4 + 1 + 4) * PAGE);
+    options.slots = 1;
+    EXPECT(length_of(&options) == (1 + 4 + 4 + 4) * PAGE);
+    options.slots = 2;
+    EXPECT(length_of(&options) == (1 + 4 + 5 + 4) * PAGE);
+}
+
 static size_t memory_requests;
 static size_t memory_size;
 static size_t to_refuse;
@@ -1142,7 +1169,6 @@ static void parties(void) {
     EXPECT(bb_pool_file_join(one, &more) == BB_NO_PARTY);
     EXPECT(info_of(one).alive == 6 && info_of(two).alive == 6);
     const bb_place place = take_one(joined[1]);
-    EXPECT(bb_file_party_deallocate(joined[3], place) == BB_NOT_HELD);
     EXPECT(bb_file_party_deallocate(joined[3], place) == BB_NOT_HELD);
     EXPECT(bb_pool_file_leave(two, joined[1]) == BB_UNINITIALIZED);
     const uint64_t life = life_of(two, 1);
@@ -1399,9 +1425,9 @@ static void slots(void) {
     EXPECT(bb_pool_file_done(two, a, 4) == BB_INVALID_ARGUMENT);
     const bb_message seen = bb_pool_file_look(two, 0);
     EXPECT(seen.code == BB_OK && seen.len == 6);
-    // A message in a slot is detached by the number after the parties'.
+    // A message in slot 0 is detached by the number after the parties'.
     EXPECT(bb_pool_file_holder(two, seen.number, &flag) == BB_OK);
-    EXPECT(flag.state == BB_DETACHED && flag.party == 6);
+    EXPECT(flag.state == BB_DETACHED && flag.party == 6 && info_of(two).wrong == 0);
     EXPECT(bb_pool_file_holder(two, 20, &flag) == BB_NOT_A_BUCKET);
     const bb_message got = bb_pool_file_take(two, a, 0);
     EXPECT(got.code == BB_OK && got.len == 6 && strcmp(got.place, "hello") == 0);
@@ -1411,16 +1437,461 @@ static void slots(void) {
     EXPECT(bb_pool_file_take(two, b, 0).code == BB_NOT_HELD);
     EXPECT(bb_pool_file_done(two, b, 0) == BB_NOT_HELD);
     EXPECT(bb_pool_file_detach(two, a, got.place).number == got.number);  // it is put back
-    EXPECT(bb_pool_file_take(two, b, 0).code == BB_OK);
+    EXPECT(bb_pool_file_holder(two, got.number, &flag) == BB_OK);
+    EXPECT(flag.state == BB_DETACHED && flag.party == 6);
+    const bb_message again = bb_pool_file_take(two, b, 0);
+    EXPECT(again.code == BB_OK && again.len == 6 && again.number == got.number);
     EXPECT(bb_pool_file_leave(two, b) == BB_OK);  // this puts it back, too
     EXPECT(info_of(one).detached == 1 && info_of(one).full_slots == 1);
-    EXPECT(bb_pool_file_take(one, sender, 0).code == BB_OK);
+    EXPECT(bb_pool_file_take(one, sender, 0).len == 6);
     EXPECT(bb_pool_file_done(one, sender, 0) == BB_OK);
+    EXPECT(bb_pool_file_done(one, sender, 0) == BB_NOT_HELD);
+    // At the slot's next lap, the number is another one. So it is in other slots.
+    EXPECT(bb_pool_file_post(one, sender, 0, bucket, 0) == BB_OK);
+    EXPECT(bb_pool_file_holder(two, seen.number, &flag) == BB_OK);
+    EXPECT(flag.state == BB_DETACHED && flag.party == 10);
+    const bb_message empty = bb_pool_file_take(one, sender, 0);
+    EXPECT(empty.code == BB_OK && empty.len == 0 && empty.place == bucket);
+    EXPECT(bb_pool_file_done(one, sender, 0) == BB_OK);
+    EXPECT(bb_pool_file_post(one, sender, 3, bucket, 100) == BB_OK);
+    EXPECT(bb_pool_file_holder(two, seen.number, &flag) == BB_OK);
+    EXPECT(flag.state == BB_DETACHED && flag.party == 9 && info_of(two).wrong == 0);
+    EXPECT(bb_pool_file_take(one, sender, 0).code == BB_DETACHED_EMPTY);
+    EXPECT(bb_pool_file_look(one, 3).len == 100 && bb_pool_file_take(one, sender, 3).len == 100);
+    EXPECT(bb_pool_file_done(one, sender, 3) == BB_OK);
     EXPECT(bb_file_party_deallocate(sender, bucket) == BB_OK);
     const bb_pool_file_figures figures = info_of(two);
     EXPECT(figures.held == 0 && figures.detached == 0 && figures.full_slots == 0);
     close_it(one);
     close_it(two);
+    remove_it();
+}
+
+// Returns how many buckets the party holds and doesn't cache.
+static size_t held_by(bb_file_party *party) {
+    bb_shared_pool_figures figures;
+    EXPECT(bb_file_party_info(party, &figures) == BB_OK && figures.number_of_buckets == 20);
+    return figures.held_buckets;
+}
+
+static bool holds(bb_file_party *party, bb_place place) {
+    const bb_number held = bb_file_party_holds(party, place);
+    EXPECT(held.code == BB_OK);
+    return held.number == 1;
+}
+
+// The calls for the buckets of a party, which do what those of bb_memory.h do.
+static void buckets_of_a_party(void) {
+    bb_pool_file *file = open_it();
+    bb_file_party *party = join_it(file);
+    bb_shared_pool_figures figures;
+    bb_place places[25];
+    EXPECT(bb_file_party_number(party).number == 0 && held_by(party) == 0);
+    const bb_chunk chunk = bb_file_party_allocate(party, 100, 8);
+    EXPECT(chunk.code == BB_OK && holds(party, chunk.place) && held_by(party) == 1);
+    EXPECT(bb_file_party_allocate(party, 101, 8).code == BB_SIZE_TOO_LARGE);
+    EXPECT(bb_file_party_allocate(party, 8, 16).code == BB_ALIGNMENT_FAILURE);
+    EXPECT(bb_file_party_allocate(party, 8, 3).code == BB_INVALID_LAYOUT);
+    EXPECT(!holds(party, (char *)chunk.place + 1));
+    EXPECT(bb_file_party_deallocate(party, (char *)chunk.place + 1) == BB_NOT_HELD);
+    void *const got = bb_file_party_get(party);
+    EXPECT(got != NULL && got != chunk.place && holds(party, got));
+    EXPECT(bb_file_party_take_many(party, places, 25).number == 18 && held_by(party) == 20);
+    EXPECT(bb_file_party_take(party).code == BB_OUT_OF_MEMORY && bb_file_party_get(party) == NULL);
+    EXPECT(bb_file_party_info(party, &figures) == BB_OK);
+    EXPECT(figures.bucket_size == 100 && figures.number_of_buckets == 20);
+    for (uint32_t number = 0; number < 20; number++) {
+        const bb_chunk at = bb_file_party_place_at(party, number);
+        EXPECT(at.code == BB_OK && at.place == (char *)info_of(file).start + number * STRIDE);
+        EXPECT(bb_file_party_number_at(party, at.place).number == number);
+    }
+    EXPECT(bb_file_party_place_at(party, 20).code == BB_NOT_A_BUCKET);
+    EXPECT(bb_file_party_number_at(party, (char *)got + 1).code == BB_NOT_A_BUCKET);
+    EXPECT(bb_file_party_deallocate_many(party, NULL, 0).code == BB_OK);
+    const bb_place first = places[0];
+    places[2] = first;  // a second free
+    EXPECT(bb_file_party_deallocate_many(party, places, 18).number == 2 && held_by(party) == 18);
+    EXPECT(bb_file_party_deallocate(party, first) == BB_NOT_HELD);
+    EXPECT(bb_file_party_cache(party, 4) == BB_OK);
+    EXPECT(bb_file_party_deallocate(party, got) == BB_OK && !holds(party, got));
+    EXPECT(info_of(file).held == 18 && held_by(party) == 17);
+    EXPECT(bb_file_party_flush(party) == BB_OK && info_of(file).held == 17);
+    EXPECT(bb_pool_file_leave(file, party) == BB_OK && info_of(file).held == 0);
+    EXPECT(bb_file_party_allocate(party, 1, 1).code == BB_UNINITIALIZED);
+    EXPECT(bb_file_party_take(party).code == BB_UNINITIALIZED);
+    EXPECT(bb_file_party_take_many(party, places, 1).code == BB_UNINITIALIZED);
+    EXPECT(bb_file_party_get(party) == NULL);
+    EXPECT(bb_file_party_deallocate(party, got) == BB_UNINITIALIZED);
+    EXPECT(bb_file_party_deallocate_many(party, places, 1).code == BB_UNINITIALIZED);
+    EXPECT(bb_file_party_cache(party, 1) == BB_UNINITIALIZED);
+    EXPECT(bb_file_party_flush(party) == BB_UNINITIALIZED);
+    EXPECT(bb_file_party_info(party, &figures) == BB_UNINITIALIZED);
+    EXPECT(bb_file_party_holds(party, got).code == BB_UNINITIALIZED);
+    EXPECT(bb_file_party_number(party).code == BB_UNINITIALIZED);
+    EXPECT(bb_file_party_number_at(party, got).code == BB_UNINITIALIZED);
+    EXPECT(bb_file_party_place_at(party, 0).code == BB_UNINITIALIZED);
+    close_it(file);
+    remove_it();
+}
+
+// A bucket that is still in a slot can be neither freed nor posted. A refused call changes nothing:
+// the party holds the bucket, and the message is in its slot as before.
+static void undone(uint32_t most_cached) {
+    bb_pool_file *file = open_it();
+    bb_file_party *sender = join_it(file);
+    bb_file_party *party = join_it(file);
+    bb_holder flag;
+    EXPECT(bb_file_party_cache(party, most_cached) == BB_OK);
+    const bb_place hello = take_one(sender);
+    memcpy(hello, "hello", 6);
+    EXPECT(bb_pool_file_post(file, sender, 0, hello, 6) == BB_OK);
+    const bb_message message = bb_pool_file_take(file, party, 0);
+    EXPECT(message.code == BB_OK && message.place == hello);
+    const bb_place before = take_one(party);
+    const bb_place after = take_one(party);
+    const bb_place places[] = {before, message.place, after};
+    EXPECT(held_by(party) == 3);
+    EXPECT(bb_file_party_deallocate(party, message.place) == BB_FILE_NOT_DONE);
+    EXPECT(bb_pool_file_post(file, party, 1, message.place, 5) == BB_FILE_NOT_DONE);
+    EXPECT(bb_pool_file_post(file, party, 0, message.place, 5) == BB_FILE_NOT_DONE);
+    EXPECT(bb_file_party_deallocate_many(party, places + 1, 2).number == 0);
+    EXPECT(held_by(party) == 3);
+    const bb_number freed = bb_file_party_deallocate_many(party, places, 3);
+    EXPECT(freed.code == BB_OK && freed.number == 1 && held_by(party) == 2);
+    EXPECT(!holds(party, before) && holds(party, message.place) && holds(party, after));
+    EXPECT(bb_pool_file_holder(file, message.number, &flag) == BB_OK);
+    EXPECT(flag.state == BB_HELD && flag.party == number_of(party));
+    EXPECT(info_of(file).full_slots == 1 && bb_pool_file_look(file, 1).code == BB_DETACHED_EMPTY);
+    EXPECT(bb_pool_file_look(file, 0).len == 6 && strcmp(message.place, "hello") == 0);
+    EXPECT(bb_pool_file_take(file, sender, 0).code == BB_NOT_HELD);
+    // What isn't in a slot is freed and posted all the same, and so is the bucket once it is done.
+    EXPECT(bb_pool_file_post(file, party, 1, after, 7) == BB_OK && held_by(party) == 1);
+    EXPECT(bb_file_party_deallocate(sender, take_one(sender)) == BB_OK);
+    EXPECT(bb_pool_file_done(file, party, 0) == BB_OK && held_by(party) == 1);
+    EXPECT(bb_pool_file_post(file, party, 0, message.place, 5) == BB_OK && held_by(party) == 0);
+    EXPECT(bb_file_party_deallocate(party, message.place) == BB_NOT_HELD);
+    EXPECT(bb_pool_file_take(file, party, 0).len == 5);
+    EXPECT(bb_pool_file_done(file, party, 0) == BB_OK);
+    EXPECT(bb_file_party_deallocate(party, message.place) == BB_OK && held_by(party) == 0);
+    EXPECT(bb_pool_file_take(file, party, 1).len == 7);
+    EXPECT(bb_file_party_deallocate_many(party, &after, 1).number == 0);
+    EXPECT(bb_pool_file_done(file, party, 1) == BB_OK);
+    EXPECT(bb_file_party_deallocate_many(party, &after, 1).number == 1);
+    close_it(file);
+    remove_it();
+}
+
+// A party that caches buckets takes messages, puts them back, and sends them on. It counts as in
+// use exactly what it holds and doesn't cache.
+static void caches_and_takes(void) {
+    bb_pool_file *file = open_it();
+    bb_file_party *sender = join_it(file);
+    bb_file_party *party = join_it(file);
+    EXPECT(bb_file_party_cache(sender, 3) == BB_OK && bb_file_party_cache(party, 3) == BB_OK);
+    const bb_place place = take_one(sender);
+    EXPECT(bb_pool_file_post(file, sender, 0, place, 1) == BB_OK);
+    EXPECT(!holds(sender, place) && held_by(sender) == 0);
+    EXPECT(bb_file_party_deallocate(sender, place) == BB_NOT_HELD);
+    EXPECT(bb_pool_file_post(file, sender, 1, place, 1) == BB_NOT_HELD);
+    EXPECT(bb_pool_file_take(file, party, 0).code == BB_OK && held_by(party) == 1);
+    EXPECT(bb_pool_file_detach(file, party, place).code == BB_OK);
+    EXPECT(!holds(party, place) && held_by(party) == 0);
+    EXPECT(bb_file_party_deallocate(party, place) == BB_NOT_HELD);
+    EXPECT(bb_pool_file_detach(file, party, place).code == BB_NOT_HELD);
+    EXPECT(bb_pool_file_take(file, sender, 0).code == BB_OK && held_by(sender) == 1);
+    EXPECT(bb_pool_file_done(file, sender, 0) == BB_OK);
+    EXPECT(bb_pool_file_post(file, sender, 2, place, 1) == BB_OK && held_by(sender) == 0);
+    EXPECT(bb_pool_file_take(file, party, 2).code == BB_OK && holds(party, place));
+    EXPECT(bb_pool_file_give_all_back(file, party) == BB_OK);
+    EXPECT(!holds(party, place) && held_by(party) == 0 && info_of(file).held == 0);
+    EXPECT(bb_pool_file_take(file, party, 2).code == BB_OK);
+    EXPECT(bb_pool_file_done(file, party, 2) == BB_OK);
+    EXPECT(bb_file_party_deallocate(party, place) == BB_OK);  // it is cached
+    EXPECT(!holds(party, place) && held_by(party) == 0 && info_of(file).held == 1);
+    EXPECT(take_one(party) == place && held_by(party) == 1);
+    EXPECT(bb_pool_file_detach(file, party, place).code == BB_OK && held_by(party) == 0);
+    close_it(file);
+    remove_it();
+}
+
+// The only bucket of a file is freed before its message is done: it can't come to another slot, and
+// no slot is full for good.
+static void freed_too_early(void) {
+    const bb_pool_file_options options = {
+        .bucket_size = 64, .bucket_align = 8, .buckets = 1, .parties = 2, .slots = 2};
+    bb_pool_file *file;
+    requested = 0;
+    EXPECT(bb_pool_file_open(&file, path, &options) == BB_OK);
+    bb_file_party *sender = join_it(file);
+    bb_file_party *receiver = join_it(file);
+    EXPECT(bb_pool_file_post(file, sender, 0, take_one(sender), 14) == BB_OK);
+    bb_message message = bb_pool_file_take(file, receiver, 0);
+    EXPECT(message.code == BB_OK);
+    EXPECT(bb_file_party_deallocate(receiver, message.place) == BB_FILE_NOT_DONE);
+    EXPECT(bb_file_party_get(sender) == NULL);
+    EXPECT(bb_pool_file_done(file, receiver, 0) == BB_OK);
+    EXPECT(bb_file_party_deallocate(receiver, message.place) == BB_OK);
+    EXPECT(bb_pool_file_post(file, sender, 1, take_one(sender), 15) == BB_OK);
+    EXPECT(bb_pool_file_take(file, receiver, 0).code == BB_DETACHED_EMPTY);
+    message = bb_pool_file_take(file, receiver, 1);
+    EXPECT(message.code == BB_OK && message.len == 15);
+    EXPECT(bb_pool_file_done(file, receiver, 1) == BB_OK);
+    EXPECT(bb_pool_file_post(file, receiver, 1, message.place, 1) == BB_OK);
+    close_it(file);
+    remove_it();
+}
+
+// A party forwards a message to the next slot, before it is done with the first one and after that.
+static void forwards(void) {
+    bb_pool_file *file = open_it();
+    bb_file_party *sender = join_it(file);
+    bb_file_party *party = join_it(file);
+    EXPECT(bb_pool_file_post(file, sender, 0, take_one(sender), 4) == BB_OK);
+    const bb_message message = bb_pool_file_take(file, party, 0);
+    EXPECT(bb_pool_file_post(file, party, 1, message.place, message.len) == BB_FILE_NOT_DONE);
+    EXPECT(bb_pool_file_done(file, party, 0) == BB_OK);
+    EXPECT(bb_pool_file_post(file, party, 1, message.place, message.len) == BB_OK);
+    EXPECT(bb_pool_file_take(file, sender, 0).code == BB_DETACHED_EMPTY);
+    const bb_message next = bb_pool_file_take(file, sender, 1);
+    EXPECT(next.code == BB_OK && next.number == message.number && next.len == 4);
+    EXPECT(bb_pool_file_done(file, sender, 1) == BB_OK);
+    EXPECT(bb_file_party_deallocate(sender, next.place) == BB_OK);
+    EXPECT(bb_pool_file_post(file, sender, 1, take_one(sender), 1) == BB_OK);
+    close_it(file);
+    remove_it();
+}
+
+// As long as a party is done with all that it took, its frees look at no entry: here their pages
+// can't be read.
+static void looks_at_no_entry(void) {
+    const bb_pool_file_options options = {.bucket_size = 1,
+                                          .bucket_align = 1,
+                                          .buckets = 100000,
+                                          .parties = 1,
+                                          .slots = 1,
+                                          .user_bytes = 1};
+    const uintptr_t page = system_page();
+    bb_pool_file *file;
+    requested = 0;
+    EXPECT(bb_pool_file_open(&file, path, &options) == BB_OK);
+    bb_file_party *party = join_it(file);
+    // The bytes of the host come right after the entries. The pages in between are whole.
+    char *const first = (char *)bb_pool_file_user(file) - 100000 * sizeof(uint64_t);
+    char *const from = first + (page - (uintptr_t)first % page) % page;
+    const size_t size = 90000 * sizeof(uint64_t) / page * page;
+    bb_place *places = calloc(100000, sizeof *places);
+    EXPECT(places != NULL);
+    EXPECT(bb_file_party_take_many(party, places, 100000).number == 100000);
+    const bb_place message = bb_file_party_place_at(party, 0).place;
+    for (uint32_t round = 0; round < 3; round++) {
+        const bb_place one = bb_file_party_place_at(party, 40000 + round).place;
+        const bb_place other = bb_file_party_place_at(party, 50000 + round).place;
+        EXPECT(bb_pool_file_post(file, party, 0, message, 1) == BB_OK);
+        EXPECT(bb_pool_file_take(file, party, 0).code == BB_OK);
+        EXPECT(bb_file_party_deallocate(party, message) == BB_FILE_NOT_DONE);
+        if (round == 0)
+            EXPECT(bb_pool_file_done(file, party, 0) == BB_OK);
+        else if (round == 1)
+            EXPECT(bb_pool_file_detach(file, party, message).code == BB_OK);
+        else
+            EXPECT(bb_pool_file_give_all_back(file, party) == BB_OK);
+        if (round == 2)
+            EXPECT(bb_file_party_take_many(party, places, 100000).number == 99999);
+        EXPECT(mprotect(from, size, PROT_NONE) == 0);
+        EXPECT(bb_file_party_deallocate(party, one) == BB_OK);
+        EXPECT(bb_file_party_deallocate_many(party, &other, 1).number == 1);
+        EXPECT(mprotect(from, size, PROT_READ | PROT_WRITE) == 0);
+        if (round == 1) {
+            EXPECT(bb_pool_file_take(file, party, 0).code == BB_OK);
+            EXPECT(bb_pool_file_done(file, party, 0) == BB_OK);
+        }
+    }
+    free(places);
+    close_it(file);
+    remove_it();
+}
+
+// Reads or writes a word of the file of OPTIONS.
+static uint64_t word_at(int fd, off_t at) {
+    uint64_t word;
+    EXPECT(pread(fd, &word, sizeof word, at) == sizeof word);
+    return word;
+}
+
+static void set_word(int fd, off_t at, uint64_t word) {
+    EXPECT(pwrite(fd, &word, sizeof word, at) == sizeof word);
+}
+
+static off_t slot_at(uint32_t slot) {
+    return FIRST_SLOT + 128 * (off_t)slot;
+}
+
+static off_t entry_at(uint32_t bucket) {
+    return FIRST_ENTRY + 8 * (off_t)bucket;
+}
+
+// Starts a child that takes a bucket and dies. Returns the bucket's number.
+static uint32_t held_by_the_dead(bb_pool_file *file) {
+    bb_holder flag = {BB_FREE, 0};
+    uint32_t number = 0;
+    end_killed(holder(1));
+    for (uint32_t at = 0; at < 20; at++)
+        if (bb_pool_file_holder(file, at, &flag) == BB_OK && flag.state == BB_HELD)
+            number = at;
+    return number;
+}
+
+// A process that is killed in a post, before the slot has the bucket, or in a `done`, after the
+// slot is empty, leaves a bucket whose entry names a slot that hasn't got it. A reap frees the
+// bucket, and clears the entry. If the slot has the bucket, the reap sends it there.
+static void half_done(void) {
+    bb_pool_file *file = open_it();
+    bb_holder flag;
+    const int fd = open(path, O_RDWR | O_CLOEXEC);
+    EXPECT(fd >= 0);
+    // The slot is empty.
+    uint32_t number = held_by_the_dead(file);
+    set_word(fd, entry_at(number), (uint64_t)7 << 32 | 2);
+    EXPECT(reap(file, BB_REAP_HELD) == 1 && word_at(fd, entry_at(number)) == 0);
+    EXPECT(info_of(file).held == 0 && info_of(file).detached == 0);
+    // The slot has the bucket, at lap 5.
+    number = held_by_the_dead(file);
+    set_word(fd, entry_at(number), (uint64_t)7 << 32 | 2);
+    set_word(fd, slot_at(1), (uint64_t)5 << 32 | (number + 1));
+    EXPECT(bb_pool_file_wait_full(file, 1, 0) == BB_FILE_TIMED_OUT);
+    EXPECT(reap(file, BB_REAP_HELD) == 0 && bb_pool_file_look(file, 1).len == 7);
+    EXPECT(bb_pool_file_holder(file, number, &flag) == BB_OK);
+    EXPECT(flag.state == BB_DETACHED && flag.party == 6 + 1 + 4 * 5);
+    EXPECT(bb_pool_file_wait_full(file, 1, 0) == BB_OK);
+    // The slot has another message.
+    const uint32_t other = held_by_the_dead(file);
+    set_word(fd, entry_at(other), (uint64_t)9 << 32 | 2);
+    EXPECT(reap(file, BB_REAP_HELD) == 1 && word_at(fd, entry_at(other)) == 0);
+    EXPECT(info_of(file).held == 0 && info_of(file).detached == 1);
+    bb_file_party *party = join_it(file);
+    const bb_message message = bb_pool_file_take(file, party, 1);
+    EXPECT(message.code == BB_OK && message.number == number && message.len == 7);
+    EXPECT(bb_pool_file_done(file, party, 1) == BB_OK && word_at(fd, entry_at(number)) == 0);
+    EXPECT(word_at(fd, slot_at(1)) == (uint64_t)6 << 32);
+    EXPECT(bb_pool_file_post(file, party, 1, message.place, 2) == BB_OK);
+    EXPECT(word_at(fd, slot_at(1)) == ((uint64_t)6 << 32 | (number + 1)));
+    EXPECT(word_at(fd, entry_at(number)) == ((uint64_t)2 << 32 | 2));
+    // A refused post leaves no entry.
+    const bb_place place = take_one(party);
+    const uint32_t refused = (uint32_t)bb_file_party_number_at(party, place).number;
+    EXPECT(bb_pool_file_post(file, party, 1, place, 2) == BB_DETACHED_FULL);
+    EXPECT(word_at(fd, entry_at(refused)) == 0 && holds(party, place));
+    close_it(file);
+    close(fd);
+    remove_it();
+}
+
+// A take that has read the slot's word some time ago takes nothing: neither the bucket's message in
+// another slot, nor a later one of the same slot.
+static void stale_takes(void) {
+    bb_pool_file *file = open_it();
+    bb_file_party *party = join_it(file);
+    const int fd = open(path, O_RDWR | O_CLOEXEC);
+    EXPECT(fd >= 0 && bb_pool_file_post(file, party, 0, take_one(party), 5) == BB_OK);
+    const uint64_t old = word_at(fd, slot_at(0));
+    const bb_message message = bb_pool_file_take(file, party, 0);
+    EXPECT(message.len == 5 && bb_pool_file_done(file, party, 0) == BB_OK);
+    const uint64_t empty = word_at(fd, slot_at(0));
+    EXPECT(bb_pool_file_post(file, party, 1, message.place, 6) == BB_OK);
+    set_word(fd, slot_at(0), old);
+    EXPECT(bb_pool_file_take(file, party, 0).code == BB_NOT_HELD);
+    EXPECT(bb_pool_file_wait_full(file, 0, 0) == BB_FILE_TIMED_OUT);
+    set_word(fd, slot_at(0), empty);
+    EXPECT(bb_pool_file_take(file, party, 1).len == 6);
+    EXPECT(bb_pool_file_done(file, party, 1) == BB_OK);
+    EXPECT(bb_pool_file_post(file, party, 0, message.place, 7) == BB_OK);
+    const uint64_t new = word_at(fd, slot_at(0));
+    EXPECT(new != old);
+    set_word(fd, slot_at(0), old);
+    EXPECT(bb_pool_file_take(file, party, 0).code == BB_NOT_HELD);
+    EXPECT(bb_pool_file_wait_full(file, 0, 0) == BB_FILE_TIMED_OUT);
+    set_word(fd, slot_at(0), new);
+    EXPECT(bb_pool_file_take(file, party, 0).len == 7);
+    // The bucket is detached by its number, after it was in the slot.
+    EXPECT(bb_pool_file_done(file, party, 0) == BB_OK);
+    EXPECT(bb_pool_file_detach(file, party, message.place).code == BB_OK);
+    set_word(fd, slot_at(0), new);
+    EXPECT(bb_pool_file_take(file, party, 0).code == BB_NOT_HELD);
+    EXPECT(bb_pool_file_wait_full(file, 0, 0) == BB_FILE_TIMED_OUT);
+    set_word(fd, slot_at(0), empty);
+    EXPECT(bb_pool_file_attach(file, party, message.number).code == BB_OK);
+    close_it(file);
+    close(fd);
+    remove_it();
+}
+
+// The laps of 4 slots, with 6 parties: after the last one, 1073741821, comes lap 0. A later one is
+// a wrong value, and counts as lap 0.
+static void laps(void) {
+    const uint32_t last = 1073741821;
+    bb_pool_file *file = open_it();
+    bb_file_party *party = join_it(file);
+    bb_holder flag;
+    const int fd = open(path, O_RDWR | O_CLOEXEC);
+    EXPECT(fd >= 0);
+    bb_place place = take_one(party);
+    const uint32_t number = (uint32_t)bb_file_party_number_at(party, place).number;
+    const uint32_t first[] = {last, last + 1, UINT32_MAX, 0};
+    const uint32_t sent_by[] = {4294967293, 9, 9, 9};
+    const uint32_t next[] = {0, 1, 1, 1};
+    for (int at = 0; at < 4; at++) {
+        set_word(fd, slot_at(3), (uint64_t)first[at] << 32);
+        EXPECT(bb_pool_file_look(file, 3).code == BB_DETACHED_EMPTY);
+        EXPECT(bb_pool_file_wait_empty(file, 3, 0) == BB_OK && info_of(file).full_slots == 0);
+        EXPECT(bb_pool_file_post(file, party, 3, place, 8) == BB_OK);
+        EXPECT(bb_pool_file_holder(file, number, &flag) == BB_OK);
+        EXPECT(flag.state == BB_DETACHED && flag.party == sent_by[at]);
+        EXPECT(info_of(file).wrong == 0 && bb_pool_file_look(file, 3).len == 8);
+        EXPECT(bb_pool_file_take(file, party, 3).len == 8);
+        EXPECT(bb_pool_file_detach(file, party, place).number == number);
+        EXPECT(bb_pool_file_take(file, party, 3).len == 8);
+        EXPECT(bb_pool_file_done(file, party, 3) == BB_OK);
+        EXPECT(word_at(fd, slot_at(3)) == (uint64_t)next[at] << 32);
+    }
+    // The number after the last slot's last one is none of the file's.
+    set_word(fd, PAGE + 8 * (16 + (off_t)number), 2 * (uint64_t)4294967293 + 2);
+    EXPECT(info_of(file).wrong == 0 && info_of(file).detached == 1);
+    set_word(fd, PAGE + 8 * (16 + (off_t)number), 2 * (uint64_t)4294967294 + 2);
+    EXPECT(info_of(file).wrong == 1 && info_of(file).detached == 0);
+    close_it(file);
+    close(fd);
+    remove_it();
+}
+
+// Entries with wrong values lead to no access outside, and a message that can't be is not received.
+static void wrong_entries(void) {
+    bb_pool_file *file = open_it();
+    bb_file_party *party = join_it(file);
+    bb_holder flag;
+    const int fd = open(path, O_RDWR | O_CLOEXEC);
+    EXPECT(fd >= 0 && bb_pool_file_post(file, party, 0, take_one(party), 5) == BB_OK);
+    const uint32_t number = bb_pool_file_look(file, 0).number;
+    const uint64_t right = word_at(fd, entry_at(number));
+    EXPECT(right == ((uint64_t)5 << 32 | 1));
+    set_word(fd, entry_at(number), (uint64_t)101 << 32 | 1);  // longer than a bucket
+    EXPECT(bb_pool_file_look(file, 0).code == BB_NOT_A_BUCKET);
+    EXPECT(bb_pool_file_take(file, party, 0).code == BB_NOT_A_BUCKET && held_by(party) == 0);
+    EXPECT(bb_pool_file_holder(file, number, &flag) == BB_OK);
+    EXPECT(flag.state == BB_DETACHED && flag.party == 6);  // it is sent as before
+    set_word(fd, entry_at(number), right);
+    const bb_message message = bb_pool_file_take(file, party, 0);
+    EXPECT(message.code == BB_OK && message.len == 5);
+    const uint32_t slots_of_others[] = {1, 4, UINT32_MAX - 1};
+    for (int at = 0; at < 3; at++) {
+        set_word(fd, entry_at(number), (uint64_t)5 << 32 | (slots_of_others[at] + 1));
+        EXPECT(bb_pool_file_detach(file, party, message.place).code == BB_NOT_A_BUCKET);
+        EXPECT(bb_file_party_deallocate(party, message.place) == BB_FILE_NOT_DONE);
+        EXPECT(held_by(party) == 1);
+    }
+    EXPECT(bb_pool_file_done(file, party, 0) == BB_OK);
+    EXPECT(bb_file_party_deallocate(party, message.place) == BB_OK && info_of(file).held == 0);
+    close_it(file);
+    close(fd);
     remove_it();
 }
 
@@ -1451,6 +1922,22 @@ static void by_number(void) {
     EXPECT(reap(two, BB_REAP_LEFT) == 1 && info_of(two).detached == 0);
     EXPECT(bb_pool_file_reap(two, 4, NULL) == BB_INVALID_ARGUMENT);
     EXPECT(bb_pool_file_reap(two, UINT32_MAX, NULL) == BB_INVALID_ARGUMENT);
+    // A number attaches no bucket that is in a slot: neither before a party has taken it, nor after
+    // that, nor when it was put back.
+    bb_file_party *const other = join_it(two);
+    bucket = take_one(other);
+    number = (uint32_t)bb_file_party_number_at(other, bucket).number;
+    EXPECT(bb_pool_file_post(two, other, 3, bucket, 9) == BB_OK);
+    EXPECT(bb_pool_file_attach(two, other, number).code == BB_NOT_HELD);
+    EXPECT(bb_pool_file_take(two, other, 3).len == 9);
+    EXPECT(bb_pool_file_attach(two, other, number).code == BB_NOT_HELD);
+    EXPECT(bb_pool_file_detach(two, other, bucket).number == number);
+    EXPECT(bb_pool_file_attach(two, other, number).code == BB_NOT_HELD);
+    EXPECT(bb_pool_file_take(two, other, 3).len == 9);
+    EXPECT(bb_pool_file_done(two, other, 3) == BB_OK);
+    EXPECT(bb_pool_file_detach(two, other, bucket).number == number);
+    EXPECT(bb_pool_file_attach(two, other, number).code == BB_OK);
+    EXPECT(bb_pool_file_leave(two, other) == BB_OK && info_of(two).held == 0);
     // A dead party's message in a slot stays, though it was put back by `detach`.
     const pid_t child = child_of();
     if (child == 0) {
@@ -1584,11 +2071,14 @@ static void waits(void) {
     EXPECT(bb_file_party_deallocate(party, message.place) == BB_OK);
     end(child);
     end(second);
-    // A return that wakes nobody is noticed, and so is a reap.
+    // A free that wakes nobody is noticed, and so is a reap.
     const bb_place last = take_one(party);
-    child = sleeper(wait_bucket, 0);
+    EXPECT(bb_file_party_cache(party, 1) == BB_OK);
     EXPECT(bb_file_party_deallocate(party, last) == BB_OK);
+    child = sleeper(wait_bucket, 0);
+    EXPECT(bb_file_party_flush(party) == BB_OK);
     end(child);
+    EXPECT(bb_file_party_cache(party, 0) == BB_OK);
     const pid_t dying = holder(1);
     child = sleeper(wait_bucket, 0);
     end_killed(dying);
@@ -1737,6 +2227,19 @@ static void reap_all(bb_pool_file *file, bb_file_party *party) {
     EXPECT(reap(file, BB_REAP_HELD) == 19);
 }
 
+// The party holds all buckets, and then frees them by one call.
+static bb_place all_places[20];
+
+static void take_all(bb_pool_file *file, bb_file_party *party) {
+    (void)file;
+    EXPECT(bb_file_party_take_many(party, all_places, 20).number == 20);
+}
+
+static void free_all(bb_pool_file *file, bb_file_party *party) {
+    (void)file;
+    EXPECT(bb_file_party_deallocate_many(party, all_places, 20).number == 20);
+}
+
 // A process that sleeps is woken at once. If a wake was lost, almost each wait would be late. A
 // loaded machine may make a few of them late.
 static void wakes(const struct waking *waking) {
@@ -1795,6 +2298,7 @@ static void woken(void) {
         {wait_bucket, 0, take_by_another, leave_both},
         {bb_pool_file_wait_full, 1, take_by_the_dead, reap_all},
         {wait_bucket, 0, take_by_the_dead, reap_all},
+        {wait_bucket, 0, take_all, free_all},
     };
     for (size_t at = 0; at < sizeof all_of_them / sizeof *all_of_them; at++)
         wakes(&all_of_them[at]);
@@ -2384,6 +2888,8 @@ static void forked(void) {
     bb_pool_file *file = open_it();
     bb_file_party *party = join_it(file);
     const bb_place place = take_one(party);
+    EXPECT(bb_pool_file_post(file, party, 0, take_one(party), 1) == BB_OK);
+    const bb_place taken = bb_pool_file_take(file, party, 0).place;
     // The pages of words, tables and region.
     const size_t page = system_page();
     char *first = (char *)info_of(file).start - 2 * PAGE;
@@ -2403,6 +2909,8 @@ static void forked(void) {
         bb_holder flag;
         EXPECT(bb_file_party_take(party).code == BB_UNINITIALIZED);
         EXPECT(bb_file_party_deallocate(party, place) == BB_UNINITIALIZED);
+        EXPECT(bb_file_party_deallocate(party, taken) == BB_UNINITIALIZED);
+        EXPECT(bb_file_party_deallocate_many(party, &taken, 1).code == BB_UNINITIALIZED);
         EXPECT(bb_pool_file_info(file, &figures) == BB_UNINITIALIZED);
         EXPECT(bb_pool_file_join(file, &more) == BB_UNINITIALIZED);
         EXPECT(bb_pool_file_leave(file, party) == BB_UNINITIALIZED);
@@ -2426,7 +2934,7 @@ static void forked(void) {
         close_it(file);
         *first = 'x';
         bb_pool_file *own = open_it();
-        EXPECT(info_of(own).held == 1 && number_of(join_it(own)) == 1);
+        EXPECT(info_of(own).held == 2 && number_of(join_it(own)) == 1);
         _exit(0);
     }
     end(child);
@@ -2663,7 +3171,7 @@ static bool is_bucket(const bb_pool_file_figures *figures, bb_place place) {
     return offset <= 19 * STRIDE && offset % STRIDE == 0;
 }
 
-// Garbage in words and slots leads to wrong answers, but to no access outside, and to no crash.
+// Garbage in words and tables leads to wrong answers, but to no access outside, and to no crash.
 static void garbage(void) {
     bb_pool_file *file = open_it();
     bb_file_party *party = join_it(file);
@@ -2695,7 +3203,14 @@ static void garbage(void) {
             bb_pool_file_done(file, party, slot);
             if (got.code == BB_OK) {
                 const uint32_t code = bb_pool_file_post(file, party, slot, got.place, 5);
-                EXPECT(code == BB_OK || code == BB_DETACHED_FULL || code == BB_NOT_HELD);
+                EXPECT(code == BB_OK || code == BB_DETACHED_FULL || code == BB_NOT_HELD ||
+                       code == BB_FILE_NOT_DONE);
+                bb_file_party_deallocate(party, got.place);
+            }
+            if (message.code == BB_OK) {
+                EXPECT(message.len <= 100 && (seen.code != BB_OK || seen.len <= 100));
+                EXPECT(bb_pool_file_detach(file, party, message.place).code < BB_FILE_NOT_DONE);
+                bb_file_party_deallocate_many(party, &message.place, 1);
             }
             EXPECT(bb_pool_file_wait_empty(file, slot, 0) <= BB_FILE_TIMED_OUT);
             EXPECT(bb_pool_file_wait_full(file, slot, 0) <= BB_FILE_TIMED_OUT);
@@ -2745,17 +3260,21 @@ static void user_bytes(void) {
         memset(bytes, 0xff, size);
         EXPECT(sum_of(same, size) == size * 0xff);
         EXPECT(info_of(file).wrong == 0 && info_of(file).full_slots == 0);
-        // Each slot, each bucket and the life of each party is used.
+        // Each slot, each bucket and the life of each party is used, and the first and the last
+        // entries.
         bb_file_party *joined[6];
         for (int party = 0; party < 6; party++)
             joined[party] = join_it(file);
         bb_place place = NULL;
+        uint32_t slot = 0;
         for (int bucket = 0; bucket < 20; bucket++) {
-            place = take_one(joined[bucket % 6]);
+            bb_file_party *party = joined[bucket % 6];
+            place = take_one(party);
             memset(place, 0, 100);
-            if (bucket < 4) {
-                const uint32_t slot = (uint32_t)bucket;
-                EXPECT(bb_pool_file_post(file, joined[bucket], slot, place, 100) == BB_OK);
+            const size_t number = bb_file_party_number_at(party, place).number;
+            if (number < 2 || number >= 18) {
+                EXPECT(bb_pool_file_post(file, party, slot, place, 100) == BB_OK);
+                slot++;
             }
         }
         EXPECT(sum_of(same, size) == size * 0xff && info_of(other).full_slots == 4);
@@ -2840,6 +3359,7 @@ int main(int argc, char **argv) {
         stale();
         unknown_boots();
         layouts();
+        lengths();
         refused_memory();
         many(true);
         many(false);
@@ -2852,6 +3372,17 @@ int main(int argc, char **argv) {
         lives();
         gives_all_back();
         slots();
+        buckets_of_a_party();
+        undone(0);
+        undone(8);
+        caches_and_takes();
+        freed_too_early();
+        forwards();
+        looks_at_no_entry();
+        half_done();
+        stale_takes();
+        laps();
+        wrong_entries();
         by_number();
         one_wins();
         waits();

@@ -152,10 +152,7 @@ static void idle(void) {
 static void give_back(bb_place place, uint64_t id) {
     idle();
     check(place, id);
-    if (next(&seed) % 2 == 0)
-        EXPECT(bb_file_party_deallocate(mine, place) == BB_OK);
-    else
-        EXPECT(bb_file_party_deallocate(mine, place) == BB_OK);
+    EXPECT(bb_file_party_deallocate(mine, place) == BB_OK);
 }
 
 // Takes a bucket and fills it, or returns NULL if none is free.
@@ -203,6 +200,17 @@ static void post(void) {
     __atomic_store_n(&counts->sent[life].posted, sequence, __ATOMIC_SEQ_CST);
 }
 
+// Tries what is refused as long as the message isn't done.
+static void try_undone(bb_place place) {
+    const uint32_t what = next(&seed) % 16;
+    if (what == 0)
+        EXPECT(bb_file_party_deallocate(mine, place) == BB_FILE_NOT_DONE);
+    else if (what == 1)
+        EXPECT(bb_file_party_deallocate_many(mine, &place, 1).number == 0);
+    else if (what == 2)
+        EXPECT(bb_pool_file_post(file, mine, next(&seed) % SLOTS, place, 8) == BB_FILE_NOT_DONE);
+}
+
 // Takes a message. It is noted as seen before it is done with: so it comes at least once, and again
 // only after a kill.
 static bool receive(uint32_t slot) {
@@ -212,8 +220,13 @@ static bool receive(uint32_t slot) {
         return false;
     }
     const uint64_t id = id_in(got.place);
+    try_undone(got.place);
     if (next(&seed) % 8 == 0) {  // put it back
         EXPECT(bb_pool_file_detach(file, mine, got.place).number == got.number);
+        return false;
+    }
+    if (next(&seed) % 32 == 0) {  // this puts it back, too
+        EXPECT(bb_pool_file_give_all_back(file, mine) == BB_OK);
         return false;
     }
     idle();
@@ -541,6 +554,7 @@ enum {
     DETACHES,
     ATTACHES,
     REAPS,
+    GIVES_ALL_BACK,
     LEAVES,
     CLOSES,
     OPERATIONS,
@@ -562,6 +576,7 @@ static const char *const NAMES[] = {"open",
                                     "detach",
                                     "attach",
                                     "reap",
+                                    "give all back",
                                     "leave",
                                     "close"};
 
@@ -599,18 +614,19 @@ static struct prepared prepare(int what, uint32_t number) {
     // A process that joined would have the dead party's number.
     if (!opens && what != JOINS && what != REAPS && what != REAPS_DETACHED)
         EXPECT(bb_pool_file_join(file, &mine) == BB_OK);
-    if (what == BURSTS || what == LEAVES)
+    const bool leaves = what == LEAVES || what == GIVES_ALL_BACK;
+    if (what == BURSTS || leaves)
         EXPECT(bb_file_party_cache(mine, 8) == BB_OK);
-    if (what == POSTS || what == DETACHES || what == LEAVES || what == CLOSES)
+    if (what == POSTS || what == DETACHES || leaves || what == CLOSES)
         prepared.place = bb_file_party_take(mine).place;
     if (prepared.place != NULL)
         fill(prepared.place, 5);
-    if (what == LEAVES) {
+    if (leaves) {
         bb_place places[2];
         EXPECT(bb_file_party_take_many(mine, places, 2).number == 2);
         EXPECT(bb_file_party_deallocate_many(mine, places, 2).number == 2);
     }
-    if (what == LEAVES || what == CLOSES)
+    if (leaves || what == CLOSES)
         EXPECT(bb_pool_file_take(file, mine, 0).code == BB_OK);
     return prepared;
 }
@@ -649,6 +665,7 @@ static void operate(int what, struct prepared with) {
     case DETACHES: EXPECT(bb_pool_file_detach(file, mine, with.place).code == BB_OK); break;
     case ATTACHES: EXPECT(bb_pool_file_attach(file, mine, with.number).code == BB_OK); break;
     case REAPS: EXPECT(bb_pool_file_reap(file, BB_REAP_HELD, NULL) == BB_OK); break;
+    case GIVES_ALL_BACK: EXPECT(bb_pool_file_give_all_back(file, mine) == BB_OK); break;
     case LEAVES: EXPECT(bb_pool_file_leave(file, mine) == BB_OK); break;
     case NOTES_TAKE: *noted = bb_pool_file_take(file, mine, 0).code; break;
     case NOTES_OPEN: note_open(); break;
@@ -713,7 +730,7 @@ static bool run_steps(int what, uint32_t steps, uint32_t number) {
 
 static bool is_long(int what) {
     return what == OPENS || what == MAKES || what == CLOSES || what == LEAVES || what == JOINS ||
-           what == REAPS;
+           what == REAPS || what == GIVES_ALL_BACK;
 }
 
 // How often an operation was done when its process was killed, and how often it wasn't.
@@ -875,7 +892,7 @@ static bool pause_reap(bb_pool_file *ours, bb_file_party *party, uint32_t steps)
     return ended;
 }
 
-// Expects that the flag of the bucket with this number says that this party has detached it.
+// Expects that the flag of the bucket with this number says that it is detached by this number.
 static void expect_detached(bb_pool_file *ours, uint32_t number, size_t by) {
     bb_holder flag;
     EXPECT(bb_pool_file_holder(ours, number, &flag) == BB_OK);
@@ -930,7 +947,7 @@ static bool pause_take(bb_pool_file *ours, bb_file_party *party, uint32_t steps)
 
 // While a take is stopped, another party takes the message, is done with it, and posts its bucket
 // to another slot. The take gets nothing then, and the message can be taken from there.
-static bool pause_late(bb_pool_file *ours, bb_file_party *party, uint32_t steps) {
+static bool pause_posted(bb_pool_file *ours, bb_file_party *party, uint32_t steps) {
     const struct stopped_take take = stop_take(ours, party, steps);
     const bb_message message = take.message;
     if (message.code == BB_OK) {
@@ -942,75 +959,13 @@ static bool pause_late(bb_pool_file *ours, bb_file_party *party, uint32_t steps)
         go_on(take.child);
     if (message.code == BB_OK) {
         EXPECT(*noted == BB_NOT_HELD || *noted == BB_DETACHED_EMPTY);
-        expect_detached(ours, message.number, OPTIONS.parties);
+        expect_detached(ours, message.number, OPTIONS.parties + 1);  // it is sent to slot 1
         const bb_message again = bb_pool_file_take(ours, party, 1);
         EXPECT(again.code == BB_OK && again.len == 17 && is_filled(again.place, 55));
         EXPECT(bb_pool_file_done(ours, party, 1) == BB_OK);
     } else {
         EXPECT(*noted == BB_OK);
     }
-    end_killed(take.child);
-    return take.ended;
-}
-
-// How many processes have waited for a message while a take held its bucket, and how many of them
-// noticed only a tenth of a second later that they can take it.
-static uint32_t waited;
-static uint32_t woken_late;
-
-static uint64_t milliseconds(void) {
-    struct timespec time;
-    clock_gettime(CLOCK_MONOTONIC, &time);
-    return (uint64_t)time.tv_sec * 1000 + (uint64_t)time.tv_nsec / 1000000;
-}
-
-// Lets the stopped child go on while another process sleeps until it can take from slot 2.
-static void go_on_beside_sleeper(pid_t child) {
-    int ready[2];
-    int status;
-    char byte = 'r';
-    EXPECT(pipe(ready) == 0);
-    const pid_t sleeper = fork();
-    if (sleeper == 0) {
-        bb_pool_file *own;
-        end_with_parent();
-        EXPECT(bb_pool_file_open(&own, path, NULL) == BB_OK);
-        EXPECT(write(ready[1], &byte, 1) == 1);
-        const uint64_t begun = milliseconds();
-        EXPECT(bb_pool_file_wait_full(own, 2, BB_NO_TIMEOUT) == BB_OK);
-        _exit(milliseconds() - begun < 100 ? 0 : 2);
-    }
-    EXPECT(read(ready[0], &byte, 1) == 1 && close(ready[0]) == 0 && close(ready[1]) == 0);
-    usleep(3000);
-    go_on(child);
-    EXPECT(waitpid(sleeper, &status, 0) == sleeper && WIFEXITED(status));
-    EXPECT(WEXITSTATUS(status) == 0 || WEXITSTATUS(status) == 2);
-    waited++;
-    woken_late += WEXITSTATUS(status) == 2;
-}
-
-// While a take is stopped, another party takes the message, is done with it, and posts its bucket
-// into slot 2. If the take then holds the bucket for a moment, it wakes whoever waits for that
-// slot.
-static bool pause_late_take(bb_pool_file *ours, bb_file_party *party, uint32_t steps) {
-    bb_holder holder = {BB_FREE, 0};
-    const struct stopped_take take = stop_take(ours, party, steps);
-    const bb_message message = take.message;
-    if (message.code != BB_OK) {
-        end_killed(take.child);
-        return take.ended;
-    }
-    EXPECT(bb_pool_file_done(ours, party, 0) == BB_OK);
-    EXPECT(bb_pool_file_post(ours, party, 2, message.place, 33) == BB_OK);
-    bool has_ended = take.ended;
-    while (!has_ended && holder.state != BB_HELD) {
-        has_ended = go(take.child, 1);
-        EXPECT(bb_pool_file_holder(ours, message.number, &holder) == BB_OK);
-    }
-    if (!has_ended)
-        go_on_beside_sleeper(take.child);
-    EXPECT(*noted == BB_NOT_HELD || *noted == BB_DETACHED_EMPTY);
-    EXPECT(bb_pool_file_take(ours, party, 2).code == BB_OK);
     end_killed(take.child);
     return take.ended;
 }
@@ -1071,13 +1026,12 @@ static bool pause_open(bb_pool_file *ours, bb_file_party *party, uint32_t steps)
 
 static int run_pause(uint32_t long_stride) {
     bool (*const scenes[])(bb_pool_file *, bb_file_party *, uint32_t) = {
-        pause_take, pause_late, pause_late_take, pause_reap, pause_leave, pause_open};
-    const char *const names[] = {
-        "take", "take, posted again", "take, which is late", "reap", "leave", "open"};
+        pause_take, pause_posted, pause_reap, pause_leave, pause_open};
+    const char *const names[] = {"take", "take, posted again", "reap", "leave", "open"};
     noted = mmap(NULL, 4096, PROT_READ | PROT_WRITE, MAP_SHARED | MAP_ANONYMOUS, -1, 0);
     EXPECT(noted != MAP_FAILED);
-    for (int scene = 0; scene < 6; scene++) {
-        const uint32_t stride = scene < 3 ? 1 : long_stride;
+    for (int scene = 0; scene < 5; scene++) {
+        const uint32_t stride = scene < 2 ? 1 : long_stride;
         uint32_t steps = 1;
         for (bool ended = false; !ended; steps += stride) {
             bb_pool_file *ours;
@@ -1100,8 +1054,6 @@ static int run_pause(uint32_t long_stride) {
             printf(" %uth", stride);
         printf(" of %u instructions\n", steps - stride);
     }
-    // If a take woke nobody, each of them would be late. A loaded machine may make some late.
-    EXPECT(waited > 0 && 2 * woken_late <= waited);
     return 0;
 }
 
