@@ -126,7 +126,8 @@ static size_t length_of(const unsigned char *bytes) {
     uint64_t region_align = align < PAGE ? PAGE : align;
     if (region_align > 65536)
         region_align = 65536;
-    const uint64_t before = PAGE + words + LINE + LINE * slots + lives + user;
+    const uint64_t entries = slots > 0 ? round_up(8 * buckets, LINE) : 0;
+    const uint64_t before = PAGE + words + LINE + LINE * slots + lives + entries + user;
     const uint64_t region = round_up(size, align) * (buckets - (buckets > 0)) + size;
     const uint64_t length = round_up(before, region_align) + round_up(region, PAGE);
     return length > most ? 0 : (size_t)length;
@@ -143,7 +144,7 @@ static size_t change(unsigned char *bytes, size_t length) {
         case 1: bytes[any(HEADER)] ^= (unsigned char)(1 << any(8)); break;
         case 2: bytes[any(length)] = (unsigned char)any(256); break;
         default:
-            // A word of a flag, of an event, of a slot, or of a life.
+            // A word of a flag, of an event, of a slot, of a life, or of an entry.
             put(bytes, PAGE + 8 * any((length - PAGE) / 8), 8, odd_number() << any(2) * 32);
         }
     }
