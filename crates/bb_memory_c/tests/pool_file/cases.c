@@ -1683,7 +1683,7 @@ static void looks_at_no_entry(void) {
     EXPECT(places != NULL);
     EXPECT(bb_file_party_take_many(party, places, 100000).number == 100000);
     const bb_place message = bb_file_party_place_at(party, 0).place;
-    for (uint32_t round = 0; round < 3; round++) {
+    for (uint32_t round = 0; round < 4; round++) {
         const bb_place one = bb_file_party_place_at(party, 40000 + round).place;
         const bb_place other = bb_file_party_place_at(party, 50000 + round).place;
         EXPECT(bb_pool_file_post(file, party, 0, message, 1) == BB_OK);
@@ -1693,15 +1693,17 @@ static void looks_at_no_entry(void) {
             EXPECT(bb_pool_file_done(file, party, 0) == BB_OK);
         else if (round == 1)
             EXPECT(bb_pool_file_detach(file, party, message).code == BB_OK);
-        else
+        else if (round == 2)
             EXPECT(bb_pool_file_give_all_back(file, party) == BB_OK);
-        if (round == 2)
+        else
+            EXPECT(bb_pool_file_leave(file, party) == BB_OK && join_it(file) == party);
+        if (round > 1)
             EXPECT(bb_file_party_take_many(party, places, 100000).number == 99999);
         EXPECT(mprotect(from, size, PROT_NONE) == 0);
         EXPECT(bb_file_party_deallocate(party, one) == BB_OK);
         EXPECT(bb_file_party_deallocate_many(party, &other, 1).number == 1);
         EXPECT(mprotect(from, size, PROT_READ | PROT_WRITE) == 0);
-        if (round == 1) {
+        if (round > 0) {
             EXPECT(bb_pool_file_take(file, party, 0).code == BB_OK);
             EXPECT(bb_pool_file_done(file, party, 0) == BB_OK);
         }

@@ -558,9 +558,11 @@ enum {
     LEAVES,
     CLOSES,
     OPERATIONS,
-    // For `pause` only: a take whose code is noted, a reap of detached buckets, and an open that
-    // notes how many buckets it finds held.
+    // For `pause` only: a take whose code is noted, a look that notes the message's length, or 0 if
+    // there is none, a reap of detached buckets, and an open that notes how many buckets it finds
+    // held.
     NOTES_TAKE,
+    NOTES_LOOK,
     REAPS_DETACHED,
     NOTES_OPEN
 };
@@ -603,7 +605,7 @@ struct prepared {
     uint32_t number;
 };
 
-// What NOTES_TAKE or NOTES_OPEN has noted, in shared memory.
+// What NOTES_TAKE, NOTES_LOOK or NOTES_OPEN has noted, in shared memory.
 static uint32_t *noted;
 
 static struct prepared prepare(int what, uint32_t number) {
@@ -668,6 +670,7 @@ static void operate(int what, struct prepared with) {
     case GIVES_ALL_BACK: EXPECT(bb_pool_file_give_all_back(file, mine) == BB_OK); break;
     case LEAVES: EXPECT(bb_pool_file_leave(file, mine) == BB_OK); break;
     case NOTES_TAKE: *noted = bb_pool_file_take(file, mine, 0).code; break;
+    case NOTES_LOOK: *noted = (uint32_t)bb_pool_file_look(file, 0).len; break;
     case NOTES_OPEN: note_open(); break;
     case REAPS_DETACHED: EXPECT(bb_pool_file_reap(file, BB_REAP_DEAD, NULL) == BB_OK); break;
     default: EXPECT(bb_pool_file_close(file) == BB_OK);
@@ -970,6 +973,31 @@ static bool pause_posted(bb_pool_file *ours, bb_file_party *party, uint32_t step
     return take.ended;
 }
 
+// While a look is stopped, a party takes the message, is done with it, and posts its bucket with
+// another length: to another slot, to the same one, or to both. The look finds a message that the
+// slot had, with its length.
+static bool pause_look(bb_pool_file *ours, bb_file_party *party, uint32_t steps) {
+    const bb_chunk chunk = bb_file_party_take(party);
+    EXPECT(bb_pool_file_post(ours, party, 0, chunk.place, 44) == BB_OK);
+    const pid_t child = start(NOTES_LOOK, 0);
+    const bool ended = go(child, steps);
+    EXPECT(bb_pool_file_take(ours, party, 0).len == 44);
+    EXPECT(bb_pool_file_done(ours, party, 0) == BB_OK);
+    if (steps % 3 > 0) {
+        EXPECT(bb_pool_file_post(ours, party, 1, chunk.place, 17) == BB_OK);
+        EXPECT(bb_pool_file_take(ours, party, 1).len == 17);
+    }
+    if (steps % 3 == 2)
+        EXPECT(bb_pool_file_done(ours, party, 1) == BB_OK);
+    if (steps % 3 != 1)
+        EXPECT(bb_pool_file_post(ours, party, 0, chunk.place, 33) == BB_OK);
+    if (!ended)
+        go_on(child);
+    EXPECT(*noted == 44 || *noted == (steps % 3 == 1 ? 0 : 33));
+    end_killed(child);
+    return ended;
+}
+
 // While a leave is stopped, another party joins and takes a bucket, which it keeps.
 static bool pause_leave(bb_pool_file *ours, bb_file_party *party, uint32_t steps) {
     bb_file_party *other;
@@ -1026,12 +1054,12 @@ static bool pause_open(bb_pool_file *ours, bb_file_party *party, uint32_t steps)
 
 static int run_pause(uint32_t long_stride) {
     bool (*const scenes[])(bb_pool_file *, bb_file_party *, uint32_t) = {
-        pause_take, pause_posted, pause_reap, pause_leave, pause_open};
-    const char *const names[] = {"take", "take, posted again", "reap", "leave", "open"};
+        pause_take, pause_posted, pause_look, pause_reap, pause_leave, pause_open};
+    const char *const names[] = {"take", "take, posted again", "look", "reap", "leave", "open"};
     noted = mmap(NULL, 4096, PROT_READ | PROT_WRITE, MAP_SHARED | MAP_ANONYMOUS, -1, 0);
     EXPECT(noted != MAP_FAILED);
-    for (int scene = 0; scene < 5; scene++) {
-        const uint32_t stride = scene < 2 ? 1 : long_stride;
+    for (int scene = 0; scene < 6; scene++) {
+        const uint32_t stride = scene < 3 ? 1 : long_stride;
         uint32_t steps = 1;
         for (bool ended = false; !ended; steps += stride) {
             bb_pool_file *ours;
