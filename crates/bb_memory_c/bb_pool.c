@@ -125,10 +125,8 @@ static char sign_of(bb_pool_file *file, const bb_pool_file_options *options,
         return '?';
     if (holder.state == BB_FREE)
         return '.';
-    if (holder.state == BB_DETACHED && holder.party == options->parties)
-        return '*';
     if (holder.party >= options->parties)
-        return '?';
+        return holder.state == BB_DETACHED && options->slots > 0 ? '*' : '?';
     return holder.state == BB_DETACHED ? '-' : letter_of(parties, holder.party);
 }
 

@@ -34,8 +34,9 @@
 enum {
     PAGE = 4096,
     // The first slot's word, in the file of OPTIONS: after the header, a page of words, and the
-    // line of events.
+    // line of events. After the slots, and a line of lives, comes the first bucket's entry.
     FIRST_SLOT = 2 * PAGE + 128,
+    FIRST_ENTRY = FIRST_SLOT + 4 * 128 + 128,
     // The file's state, and the machine's boot when it was made.
     STATE = 12,
     BOOT = 48,
@@ -122,7 +123,7 @@ int fdatasync(int fd) {
     char header[PAGE] = "";
     const ssize_t length = pread(fd, header, sizeof header, 0);
     EXPECT(length > 16 && length < PAGE && memcmp(header, "bbpool\r\n", 8) == 0);
-    EXPECT(header[8] == 4 && memcmp(header + 9, "\0\0\0\1", 4) == 0);
+    EXPECT(header[8] == 5 && memcmp(header + 9, "\0\0\0\1", 4) == 0);
     synced++;
     errno = syncing_error;
     return syncing_error == 0 ? 0 : -1;
@@ -266,20 +267,20 @@ static void remove_it(void) {
     EXPECT(unlink(path) == 0);
 }
 
-static bb_pool_party *join_it(bb_pool_file *file) {
-    bb_pool_party *party = NULL;
+static bb_file_party *join_it(bb_pool_file *file) {
+    bb_file_party *party = NULL;
     EXPECT(bb_pool_file_join(file, &party) == BB_OK);
     return party;
 }
 
-static bb_place take_one(bb_pool_party *party) {
-    const bb_chunk chunk = bb_pool_party_take(party);
+static bb_place take_one(bb_file_party *party) {
+    const bb_chunk chunk = bb_file_party_take(party);
     EXPECT(chunk.code == BB_OK);
     return chunk.place;
 }
 
-static size_t number_of(bb_pool_party *party) {
-    return bb_pool_party_number(party).number;
+static size_t number_of(bb_file_party *party) {
+    return bb_file_party_number(party).number;
 }
 
 static bb_pool_file_figures info_of(bb_pool_file *file) {
@@ -367,7 +368,7 @@ static pid_t holder(uint32_t buckets) {
     EXPECT(pipe(ready) == 0);
     const pid_t child = child_of();
     if (child == 0) {
-        bb_pool_party *party = join_it(open_it());
+        bb_file_party *party = join_it(open_it());
         for (uint32_t at = 0; at < buckets; at++)
             take_one(party);
         tell(ready[1]);
@@ -413,6 +414,8 @@ static void impossible_options(void) {
         {8, (size_t)1 << 62, 1, 6, 4, 0, 0},
         {100, 8, 20, 6, 4, 0, SIZE_MAX},
         {100, 8, 20, 6, 4, 0, SIZE_MAX / 8 + 1},
+        {100, 8, 20, 6, UINT32_MAX - 5, 0, 0},
+        {100, 8, 20, 65535, UINT32_MAX, 0, 0},
     };
     for (size_t at = 0; at < sizeof impossible / sizeof *impossible; at++) {
         EXPECT(code_of(path, &impossible[at]) == BB_INVALID_ARGUMENT);
@@ -460,7 +463,7 @@ static void wrong_files(void) {
     foreign_file(bytes, sizeof bytes, BB_FILE_FOREIGN);
     memcpy(bytes, "bbpool\n\n", 8);
     foreign_file(bytes, sizeof bytes, BB_FILE_FOREIGN);
-    for (char older = 1; older < 4; older++) {  // the formats of 3.0.0, and of 3.1.0 and 3.2.0
+    for (char older = 1; older < 5; older++) {  // the formats of 3.0.0 to 4.0.0
         memcpy(bytes, "bbpool\r\n", 8);
         bytes[8] = older;
         foreign_file(bytes, sizeof bytes, BB_FILE_VERSION);
@@ -471,9 +474,9 @@ static void wrong_files(void) {
         foreign_file(bytes, 15, BB_FILE_FOREIGN);
         bytes[STATE] = 0;
     }
-    memcpy(bytes, "bbpool\r\n\4\0\0\0\3", 13);  // state 3
+    memcpy(bytes, "bbpool\r\n\5\0\0\0\3", 13);  // state 3
     foreign_file(bytes, sizeof bytes, BB_FILE_FOREIGN);
-    memcpy(bytes, "bbpool\r\n\4\0\0\0\2", 13);  // ready, with no buckets
+    memcpy(bytes, "bbpool\r\n\5\0\0\0\2", 13);  // ready, with no buckets
     write_file(path, bytes, sizeof bytes, 0);
     EXPECT(code_of(path, NULL) == BB_FILE_DAMAGED && code_of(path, &OPTIONS) == BB_FILE_MISMATCH);
     remove_it();
@@ -486,7 +489,7 @@ static void wrong_files(void) {
     write_file(path, "\1", 1, STATE);
     EXPECT(truncate(path, 16) == 0 && code_of(path, NULL) == BB_FILE_STALE);
     EXPECT(code_of(path, &OPTIONS) == BB_OK && code_of(path, NULL) == BB_OK);
-    write_file(path, "\5", 1, 8);  // a later format
+    write_file(path, "\6", 1, 8);  // a later format
     EXPECT(code_of(path, NULL) == BB_FILE_VERSION && code_of(path, &OPTIONS) == BB_FILE_VERSION);
     remove_it();
     impossible_options();
@@ -507,6 +510,10 @@ static void full(void) {
     large.bucket_size = (size_t)1 << 46;
     EXPECT(fails_with(ENOSPC, path, &large) && requested == 0);
     EXPECT(stat(path, &stat_of) == 0 && stat_of.st_size == 0 && stat_of.st_blocks == 0);
+    remove_it();
+    large.slots = UINT32_MAX - large.parties;  // as many as there can be
+    EXPECT(fails_with(ENOSPC, path, &large) && requested == 0);
+    large.slots = OPTIONS.slots;
     remove_it();
     const int fd = memfd_create("pool", MFD_CLOEXEC);
     bb_pool_file *file = NULL;
@@ -873,7 +880,7 @@ static void aligned(size_t align, uint32_t slots) {
     requested = 0;
     EXPECT(bb_pool_file_open(&one, path, &options) == BB_OK);
     EXPECT(bb_pool_file_open(&two, path, NULL) == BB_OK);
-    bb_pool_party *party = join_it(one);
+    bb_file_party *party = join_it(one);
     EXPECT(info_of(one).start != info_of(two).start);
     EXPECT((uintptr_t)info_of(two).start % align == 0);
     for (int at = 0; at < 3; at++) {
@@ -887,7 +894,7 @@ static void aligned(size_t align, uint32_t slots) {
         const char *bucket = start + at * BB_STRIDE(3 * align - 1, align);
         EXPECT(bucket[0] == (char)at + 1 && bucket[options.bucket_size - 1] == (char)at + 1);
     }
-    EXPECT(bb_pool_party_take(party).code == BB_OUT_OF_MEMORY);
+    EXPECT(bb_file_party_take(party).code == BB_OUT_OF_MEMORY);
     EXPECT(info_of(two).held == 3 && info_of(two).alive == 1);
     close_it(one);
     EXPECT(info_of(two).held == 0);
@@ -914,6 +921,26 @@ static void layouts(void) {
         for (uint32_t slots = 64; slots < 256 && align <= 1 << 16; slots += 64)
             aligned(align, slots);
     }
+}
+
+// Returns the length of a new file.
+static off_t length_of(const bb_pool_file_options *options) {
+    struct stat stat_of;
+    EXPECT(code_of(path, options) == BB_OK && stat(path, &stat_of) == 0);
+    remove_it();
+    return stat_of.st_size;
+}
+
+// The buckets have entries of 8 bytes, but none if there are no slots. The rest of this file is a
+// page for the header, 4 for the flags, and 4 for the buckets.
+static void lengths(void) {
+    bb_pool_file_options options = {
+        .bucket_size = 8, .bucket_align = 8, .buckets = 2000, .parties = 1, .slots = 0};
+    EXPECT(length_of(&options) == (1 + 4 + 1 + 4) * PAGE);
+    options.slots = 1;
+    EXPECT(length_of(&options) == (1 + 4 + 4 + 4) * PAGE);
+    options.slots = 2;
+    EXPECT(length_of(&options) == (1 + 4 + 5 + 4) * PAGE);
 }
 
 static size_t memory_requests;
@@ -952,7 +979,7 @@ static void release_plainly(void *context, void *block) {
 // the next one succeeds.
 static void refused_memory(void) {
     bb_pool_file *file = NULL;
-    bb_pool_party *party = NULL;
+    bb_file_party *party = NULL;
     uint32_t code = BB_MALLOC_REFUSED;
     bb_use_memory(allocate, release, &blocks);
     for (to_refuse = 1; code != BB_OK; to_refuse++) {
@@ -970,13 +997,18 @@ static void refused_memory(void) {
     }
     EXPECT(to_refuse > 2 && number_of(party) == 0);
     to_refuse = 0;
+    // A reap requests none.
     const pid_t dying = holder(2);
     end_killed(dying);
-    to_refuse = 1;
     memory_requests = 0;
-    EXPECT(bb_pool_file_reap(file, BB_REAP_HELD, NULL) == BB_MALLOC_REFUSED);
+    EXPECT(reap(file, BB_REAP_HELD) == 2 && memory_requests == 0);
+    // A join that fails has freed what the dead party held.
+    const pid_t second = holder(2);
+    end_killed(second);
+    to_refuse = 1;
+    EXPECT(bb_pool_file_join(file, &party) == BB_MALLOC_REFUSED);
     to_refuse = 0;
-    EXPECT(reap(file, BB_REAP_HELD) == 2);
+    EXPECT(info_of(file).held == 0 && info_of(file).alive == 1);
     close_it(file);
     EXPECT(blocks == 0);
     bb_use_memory(allocate_plainly, release_plainly, NULL);
@@ -1096,7 +1128,7 @@ static void many(bool again) {
         bb_pool_file *two;
         requested = 0;
         EXPECT(bb_pool_file_open(&one, path, &options) == BB_OK);
-        bb_pool_party *party = join_it(one);
+        bb_file_party *party = join_it(one);
         bb_place first = take_one(party);
         take_one(party);
         memory_size = 0;
@@ -1110,7 +1142,7 @@ static void many(bool again) {
         bb_holder last;
         EXPECT(info_of(two).held == 2 && info_of(two).wrong == 0);
         EXPECT(bb_pool_file_holder(two, numbers[at] - 1, &last) == BB_OK && last.state == BB_FREE);
-        EXPECT(bb_pool_party_deallocate(party, first) == BB_OK && info_of(two).held == 1);
+        EXPECT(bb_file_party_deallocate(party, first) == BB_OK && info_of(two).held == 1);
         take_one(join_it(two));
         EXPECT(info_of(one).held == 2 && info_of(one).wrong == 0);
         close_it(one);
@@ -1127,8 +1159,8 @@ static void many(bool again) {
 static void parties(void) {
     bb_pool_file *one = open_it();
     bb_pool_file *two = open_it();
-    bb_pool_party *joined[6];
-    bb_pool_party *more;
+    bb_file_party *joined[6];
+    bb_file_party *more;
     for (int at = 0; at < 6; at++)
         joined[at] = join_it(at % 2 == 1 ? one : two);
     for (int at = 0; at < 6; at++)
@@ -1137,8 +1169,7 @@ static void parties(void) {
     EXPECT(bb_pool_file_join(one, &more) == BB_NO_PARTY);
     EXPECT(info_of(one).alive == 6 && info_of(two).alive == 6);
     const bb_place place = take_one(joined[1]);
-    EXPECT(bb_pool_party_deallocate(joined[3], place) == BB_NOT_HELD);
-    EXPECT(bb_pool_file_deallocate(one, joined[3], place) == BB_NOT_HELD);
+    EXPECT(bb_file_party_deallocate(joined[3], place) == BB_NOT_HELD);
     EXPECT(bb_pool_file_leave(two, joined[1]) == BB_UNINITIALIZED);
     const uint64_t life = life_of(two, 1);
     EXPECT(is_alive(two, 1, life) && is_alive(one, 1, life));
@@ -1179,7 +1210,7 @@ static void many_parties(void) {
     const bb_pool_file_options options = {
         .bucket_size = 8, .bucket_align = 8, .buckets = 4, .parties = PARTIES};
     bb_pool_file *files[OPENED];
-    bb_pool_party *joined[PARTIES];
+    bb_file_party *joined[PARTIES];
     for (int at = 0; at < OPENED; at++)
         EXPECT(bb_pool_file_open(&files[at], path, &options) == BB_OK);
     looks_at_locks = 0;
@@ -1195,7 +1226,7 @@ static void many_parties(void) {
     for (int at = 0; at < OPENED; at++)
         EXPECT(info_of(files[at]).alive == 120);
     // Party 0 joins again, elsewhere: the system reports its lock in another order.
-    bb_pool_party *const again = join_it(files[1]);
+    bb_file_party *const again = join_it(files[1]);
     EXPECT(number_of(again) == 0);
     for (int at = 0; at < OPENED; at++)
         EXPECT(info_of(files[at]).alive == 121);
@@ -1205,7 +1236,7 @@ static void many_parties(void) {
 }
 
 static bb_pool_file *others_file;
-static bb_pool_party *others_party;
+static bb_file_party *others_party;
 
 static void join_and_take(void) {
     others_party = join_it(others_file);
@@ -1234,10 +1265,10 @@ static void moving_parties(void) {
 // A party gives back what it caches when it leaves, and when its process has died.
 static void cached(void) {
     bb_pool_file *file = open_it();
-    bb_pool_party *party = join_it(file);
-    EXPECT(bb_pool_party_cache(party, 8) == BB_OK);
+    bb_file_party *party = join_it(file);
+    EXPECT(bb_file_party_cache(party, 8) == BB_OK);
     const bb_place place = take_one(party);
-    EXPECT(bb_pool_file_deallocate(file, party, place) == BB_OK);
+    EXPECT(bb_file_party_deallocate(party, place) == BB_OK);
     EXPECT(info_of(file).held == 1);
     EXPECT(bb_pool_file_detach(file, party, place).code == BB_NOT_HELD);
     EXPECT(bb_pool_file_post(file, party, 0, place, 1) == BB_NOT_HELD);
@@ -1252,7 +1283,7 @@ static void detach_in_child(bool leaves) {
     const pid_t child = child_of();
     if (child == 0) {
         bb_pool_file *own = open_it();
-        bb_pool_party *party = join_it(own);
+        bb_file_party *party = join_it(own);
         EXPECT(bb_pool_file_detach(own, party, take_one(party)).code == BB_OK);
         if (leaves)
             EXPECT(bb_pool_file_leave(own, party) == BB_OK);
@@ -1274,7 +1305,7 @@ static void reaps_detached(void) {
     EXPECT(reap(file, BB_REAP_LEFT) == 1 && info_of(file).detached == 0);
     // Number 0 is used by a living party, with a bucket that an earlier one had detached.
     detach_in_child(true);
-    bb_pool_party *party = join_it(file);
+    bb_file_party *party = join_it(file);
     EXPECT(number_of(party) == 0 && reap(file, BB_REAP_DEAD | BB_REAP_LEFT) == 0);
     detach_in_child(false);  // with number 1
     EXPECT(info_of(file).detached == 2 && reap(file, BB_REAP_DEAD) == 1);
@@ -1318,7 +1349,7 @@ static void lives(void) {
         close(ready[0]);
         close(ready[1]);
     }
-    bb_pool_party *party = join_it(file);
+    bb_file_party *party = join_it(file);
     const uint64_t life = life_of(file, 0);
     EXPECT(number_of(party) == 0 && life > last && !is_alive(file, 0, last));
     EXPECT(reap(file, BB_REAP_DEAD | BB_REAP_LEFT) == 0 && life_of(file, 0) == life);
@@ -1337,14 +1368,14 @@ static void lives(void) {
 static void gives_all_back(void) {
     bb_pool_file *file = open_it();
     bb_pool_file *other = open_it();
-    bb_pool_party *sender = join_it(file);
-    bb_pool_party *party = join_it(file);
+    bb_file_party *sender = join_it(file);
+    bb_file_party *party = join_it(file);
     const bb_place hello = take_one(sender);
     memcpy(hello, "hello", 6);
     EXPECT(bb_pool_file_post(file, sender, 0, hello, 6) == BB_OK);
-    EXPECT(bb_pool_party_cache(party, 4) == BB_OK);
+    EXPECT(bb_file_party_cache(party, 4) == BB_OK);
     take_one(party);
-    EXPECT(bb_pool_file_deallocate(file, party, take_one(party)) == BB_OK);
+    EXPECT(bb_file_party_deallocate(party, take_one(party)) == BB_OK);
     EXPECT(bb_pool_file_take(file, party, 0).code == BB_OK);
     const bb_number sent = bb_pool_file_detach(file, party, take_one(party));
     EXPECT(bb_pool_file_give_all_back(other, party) == BB_UNINITIALIZED);
@@ -1354,7 +1385,7 @@ static void gives_all_back(void) {
     // Whoever takes all other buckets doesn't get the message's.
     for (int at = 0; at < 18; at++)
         memcpy(take_one(sender), "private", 8);
-    EXPECT(bb_pool_party_take(sender).code == BB_OUT_OF_MEMORY);
+    EXPECT(bb_file_party_take(sender).code == BB_OUT_OF_MEMORY);
     const bb_message again = bb_pool_file_take(file, party, 0);
     EXPECT(again.code == BB_OK && again.len == 6 && strcmp(again.place, "hello") == 0);
     EXPECT(bb_pool_file_give_all_back(file, sender) == BB_OK && info_of(file).held == 1);
@@ -1371,9 +1402,9 @@ static void gives_all_back(void) {
 static void slots(void) {
     bb_pool_file *one = open_it();
     bb_pool_file *two = open_it();
-    bb_pool_party *sender = join_it(one);
-    bb_pool_party *a = join_it(two);
-    bb_pool_party *b = join_it(two);
+    bb_file_party *sender = join_it(one);
+    bb_file_party *a = join_it(two);
+    bb_file_party *b = join_it(two);
     const bb_place bucket = take_one(sender);
     bb_holder flag;
     memcpy(bucket, "hello", 6);
@@ -1386,17 +1417,17 @@ static void slots(void) {
     EXPECT(bb_pool_file_post(one, sender, 0, (char *)bucket + 1, 6) == BB_NOT_HELD);
     EXPECT(bb_pool_file_post(one, sender, 0, bucket, 6) == BB_OK);
     EXPECT(bb_pool_file_post(one, sender, 1, bucket, 6) == BB_NOT_HELD);
-    EXPECT(bb_pool_party_deallocate(sender, bucket) == BB_NOT_HELD);
+    EXPECT(bb_file_party_deallocate(sender, bucket) == BB_NOT_HELD);
     const bb_place second = take_one(sender);
     EXPECT(bb_pool_file_post(one, sender, 0, second, 6) == BB_DETACHED_FULL);
-    EXPECT(bb_pool_party_deallocate(sender, second) == BB_OK);
+    EXPECT(bb_file_party_deallocate(sender, second) == BB_OK);
     EXPECT(bb_pool_file_done(two, a, 0) == BB_NOT_HELD);
     EXPECT(bb_pool_file_done(two, a, 4) == BB_INVALID_ARGUMENT);
     const bb_message seen = bb_pool_file_look(two, 0);
     EXPECT(seen.code == BB_OK && seen.len == 6);
-    // A message in a slot is detached by the number after the parties'.
+    // A message in slot 0 is detached by the number after the parties'.
     EXPECT(bb_pool_file_holder(two, seen.number, &flag) == BB_OK);
-    EXPECT(flag.state == BB_DETACHED && flag.party == 6);
+    EXPECT(flag.state == BB_DETACHED && flag.party == 6 && info_of(two).wrong == 0);
     EXPECT(bb_pool_file_holder(two, 20, &flag) == BB_NOT_A_BUCKET);
     const bb_message got = bb_pool_file_take(two, a, 0);
     EXPECT(got.code == BB_OK && got.len == 6 && strcmp(got.place, "hello") == 0);
@@ -1406,12 +1437,29 @@ static void slots(void) {
     EXPECT(bb_pool_file_take(two, b, 0).code == BB_NOT_HELD);
     EXPECT(bb_pool_file_done(two, b, 0) == BB_NOT_HELD);
     EXPECT(bb_pool_file_detach(two, a, got.place).number == got.number);  // it is put back
-    EXPECT(bb_pool_file_take(two, b, 0).code == BB_OK);
+    EXPECT(bb_pool_file_holder(two, got.number, &flag) == BB_OK);
+    EXPECT(flag.state == BB_DETACHED && flag.party == 6);
+    const bb_message again = bb_pool_file_take(two, b, 0);
+    EXPECT(again.code == BB_OK && again.len == 6 && again.number == got.number);
     EXPECT(bb_pool_file_leave(two, b) == BB_OK);  // this puts it back, too
     EXPECT(info_of(one).detached == 1 && info_of(one).full_slots == 1);
-    EXPECT(bb_pool_file_take(one, sender, 0).code == BB_OK);
+    EXPECT(bb_pool_file_take(one, sender, 0).len == 6);
     EXPECT(bb_pool_file_done(one, sender, 0) == BB_OK);
-    EXPECT(bb_pool_party_deallocate(sender, bucket) == BB_OK);
+    EXPECT(bb_pool_file_done(one, sender, 0) == BB_NOT_HELD);
+    // At the slot's next lap, the number is another one. So it is in other slots.
+    EXPECT(bb_pool_file_post(one, sender, 0, bucket, 0) == BB_OK);
+    EXPECT(bb_pool_file_holder(two, seen.number, &flag) == BB_OK);
+    EXPECT(flag.state == BB_DETACHED && flag.party == 10);
+    const bb_message empty = bb_pool_file_take(one, sender, 0);
+    EXPECT(empty.code == BB_OK && empty.len == 0 && empty.place == bucket);
+    EXPECT(bb_pool_file_done(one, sender, 0) == BB_OK);
+    EXPECT(bb_pool_file_post(one, sender, 3, bucket, 100) == BB_OK);
+    EXPECT(bb_pool_file_holder(two, seen.number, &flag) == BB_OK);
+    EXPECT(flag.state == BB_DETACHED && flag.party == 9 && info_of(two).wrong == 0);
+    EXPECT(bb_pool_file_take(one, sender, 0).code == BB_DETACHED_EMPTY);
+    EXPECT(bb_pool_file_look(one, 3).len == 100 && bb_pool_file_take(one, sender, 3).len == 100);
+    EXPECT(bb_pool_file_done(one, sender, 3) == BB_OK);
+    EXPECT(bb_file_party_deallocate(sender, bucket) == BB_OK);
     const bb_pool_file_figures figures = info_of(two);
     EXPECT(figures.held == 0 && figures.detached == 0 && figures.full_slots == 0);
     close_it(one);
@@ -1419,11 +1467,441 @@ static void slots(void) {
     remove_it();
 }
 
+// Returns how many buckets the party holds and doesn't cache.
+static size_t held_by(bb_file_party *party) {
+    bb_shared_pool_figures figures;
+    EXPECT(bb_file_party_info(party, &figures) == BB_OK && figures.number_of_buckets == 20);
+    return figures.held_buckets;
+}
+
+static bool holds(bb_file_party *party, bb_place place) {
+    const bb_number held = bb_file_party_holds(party, place);
+    EXPECT(held.code == BB_OK);
+    return held.number == 1;
+}
+
+// The calls for the buckets of a party, which do what those of bb_memory.h do.
+static void buckets_of_a_party(void) {
+    bb_pool_file *file = open_it();
+    bb_file_party *party = join_it(file);
+    bb_shared_pool_figures figures;
+    bb_place places[25];
+    EXPECT(bb_file_party_number(party).number == 0 && held_by(party) == 0);
+    const bb_chunk chunk = bb_file_party_allocate(party, 100, 8);
+    EXPECT(chunk.code == BB_OK && holds(party, chunk.place) && held_by(party) == 1);
+    EXPECT(bb_file_party_allocate(party, 101, 8).code == BB_SIZE_TOO_LARGE);
+    EXPECT(bb_file_party_allocate(party, 8, 16).code == BB_ALIGNMENT_FAILURE);
+    EXPECT(bb_file_party_allocate(party, 8, 3).code == BB_INVALID_LAYOUT);
+    EXPECT(!holds(party, (char *)chunk.place + 1));
+    EXPECT(bb_file_party_deallocate(party, (char *)chunk.place + 1) == BB_NOT_HELD);
+    void *const got = bb_file_party_get(party);
+    EXPECT(got != NULL && got != chunk.place && holds(party, got));
+    EXPECT(bb_file_party_take_many(party, places, 25).number == 18 && held_by(party) == 20);
+    EXPECT(bb_file_party_take(party).code == BB_OUT_OF_MEMORY && bb_file_party_get(party) == NULL);
+    EXPECT(bb_file_party_info(party, &figures) == BB_OK);
+    EXPECT(figures.bucket_size == 100 && figures.number_of_buckets == 20);
+    for (uint32_t number = 0; number < 20; number++) {
+        const bb_chunk at = bb_file_party_place_at(party, number);
+        EXPECT(at.code == BB_OK && at.place == (char *)info_of(file).start + number * STRIDE);
+        EXPECT(bb_file_party_number_at(party, at.place).number == number);
+    }
+    EXPECT(bb_file_party_place_at(party, 20).code == BB_NOT_A_BUCKET);
+    EXPECT(bb_file_party_number_at(party, (char *)got + 1).code == BB_NOT_A_BUCKET);
+    EXPECT(bb_file_party_deallocate_many(party, NULL, 0).code == BB_OK);
+    const bb_place first = places[0];
+    places[2] = first;  // a second free
+    EXPECT(bb_file_party_deallocate_many(party, places, 18).number == 2 && held_by(party) == 18);
+    EXPECT(bb_file_party_deallocate(party, first) == BB_NOT_HELD);
+    EXPECT(bb_file_party_cache(party, 4) == BB_OK);
+    EXPECT(bb_file_party_deallocate(party, got) == BB_OK && !holds(party, got));
+    EXPECT(info_of(file).held == 18 && held_by(party) == 17);
+    EXPECT(bb_file_party_flush(party) == BB_OK && info_of(file).held == 17);
+    EXPECT(bb_pool_file_leave(file, party) == BB_OK && info_of(file).held == 0);
+    EXPECT(bb_file_party_allocate(party, 1, 1).code == BB_UNINITIALIZED);
+    EXPECT(bb_file_party_take(party).code == BB_UNINITIALIZED);
+    EXPECT(bb_file_party_take_many(party, places, 1).code == BB_UNINITIALIZED);
+    EXPECT(bb_file_party_get(party) == NULL);
+    EXPECT(bb_file_party_deallocate(party, got) == BB_UNINITIALIZED);
+    EXPECT(bb_file_party_deallocate_many(party, places, 1).code == BB_UNINITIALIZED);
+    EXPECT(bb_file_party_cache(party, 1) == BB_UNINITIALIZED);
+    EXPECT(bb_file_party_flush(party) == BB_UNINITIALIZED);
+    EXPECT(bb_file_party_info(party, &figures) == BB_UNINITIALIZED);
+    EXPECT(bb_file_party_holds(party, got).code == BB_UNINITIALIZED);
+    EXPECT(bb_file_party_number(party).code == BB_UNINITIALIZED);
+    EXPECT(bb_file_party_number_at(party, got).code == BB_UNINITIALIZED);
+    EXPECT(bb_file_party_place_at(party, 0).code == BB_UNINITIALIZED);
+    close_it(file);
+    remove_it();
+}
+
+// A bucket that is still in a slot can be neither freed nor posted. A refused call changes nothing:
+// the party holds the bucket, and the message is in its slot as before.
+static void undone(uint32_t most_cached) {
+    bb_pool_file *file = open_it();
+    bb_file_party *sender = join_it(file);
+    bb_file_party *party = join_it(file);
+    bb_holder flag;
+    EXPECT(bb_file_party_cache(party, most_cached) == BB_OK);
+    const bb_place hello = take_one(sender);
+    memcpy(hello, "hello", 6);
+    EXPECT(bb_pool_file_post(file, sender, 0, hello, 6) == BB_OK);
+    const bb_message message = bb_pool_file_take(file, party, 0);
+    EXPECT(message.code == BB_OK && message.place == hello);
+    const bb_place before = take_one(party);
+    const bb_place after = take_one(party);
+    const bb_place places[] = {before, message.place, after};
+    EXPECT(held_by(party) == 3);
+    EXPECT(bb_file_party_deallocate(party, message.place) == BB_FILE_NOT_DONE);
+    EXPECT(bb_pool_file_post(file, party, 1, message.place, 5) == BB_FILE_NOT_DONE);
+    EXPECT(bb_pool_file_post(file, party, 0, message.place, 5) == BB_FILE_NOT_DONE);
+    EXPECT(bb_file_party_deallocate_many(party, places + 1, 2).number == 0);
+    EXPECT(held_by(party) == 3);
+    const bb_number freed = bb_file_party_deallocate_many(party, places, 3);
+    EXPECT(freed.code == BB_OK && freed.number == 1 && held_by(party) == 2);
+    EXPECT(!holds(party, before) && holds(party, message.place) && holds(party, after));
+    EXPECT(bb_pool_file_holder(file, message.number, &flag) == BB_OK);
+    EXPECT(flag.state == BB_HELD && flag.party == number_of(party));
+    EXPECT(info_of(file).full_slots == 1 && bb_pool_file_look(file, 1).code == BB_DETACHED_EMPTY);
+    EXPECT(bb_pool_file_look(file, 0).len == 6 && strcmp(message.place, "hello") == 0);
+    EXPECT(bb_pool_file_take(file, sender, 0).code == BB_NOT_HELD);
+    // What isn't in a slot is freed and posted all the same, and so is the bucket once it is done.
+    EXPECT(bb_pool_file_post(file, party, 1, after, 7) == BB_OK && held_by(party) == 1);
+    EXPECT(bb_file_party_deallocate(sender, take_one(sender)) == BB_OK);
+    EXPECT(bb_pool_file_done(file, party, 0) == BB_OK && held_by(party) == 1);
+    EXPECT(bb_pool_file_post(file, party, 0, message.place, 5) == BB_OK && held_by(party) == 0);
+    EXPECT(bb_file_party_deallocate(party, message.place) == BB_NOT_HELD);
+    EXPECT(bb_pool_file_take(file, party, 0).len == 5);
+    EXPECT(bb_pool_file_done(file, party, 0) == BB_OK);
+    EXPECT(bb_file_party_deallocate(party, message.place) == BB_OK && held_by(party) == 0);
+    EXPECT(bb_pool_file_take(file, party, 1).len == 7);
+    EXPECT(bb_file_party_deallocate_many(party, &after, 1).number == 0);
+    EXPECT(bb_pool_file_done(file, party, 1) == BB_OK);
+    EXPECT(bb_file_party_deallocate_many(party, &after, 1).number == 1);
+    close_it(file);
+    remove_it();
+}
+
+// A party that caches buckets takes messages, puts them back, and sends them on. It counts as in
+// use exactly what it holds and doesn't cache.
+static void caches_and_takes(void) {
+    bb_pool_file *file = open_it();
+    bb_file_party *sender = join_it(file);
+    bb_file_party *party = join_it(file);
+    EXPECT(bb_file_party_cache(sender, 3) == BB_OK && bb_file_party_cache(party, 3) == BB_OK);
+    const bb_place place = take_one(sender);
+    EXPECT(bb_pool_file_post(file, sender, 0, place, 1) == BB_OK);
+    EXPECT(!holds(sender, place) && held_by(sender) == 0);
+    EXPECT(bb_file_party_deallocate(sender, place) == BB_NOT_HELD);
+    EXPECT(bb_pool_file_post(file, sender, 1, place, 1) == BB_NOT_HELD);
+    EXPECT(bb_pool_file_take(file, party, 0).code == BB_OK && held_by(party) == 1);
+    EXPECT(bb_pool_file_detach(file, party, place).code == BB_OK);
+    EXPECT(!holds(party, place) && held_by(party) == 0);
+    EXPECT(bb_file_party_deallocate(party, place) == BB_NOT_HELD);
+    EXPECT(bb_pool_file_detach(file, party, place).code == BB_NOT_HELD);
+    EXPECT(bb_pool_file_take(file, sender, 0).code == BB_OK && held_by(sender) == 1);
+    EXPECT(bb_pool_file_done(file, sender, 0) == BB_OK);
+    EXPECT(bb_pool_file_post(file, sender, 2, place, 1) == BB_OK && held_by(sender) == 0);
+    EXPECT(bb_pool_file_take(file, party, 2).code == BB_OK && holds(party, place));
+    EXPECT(bb_pool_file_give_all_back(file, party) == BB_OK);
+    EXPECT(!holds(party, place) && held_by(party) == 0 && info_of(file).held == 0);
+    EXPECT(bb_pool_file_take(file, party, 2).code == BB_OK);
+    EXPECT(bb_pool_file_done(file, party, 2) == BB_OK);
+    EXPECT(bb_file_party_deallocate(party, place) == BB_OK);  // it is cached
+    EXPECT(!holds(party, place) && held_by(party) == 0 && info_of(file).held == 1);
+    EXPECT(take_one(party) == place && held_by(party) == 1);
+    EXPECT(bb_pool_file_detach(file, party, place).code == BB_OK && held_by(party) == 0);
+    close_it(file);
+    remove_it();
+}
+
+// The only bucket of a file is freed before its message is done: it can't come to another slot, and
+// no slot is full for good.
+static void freed_too_early(void) {
+    const bb_pool_file_options options = {
+        .bucket_size = 64, .bucket_align = 8, .buckets = 1, .parties = 2, .slots = 2};
+    bb_pool_file *file;
+    requested = 0;
+    EXPECT(bb_pool_file_open(&file, path, &options) == BB_OK);
+    bb_file_party *sender = join_it(file);
+    bb_file_party *receiver = join_it(file);
+    EXPECT(bb_pool_file_post(file, sender, 0, take_one(sender), 14) == BB_OK);
+    bb_message message = bb_pool_file_take(file, receiver, 0);
+    EXPECT(message.code == BB_OK);
+    EXPECT(bb_file_party_deallocate(receiver, message.place) == BB_FILE_NOT_DONE);
+    EXPECT(bb_file_party_get(sender) == NULL);
+    EXPECT(bb_pool_file_done(file, receiver, 0) == BB_OK);
+    EXPECT(bb_file_party_deallocate(receiver, message.place) == BB_OK);
+    EXPECT(bb_pool_file_post(file, sender, 1, take_one(sender), 15) == BB_OK);
+    EXPECT(bb_pool_file_take(file, receiver, 0).code == BB_DETACHED_EMPTY);
+    message = bb_pool_file_take(file, receiver, 1);
+    EXPECT(message.code == BB_OK && message.len == 15);
+    EXPECT(bb_pool_file_done(file, receiver, 1) == BB_OK);
+    EXPECT(bb_pool_file_post(file, receiver, 1, message.place, 1) == BB_OK);
+    close_it(file);
+    remove_it();
+}
+
+// A party forwards a message to the next slot, before it is done with the first one and after that.
+static void forwards(void) {
+    bb_pool_file *file = open_it();
+    bb_file_party *sender = join_it(file);
+    bb_file_party *party = join_it(file);
+    EXPECT(bb_pool_file_post(file, sender, 0, take_one(sender), 4) == BB_OK);
+    const bb_message message = bb_pool_file_take(file, party, 0);
+    EXPECT(bb_pool_file_post(file, party, 1, message.place, message.len) == BB_FILE_NOT_DONE);
+    EXPECT(bb_pool_file_done(file, party, 0) == BB_OK);
+    EXPECT(bb_pool_file_post(file, party, 1, message.place, message.len) == BB_OK);
+    EXPECT(bb_pool_file_take(file, sender, 0).code == BB_DETACHED_EMPTY);
+    const bb_message next = bb_pool_file_take(file, sender, 1);
+    EXPECT(next.code == BB_OK && next.number == message.number && next.len == 4);
+    EXPECT(bb_pool_file_done(file, sender, 1) == BB_OK);
+    EXPECT(bb_file_party_deallocate(sender, next.place) == BB_OK);
+    EXPECT(bb_pool_file_post(file, sender, 1, take_one(sender), 1) == BB_OK);
+    close_it(file);
+    remove_it();
+}
+
+// As long as a party is done with all that it took, its frees look at no entry: here their pages
+// can't be read.
+static void looks_at_no_entry(void) {
+    const bb_pool_file_options options = {.bucket_size = 1,
+                                          .bucket_align = 1,
+                                          .buckets = 100000,
+                                          .parties = 1,
+                                          .slots = 1,
+                                          .user_bytes = 1};
+    const uintptr_t page = system_page();
+    bb_pool_file *file;
+    requested = 0;
+    EXPECT(bb_pool_file_open(&file, path, &options) == BB_OK);
+    bb_file_party *party = join_it(file);
+    // The bytes of the host come right after the entries. The pages in between are whole.
+    char *const first = (char *)bb_pool_file_user(file) - 100000 * sizeof(uint64_t);
+    char *const from = first + (page - (uintptr_t)first % page) % page;
+    const size_t size = 90000 * sizeof(uint64_t) / page * page;
+    bb_place *places = calloc(100000, sizeof *places);
+    EXPECT(places != NULL);
+    EXPECT(bb_file_party_take_many(party, places, 100000).number == 100000);
+    const bb_place message = bb_file_party_place_at(party, 0).place;
+    for (uint32_t round = 0; round < 4; round++) {
+        const bb_place one = bb_file_party_place_at(party, 40000 + round).place;
+        const bb_place other = bb_file_party_place_at(party, 50000 + round).place;
+        EXPECT(bb_pool_file_post(file, party, 0, message, 1) == BB_OK);
+        EXPECT(bb_pool_file_take(file, party, 0).code == BB_OK);
+        EXPECT(bb_file_party_deallocate(party, message) == BB_FILE_NOT_DONE);
+        if (round == 0)
+            EXPECT(bb_pool_file_done(file, party, 0) == BB_OK);
+        else if (round == 1)
+            EXPECT(bb_pool_file_detach(file, party, message).code == BB_OK);
+        else if (round == 2)
+            EXPECT(bb_pool_file_give_all_back(file, party) == BB_OK);
+        else
+            EXPECT(bb_pool_file_leave(file, party) == BB_OK && join_it(file) == party);
+        if (round > 1)
+            EXPECT(bb_file_party_take_many(party, places, 100000).number == 99999);
+        EXPECT(mprotect(from, size, PROT_NONE) == 0);
+        EXPECT(bb_file_party_deallocate(party, one) == BB_OK);
+        EXPECT(bb_file_party_deallocate_many(party, &other, 1).number == 1);
+        EXPECT(mprotect(from, size, PROT_READ | PROT_WRITE) == 0);
+        if (round > 0) {
+            EXPECT(bb_pool_file_take(file, party, 0).code == BB_OK);
+            EXPECT(bb_pool_file_done(file, party, 0) == BB_OK);
+        }
+    }
+    free(places);
+    close_it(file);
+    remove_it();
+}
+
+// Reads or writes a word of the file of OPTIONS.
+static uint64_t word_at(int fd, off_t at) {
+    uint64_t word;
+    EXPECT(pread(fd, &word, sizeof word, at) == sizeof word);
+    return word;
+}
+
+static void set_word(int fd, off_t at, uint64_t word) {
+    EXPECT(pwrite(fd, &word, sizeof word, at) == sizeof word);
+}
+
+static off_t slot_at(uint32_t slot) {
+    return FIRST_SLOT + 128 * (off_t)slot;
+}
+
+static off_t entry_at(uint32_t bucket) {
+    return FIRST_ENTRY + 8 * (off_t)bucket;
+}
+
+// Starts a child that takes a bucket and dies. Returns the bucket's number.
+static uint32_t held_by_the_dead(bb_pool_file *file) {
+    bb_holder flag = {BB_FREE, 0};
+    uint32_t number = 0;
+    end_killed(holder(1));
+    for (uint32_t at = 0; at < 20; at++)
+        if (bb_pool_file_holder(file, at, &flag) == BB_OK && flag.state == BB_HELD)
+            number = at;
+    return number;
+}
+
+// A process that is killed in a post, before the slot has the bucket, or in a `done`, after the
+// slot is empty, leaves a bucket whose entry names a slot that hasn't got it. A reap frees the
+// bucket, and clears the entry. If the slot has the bucket, the reap sends it there.
+static void half_done(void) {
+    bb_pool_file *file = open_it();
+    bb_holder flag;
+    const int fd = open(path, O_RDWR | O_CLOEXEC);
+    EXPECT(fd >= 0);
+    // The slot is empty.
+    uint32_t number = held_by_the_dead(file);
+    set_word(fd, entry_at(number), (uint64_t)7 << 32 | 2);
+    EXPECT(reap(file, BB_REAP_HELD) == 1 && word_at(fd, entry_at(number)) == 0);
+    EXPECT(info_of(file).held == 0 && info_of(file).detached == 0);
+    // The slot has the bucket, at lap 5.
+    number = held_by_the_dead(file);
+    set_word(fd, entry_at(number), (uint64_t)7 << 32 | 2);
+    set_word(fd, slot_at(1), (uint64_t)5 << 32 | (number + 1));
+    EXPECT(bb_pool_file_wait_full(file, 1, 0) == BB_FILE_TIMED_OUT);
+    EXPECT(reap(file, BB_REAP_HELD) == 0 && bb_pool_file_look(file, 1).len == 7);
+    EXPECT(bb_pool_file_holder(file, number, &flag) == BB_OK);
+    EXPECT(flag.state == BB_DETACHED && flag.party == 6 + 1 + 4 * 5);
+    EXPECT(bb_pool_file_wait_full(file, 1, 0) == BB_OK);
+    // The slot has another message.
+    const uint32_t other = held_by_the_dead(file);
+    set_word(fd, entry_at(other), (uint64_t)9 << 32 | 2);
+    EXPECT(reap(file, BB_REAP_HELD) == 1 && word_at(fd, entry_at(other)) == 0);
+    EXPECT(info_of(file).held == 0 && info_of(file).detached == 1);
+    bb_file_party *party = join_it(file);
+    const bb_message message = bb_pool_file_take(file, party, 1);
+    EXPECT(message.code == BB_OK && message.number == number && message.len == 7);
+    EXPECT(bb_pool_file_done(file, party, 1) == BB_OK && word_at(fd, entry_at(number)) == 0);
+    EXPECT(word_at(fd, slot_at(1)) == (uint64_t)6 << 32);
+    EXPECT(bb_pool_file_post(file, party, 1, message.place, 2) == BB_OK);
+    EXPECT(word_at(fd, slot_at(1)) == ((uint64_t)6 << 32 | (number + 1)));
+    EXPECT(word_at(fd, entry_at(number)) == ((uint64_t)2 << 32 | 2));
+    // A refused post leaves no entry.
+    const bb_place place = take_one(party);
+    const uint32_t refused = (uint32_t)bb_file_party_number_at(party, place).number;
+    EXPECT(bb_pool_file_post(file, party, 1, place, 2) == BB_DETACHED_FULL);
+    EXPECT(word_at(fd, entry_at(refused)) == 0 && holds(party, place));
+    close_it(file);
+    close(fd);
+    remove_it();
+}
+
+// A take that has read the slot's word some time ago takes nothing: neither the bucket's message in
+// another slot, nor a later one of the same slot.
+static void stale_takes(void) {
+    bb_pool_file *file = open_it();
+    bb_file_party *party = join_it(file);
+    const int fd = open(path, O_RDWR | O_CLOEXEC);
+    EXPECT(fd >= 0 && bb_pool_file_post(file, party, 0, take_one(party), 5) == BB_OK);
+    const uint64_t old = word_at(fd, slot_at(0));
+    const bb_message message = bb_pool_file_take(file, party, 0);
+    EXPECT(message.len == 5 && bb_pool_file_done(file, party, 0) == BB_OK);
+    const uint64_t empty = word_at(fd, slot_at(0));
+    EXPECT(bb_pool_file_post(file, party, 1, message.place, 6) == BB_OK);
+    set_word(fd, slot_at(0), old);
+    EXPECT(bb_pool_file_take(file, party, 0).code == BB_NOT_HELD);
+    EXPECT(bb_pool_file_wait_full(file, 0, 0) == BB_FILE_TIMED_OUT);
+    set_word(fd, slot_at(0), empty);
+    EXPECT(bb_pool_file_take(file, party, 1).len == 6);
+    EXPECT(bb_pool_file_done(file, party, 1) == BB_OK);
+    EXPECT(bb_pool_file_post(file, party, 0, message.place, 7) == BB_OK);
+    const uint64_t new = word_at(fd, slot_at(0));
+    EXPECT(new != old);
+    set_word(fd, slot_at(0), old);
+    EXPECT(bb_pool_file_take(file, party, 0).code == BB_NOT_HELD);
+    EXPECT(bb_pool_file_wait_full(file, 0, 0) == BB_FILE_TIMED_OUT);
+    set_word(fd, slot_at(0), new);
+    EXPECT(bb_pool_file_take(file, party, 0).len == 7);
+    // The bucket is detached by its number, after it was in the slot.
+    EXPECT(bb_pool_file_done(file, party, 0) == BB_OK);
+    EXPECT(bb_pool_file_detach(file, party, message.place).code == BB_OK);
+    set_word(fd, slot_at(0), new);
+    EXPECT(bb_pool_file_take(file, party, 0).code == BB_NOT_HELD);
+    EXPECT(bb_pool_file_wait_full(file, 0, 0) == BB_FILE_TIMED_OUT);
+    set_word(fd, slot_at(0), empty);
+    EXPECT(bb_pool_file_attach(file, party, message.number).code == BB_OK);
+    close_it(file);
+    close(fd);
+    remove_it();
+}
+
+// The laps of 4 slots, with 6 parties: after the last one, 1073741821, comes lap 0. A later one is
+// a wrong value, and counts as lap 0.
+static void laps(void) {
+    const uint32_t last = 1073741821;
+    bb_pool_file *file = open_it();
+    bb_file_party *party = join_it(file);
+    bb_holder flag;
+    const int fd = open(path, O_RDWR | O_CLOEXEC);
+    EXPECT(fd >= 0);
+    bb_place place = take_one(party);
+    const uint32_t number = (uint32_t)bb_file_party_number_at(party, place).number;
+    const uint32_t first[] = {last, last + 1, UINT32_MAX, 0};
+    const uint32_t sent_by[] = {4294967293, 9, 9, 9};
+    const uint32_t next[] = {0, 1, 1, 1};
+    for (int at = 0; at < 4; at++) {
+        set_word(fd, slot_at(3), (uint64_t)first[at] << 32);
+        EXPECT(bb_pool_file_look(file, 3).code == BB_DETACHED_EMPTY);
+        EXPECT(bb_pool_file_wait_empty(file, 3, 0) == BB_OK && info_of(file).full_slots == 0);
+        EXPECT(bb_pool_file_post(file, party, 3, place, 8) == BB_OK);
+        EXPECT(bb_pool_file_holder(file, number, &flag) == BB_OK);
+        EXPECT(flag.state == BB_DETACHED && flag.party == sent_by[at]);
+        EXPECT(info_of(file).wrong == 0 && bb_pool_file_look(file, 3).len == 8);
+        EXPECT(bb_pool_file_take(file, party, 3).len == 8);
+        EXPECT(bb_pool_file_detach(file, party, place).number == number);
+        EXPECT(bb_pool_file_take(file, party, 3).len == 8);
+        EXPECT(bb_pool_file_done(file, party, 3) == BB_OK);
+        EXPECT(word_at(fd, slot_at(3)) == (uint64_t)next[at] << 32);
+    }
+    // The number after the last slot's last one is none of the file's.
+    set_word(fd, PAGE + 8 * (16 + (off_t)number), 2 * (uint64_t)4294967293 + 2);
+    EXPECT(info_of(file).wrong == 0 && info_of(file).detached == 1);
+    set_word(fd, PAGE + 8 * (16 + (off_t)number), 2 * (uint64_t)4294967294 + 2);
+    EXPECT(info_of(file).wrong == 1 && info_of(file).detached == 0);
+    close_it(file);
+    close(fd);
+    remove_it();
+}
+
+// Entries with wrong values lead to no access outside, and a message that can't be is not received.
+static void wrong_entries(void) {
+    bb_pool_file *file = open_it();
+    bb_file_party *party = join_it(file);
+    bb_holder flag;
+    const int fd = open(path, O_RDWR | O_CLOEXEC);
+    EXPECT(fd >= 0 && bb_pool_file_post(file, party, 0, take_one(party), 5) == BB_OK);
+    const uint32_t number = bb_pool_file_look(file, 0).number;
+    const uint64_t right = word_at(fd, entry_at(number));
+    EXPECT(right == ((uint64_t)5 << 32 | 1));
+    set_word(fd, entry_at(number), (uint64_t)101 << 32 | 1);  // longer than a bucket
+    EXPECT(bb_pool_file_look(file, 0).code == BB_NOT_A_BUCKET);
+    EXPECT(bb_pool_file_take(file, party, 0).code == BB_NOT_A_BUCKET && held_by(party) == 0);
+    EXPECT(bb_pool_file_holder(file, number, &flag) == BB_OK);
+    EXPECT(flag.state == BB_DETACHED && flag.party == 6);  // it is sent as before
+    set_word(fd, entry_at(number), right);
+    const bb_message message = bb_pool_file_take(file, party, 0);
+    EXPECT(message.code == BB_OK && message.len == 5);
+    const uint32_t slots_of_others[] = {1, 4, UINT32_MAX - 1};
+    for (int at = 0; at < 3; at++) {
+        set_word(fd, entry_at(number), (uint64_t)5 << 32 | (slots_of_others[at] + 1));
+        EXPECT(bb_pool_file_detach(file, party, message.place).code == BB_NOT_A_BUCKET);
+        EXPECT(bb_file_party_deallocate(party, message.place) == BB_FILE_NOT_DONE);
+        EXPECT(held_by(party) == 1);
+    }
+    EXPECT(bb_pool_file_done(file, party, 0) == BB_OK);
+    EXPECT(bb_file_party_deallocate(party, message.place) == BB_OK && info_of(file).held == 0);
+    close_it(file);
+    close(fd);
+    remove_it();
+}
+
 static void by_number(void) {
     bb_pool_file *one = open_it();
     bb_pool_file *two = open_it();
-    bb_pool_party *sender = join_it(one);
-    bb_pool_party *a = join_it(two);
+    bb_file_party *sender = join_it(one);
+    bb_file_party *a = join_it(two);
     bb_place bucket = take_one(sender);
     bb_number detached = bb_pool_file_detach(one, sender, bucket);
     uint32_t number = (uint32_t)detached.number;
@@ -1446,11 +1924,27 @@ static void by_number(void) {
     EXPECT(reap(two, BB_REAP_LEFT) == 1 && info_of(two).detached == 0);
     EXPECT(bb_pool_file_reap(two, 4, NULL) == BB_INVALID_ARGUMENT);
     EXPECT(bb_pool_file_reap(two, UINT32_MAX, NULL) == BB_INVALID_ARGUMENT);
+    // A number attaches no bucket that is in a slot: neither before a party has taken it, nor after
+    // that, nor when it was put back.
+    bb_file_party *const other = join_it(two);
+    bucket = take_one(other);
+    number = (uint32_t)bb_file_party_number_at(other, bucket).number;
+    EXPECT(bb_pool_file_post(two, other, 3, bucket, 9) == BB_OK);
+    EXPECT(bb_pool_file_attach(two, other, number).code == BB_NOT_HELD);
+    EXPECT(bb_pool_file_take(two, other, 3).len == 9);
+    EXPECT(bb_pool_file_attach(two, other, number).code == BB_NOT_HELD);
+    EXPECT(bb_pool_file_detach(two, other, bucket).number == number);
+    EXPECT(bb_pool_file_attach(two, other, number).code == BB_NOT_HELD);
+    EXPECT(bb_pool_file_take(two, other, 3).len == 9);
+    EXPECT(bb_pool_file_done(two, other, 3) == BB_OK);
+    EXPECT(bb_pool_file_detach(two, other, bucket).number == number);
+    EXPECT(bb_pool_file_attach(two, other, number).code == BB_OK);
+    EXPECT(bb_pool_file_leave(two, other) == BB_OK && info_of(two).held == 0);
     // A dead party's message in a slot stays, though it was put back by `detach`.
     const pid_t child = child_of();
     if (child == 0) {
         bb_pool_file *own = open_it();
-        bb_pool_party *party = join_it(own);
+        bb_file_party *party = join_it(own);
         EXPECT(bb_pool_file_post(own, party, 2, take_one(party), 7) == BB_OK);
         const bb_message got = bb_pool_file_take(own, party, 2);
         EXPECT(bb_pool_file_detach(own, party, got.place).code == BB_OK);
@@ -1476,14 +1970,14 @@ static void one_wins(void) {
     uint32_t *wins = &shared[32];
     uint32_t *tried = &shared[48];
     bb_pool_file *file = open_it();
-    bb_pool_party *party = join_it(file);
+    bb_file_party *party = join_it(file);
     pid_t children[CHILDREN];
     for (int at = 0; at < CHILDREN; at++) {
         children[at] = child_of();
         if (children[at] != 0)
             continue;
         bb_pool_file *own = open_it();
-        bb_pool_party *mine = join_it(own);
+        bb_file_party *mine = join_it(own);
         for (uint32_t now = 1; now <= ROUNDS; now++) {
             while (__atomic_load_n(round, __ATOMIC_SEQ_CST) < now)
                 sched_yield();
@@ -1493,7 +1987,7 @@ static void one_wins(void) {
             __atomic_fetch_add(tried, 1, __ATOMIC_SEQ_CST);
             while (__atomic_load_n(tried, __ATOMIC_SEQ_CST) < CHILDREN * now)
                 sched_yield();
-            if (got.code == BB_OK && bb_pool_party_deallocate(mine, got.place) != BB_OK)
+            if (got.code == BB_OK && bb_file_party_deallocate(mine, got.place) != BB_OK)
                 _exit(1);
         }
         _exit(0);
@@ -1545,7 +2039,7 @@ static uint32_t wait_bucket(bb_pool_file *file, uint32_t unused, uint32_t timeou
 
 static void waits(void) {
     bb_pool_file *file = open_it();
-    bb_pool_party *party = join_it(file);
+    bb_file_party *party = join_it(file);
     uint64_t begun = milliseconds();
     EXPECT(bb_pool_file_wait_full(file, 1, 150) == BB_FILE_TIMED_OUT);
     EXPECT(milliseconds() - begun >= 150);
@@ -1576,14 +2070,17 @@ static void waits(void) {
     EXPECT(bb_pool_file_wait_bucket(file, 10) == BB_FILE_TIMED_OUT);
     child = sleeper(wait_bucket, 0);
     second = sleeper(wait_bucket, 0);
-    EXPECT(bb_pool_file_deallocate(file, party, message.place) == BB_OK);
+    EXPECT(bb_file_party_deallocate(party, message.place) == BB_OK);
     end(child);
     end(second);
-    // A return that wakes nobody is noticed, and so is a reap.
+    // A free that wakes nobody is noticed, and so is a reap.
     const bb_place last = take_one(party);
+    EXPECT(bb_file_party_cache(party, 1) == BB_OK);
+    EXPECT(bb_file_party_deallocate(party, last) == BB_OK);
     child = sleeper(wait_bucket, 0);
-    EXPECT(bb_pool_party_deallocate(party, last) == BB_OK);
+    EXPECT(bb_file_party_flush(party) == BB_OK);
     end(child);
+    EXPECT(bb_file_party_cache(party, 0) == BB_OK);
     const pid_t dying = holder(1);
     child = sleeper(wait_bucket, 0);
     end_killed(dying);
@@ -1613,13 +2110,13 @@ static void ping(void) {
     };
 
     bb_pool_file *file = open_it();
-    bb_pool_party *party = join_it(file);
+    bb_file_party *party = join_it(file);
     for (int at = 0; at < 19; at++)
         take_one(party);
     const pid_t child = child_of();
     if (child == 0) {
         bb_pool_file *own = open_it();
-        bb_pool_party *mine = join_it(own);
+        bb_file_party *mine = join_it(own);
         uint32_t late = 0;
         for (int round = 0; round < ROUNDS; round++) {
             late += is_late(bb_pool_file_wait_full, own);
@@ -1627,7 +2124,7 @@ static void ping(void) {
             usleep(1000);  // so long that the sender sleeps
             EXPECT(message.code == BB_OK && bb_pool_file_done(own, mine, 0) == BB_OK);
             usleep(1000);
-            EXPECT(bb_pool_file_deallocate(own, mine, message.place) == BB_OK);
+            EXPECT(bb_file_party_deallocate(mine, message.place) == BB_OK);
         }
         EXPECT(late <= MOST_LATE);
         _exit(0);
@@ -1650,28 +2147,28 @@ static void ping(void) {
 struct waking {
     uint32_t (*wait)(bb_pool_file *, uint32_t, uint32_t);
     uint32_t slot;
-    void (*prepare)(bb_pool_file *, bb_pool_party *);
-    void (*act)(bb_pool_file *, bb_pool_party *);
+    void (*prepare)(bb_pool_file *, bb_file_party *);
+    void (*act)(bb_pool_file *, bb_file_party *);
 };
 
 // The messages and parties of a `prepare`, for the `act` after it.
 static bb_message prepared;
-static bb_pool_party *leaving;
+static bb_file_party *leaving;
 
-static void free_message(bb_pool_file *file, bb_pool_party *party, uint32_t slot) {
+static void free_message(bb_pool_file *file, bb_file_party *party, uint32_t slot) {
     const bb_message message = bb_pool_file_take(file, party, slot);
     if (message.code != BB_OK)
         return;
     EXPECT(bb_pool_file_done(file, party, slot) == BB_OK);
-    EXPECT(bb_pool_file_deallocate(file, party, message.place) == BB_OK);
+    EXPECT(bb_file_party_deallocate(party, message.place) == BB_OK);
 }
 
-static void post_into(bb_pool_file *file, bb_pool_party *party, uint32_t slot) {
+static void post_into(bb_pool_file *file, bb_file_party *party, uint32_t slot) {
     EXPECT(bb_pool_file_post(file, party, slot, take_one(party), 8) == BB_OK);
 }
 
 // The slots are empty but for slot 1, whose message is taken.
-static void take_again(bb_pool_file *file, bb_pool_party *party) {
+static void take_again(bb_pool_file *file, bb_file_party *party) {
     for (uint32_t slot = 0; slot < 4; slot++)
         free_message(file, party, slot);
     post_into(file, party, 1);
@@ -1679,25 +2176,25 @@ static void take_again(bb_pool_file *file, bb_pool_party *party) {
     EXPECT(prepared.code == BB_OK);
 }
 
-static void put_back(bb_pool_file *file, bb_pool_party *party) {
+static void put_back(bb_pool_file *file, bb_file_party *party) {
     EXPECT(bb_pool_file_detach(file, party, prepared.place).code == BB_OK);
 }
 
 // All slots are full, and slot 1's message is taken.
-static void fill_all(bb_pool_file *file, bb_pool_party *party) {
+static void fill_all(bb_pool_file *file, bb_file_party *party) {
     take_again(file, party);
     for (uint32_t slot = 0; slot < 4; slot++)
         if (slot != 1)
             post_into(file, party, slot);
 }
 
-static void be_done(bb_pool_file *file, bb_pool_party *party) {
+static void be_done(bb_pool_file *file, bb_file_party *party) {
     EXPECT(bb_pool_file_done(file, party, 1) == BB_OK);
-    EXPECT(bb_pool_file_deallocate(file, party, prepared.place) == BB_OK);
+    EXPECT(bb_file_party_deallocate(party, prepared.place) == BB_OK);
 }
 
 // Another party has taken slot 1's message, and holds all other buckets.
-static void take_by_another(bb_pool_file *file, bb_pool_party *party) {
+static void take_by_another(bb_pool_file *file, bb_file_party *party) {
     leaving = join_it(file);
     free_message(file, party, 1);
     post_into(file, party, 1);
@@ -1706,19 +2203,19 @@ static void take_by_another(bb_pool_file *file, bb_pool_party *party) {
         take_one(leaving);
 }
 
-static void leave_both(bb_pool_file *file, bb_pool_party *party) {
+static void leave_both(bb_pool_file *file, bb_file_party *party) {
     (void)party;
     EXPECT(bb_pool_file_leave(file, leaving) == BB_OK);
 }
 
 // The same by a process that is dead by now.
-static void take_by_the_dead(bb_pool_file *file, bb_pool_party *party) {
+static void take_by_the_dead(bb_pool_file *file, bb_file_party *party) {
     free_message(file, party, 1);
     post_into(file, party, 1);
     const pid_t child = child_of();
     if (child == 0) {
         bb_pool_file *own = open_it();
-        bb_pool_party *mine = join_it(own);
+        bb_file_party *mine = join_it(own);
         EXPECT(bb_pool_file_take(own, mine, 1).code == BB_OK);
         for (int at = 0; at < 19; at++)
             take_one(mine);
@@ -1727,9 +2224,22 @@ static void take_by_the_dead(bb_pool_file *file, bb_pool_party *party) {
     end(child);
 }
 
-static void reap_all(bb_pool_file *file, bb_pool_party *party) {
+static void reap_all(bb_pool_file *file, bb_file_party *party) {
     (void)party;
     EXPECT(reap(file, BB_REAP_HELD) == 19);
+}
+
+// The party holds all buckets, and then frees them by one call.
+static bb_place all_places[20];
+
+static void take_all(bb_pool_file *file, bb_file_party *party) {
+    (void)file;
+    EXPECT(bb_file_party_take_many(party, all_places, 20).number == 20);
+}
+
+static void free_all(bb_pool_file *file, bb_file_party *party) {
+    (void)file;
+    EXPECT(bb_file_party_deallocate_many(party, all_places, 20).number == 20);
 }
 
 // A process that sleeps is woken at once. If a wake was lost, almost each wait would be late. A
@@ -1744,7 +2254,7 @@ static void wakes(const struct waking *waking) {
     int replies[2];
     EXPECT(pipe(asks) == 0 && pipe(replies) == 0);
     bb_pool_file *file = open_it();
-    bb_pool_party *party = join_it(file);
+    bb_file_party *party = join_it(file);
     const pid_t child = child_of();
     if (child == 0) {
         bb_pool_file *own = open_it();
@@ -1790,6 +2300,7 @@ static void woken(void) {
         {wait_bucket, 0, take_by_another, leave_both},
         {bb_pool_file_wait_full, 1, take_by_the_dead, reap_all},
         {wait_bucket, 0, take_by_the_dead, reap_all},
+        {wait_bucket, 0, take_all, free_all},
     };
     for (size_t at = 0; at < sizeof all_of_them / sizeof *all_of_them; at++)
         wakes(&all_of_them[at]);
@@ -1807,13 +2318,13 @@ static void two_woken(void) {
     pid_t children[2];
     EXPECT(pipe(asks) == 0 && pipe(replies) == 0);
     bb_pool_file *file = open_it();
-    bb_pool_party *party = join_it(file);
+    bb_file_party *party = join_it(file);
     for (int at = 0; at < 2; at++) {
         children[at] = child_of();
         if (children[at] != 0)
             continue;
         bb_pool_file *own = open_it();
-        bb_pool_party *mine = join_it(own);
+        bb_file_party *mine = join_it(own);
         for (int round = 0; round < ROUNDS; round++) {
             bb_message message = {BB_DETACHED_EMPTY, 0, NULL, 0};
             hear(asks[0]);
@@ -1828,7 +2339,7 @@ static void two_woken(void) {
                 }
             }
             const char late = milliseconds() - begun >= 100;
-            EXPECT(bb_pool_file_deallocate(own, mine, message.place) == BB_OK);
+            EXPECT(bb_file_party_deallocate(mine, message.place) == BB_OK);
             EXPECT(write(replies[1], &late, 1) == 1);
             hear(asks[0]);
         }
@@ -1865,7 +2376,7 @@ static void killed_when_woken(void) {
     uint64_t least = UINT64_MAX;
     for (int tries = 0; tries < 3; tries++) {
         bb_pool_file *file = open_it();
-        bb_pool_party *party = join_it(file);
+        bb_file_party *party = join_it(file);
         const pid_t first = sleeper(bb_pool_file_wait_full, 1);
         const pid_t second = sleeper(bb_pool_file_wait_full, 1);
         const uint64_t begun = milliseconds();
@@ -1900,7 +2411,7 @@ static void unconcerned(void) {
     };
 
     bb_pool_file *file = open_it();
-    bb_pool_party *party = join_it(file);
+    bb_file_party *party = join_it(file);
     post_into(file, party, 2);
     const pid_t for_message = sleeper(bb_pool_file_wait_full, 1);
     const pid_t for_room = sleeper(bb_pool_file_wait_empty, 2);
@@ -1923,13 +2434,13 @@ static void unconcerned(void) {
 }
 
 // Work of a process until it is killed, which waits for this slot or for any.
-static void receive_each(bb_pool_file *file, bb_pool_party *party, uint32_t slot) {
+static void receive_each(bb_pool_file *file, bb_file_party *party, uint32_t slot) {
     EXPECT(bb_pool_file_wait_full(file, slot, BB_NO_TIMEOUT) == BB_OK);
     for (uint32_t at = 0; at < 4; at++)
         free_message(file, party, at);
 }
 
-static void send_each(bb_pool_file *file, bb_pool_party *party, uint32_t slot) {
+static void send_each(bb_pool_file *file, bb_file_party *party, uint32_t slot) {
     EXPECT(bb_pool_file_wait_empty(file, slot, BB_NO_TIMEOUT) == BB_OK);
     const bb_place place = take_one(party);
     uint32_t code = BB_DETACHED_FULL;
@@ -1937,12 +2448,12 @@ static void send_each(bb_pool_file *file, bb_pool_party *party, uint32_t slot) {
         if (slot == BB_ANY_SLOT || slot == at)
             code = bb_pool_file_post(file, party, at, place, 8);
     if (code == BB_DETACHED_FULL)
-        EXPECT(bb_pool_party_deallocate(party, place) == BB_OK);
+        EXPECT(bb_file_party_deallocate(party, place) == BB_OK);
 }
 
-static void allocate_each(bb_pool_file *file, bb_pool_party *party, uint32_t slot) {
+static void allocate_each(bb_pool_file *file, bb_file_party *party, uint32_t slot) {
     EXPECT(bb_pool_file_wait_bucket(file, BB_NO_TIMEOUT) == BB_OK);
-    const bb_chunk chunk = bb_pool_party_take(party);
+    const bb_chunk chunk = bb_file_party_take(party);
     if (chunk.code == BB_OK)
         EXPECT(bb_pool_file_post(file, party, slot, chunk.place, 8) == BB_OK);
 }
@@ -1954,40 +2465,40 @@ static void see_slot(bb_pool_file *file, uint32_t slot, uint32_t code) {
 }
 
 // What wakes one of them, in the round with this number.
-static void post_in_round(bb_pool_file *file, bb_pool_party *party, uint32_t round) {
+static void post_in_round(bb_pool_file *file, bb_file_party *party, uint32_t round) {
     see_slot(file, round % 4, BB_DETACHED_EMPTY);
     post_into(file, party, round % 4);
 }
 
-static void post_into_first(bb_pool_file *file, bb_pool_party *party, uint32_t round) {
+static void post_into_first(bb_pool_file *file, bb_file_party *party, uint32_t round) {
     post_in_round(file, party, 4 * round);
 }
 
-static void free_in_round(bb_pool_file *file, bb_pool_party *party, uint32_t round) {
+static void free_in_round(bb_pool_file *file, bb_file_party *party, uint32_t round) {
     if (round > 0)
         see_slot(file, round % 4, BB_OK);
     free_message(file, party, round % 4);
 }
 
-static void free_first(bb_pool_file *file, bb_pool_party *party, uint32_t round) {
+static void free_first(bb_pool_file *file, bb_file_party *party, uint32_t round) {
     if (round > 0)
         see_slot(file, 0, BB_OK);
     free_message(file, party, 0);
 }
 
 // Before the first round, the party takes all buckets. Then one of them goes to and fro.
-static void free_bucket(bb_pool_file *file, bb_pool_party *party, uint32_t round) {
+static void free_bucket(bb_pool_file *file, bb_file_party *party, uint32_t round) {
     if (round == 0) {
         for (int at = 0; at < 19; at++)
             take_one(party);
-        EXPECT(bb_pool_file_deallocate(file, party, take_one(party)) == BB_OK);
+        EXPECT(bb_file_party_deallocate(party, take_one(party)) == BB_OK);
     }
     free_first(file, party, round);
 }
 
 // Of four processes that wait for the same, each message, empty slot or bucket wakes one.
-static void one_of_four(void (*work)(bb_pool_file *, bb_pool_party *, uint32_t), uint32_t slot,
-                        void (*act)(bb_pool_file *, bb_pool_party *, uint32_t)) {
+static void one_of_four(void (*work)(bb_pool_file *, bb_file_party *, uint32_t), uint32_t slot,
+                        void (*act)(bb_pool_file *, bb_file_party *, uint32_t)) {
     enum {
         ROUNDS = 60,
         WORKERS = 4
@@ -1997,14 +2508,14 @@ static void one_of_four(void (*work)(bb_pool_file *, bb_pool_party *, uint32_t),
     int ready[2];
     EXPECT(pipe(ready) == 0);
     bb_pool_file *file = open_it();
-    bb_pool_party *party = join_it(file);
+    bb_file_party *party = join_it(file);
     act(file, party, 0);
     for (int at = 0; at < WORKERS; at++) {
         children[at] = child_of();
         if (children[at] != 0)
             continue;
         bb_pool_file *own = open_it();
-        bb_pool_party *mine = join_it(own);
+        bb_file_party *mine = join_it(own);
         tell(ready[1]);
         for (;;)
             work(own, mine, slot);
@@ -2081,7 +2592,7 @@ static bool is_readable(int fd, int timeout) {
 // The codes of watches, and what makes a descriptor readable.
 static void watched(void) {
     bb_pool_file *file = open_it();
-    bb_pool_party *party = join_it(file);
+    bb_file_party *party = join_it(file);
     const int fd = watch_it(file);
     const int other = watch_it(file);
     EXPECT((fcntl(fd, F_GETFD) & FD_CLOEXEC) != 0 && other != fd);
@@ -2161,14 +2672,14 @@ static void event_loop(void) {
     };
 
     bb_pool_file *file = open_it();
-    bb_pool_party *party = join_it(file);
+    bb_file_party *party = join_it(file);
     pid_t children[LOOPS];
     for (uint32_t at = 0; at < LOOPS; at++) {
         children[at] = child_of();
         if (children[at] != 0)
             continue;
         bb_pool_file *own = open_it();
-        bb_pool_party *mine = join_it(own);
+        bb_file_party *mine = join_it(own);
         const int fd = watch_it(own);
         for (uint32_t taken = 0; taken < MESSAGES;) {
             arm(own, fd, 2 * at);
@@ -2180,7 +2691,7 @@ static void event_loop(void) {
                     continue;
                 taken++;
                 EXPECT(bb_pool_file_done(own, mine, slot) == BB_OK);
-                EXPECT(bb_pool_file_deallocate(own, mine, message.place) == BB_OK);
+                EXPECT(bb_file_party_deallocate(mine, message.place) == BB_OK);
             }
             if (taken == before)
                 EXPECT(is_readable(fd, 20000));
@@ -2224,14 +2735,14 @@ static void *reap_in_thread(void *unused) {
 }
 
 static void *work_in_thread(void *unused) {
-    bb_pool_party *party = join_it(shared_file);
+    bb_file_party *party = join_it(shared_file);
     for (int at = 0; at < 5000; at++) {
-        const bb_chunk got = bb_pool_party_take(party);
+        const bb_chunk got = bb_file_party_take(party);
         if (got.code == BB_OK) {
             uint64_t *word = got.place;
             *word = (uintptr_t)&got;
             EXPECT(*word == (uintptr_t)&got);
-            EXPECT(bb_pool_party_deallocate(party, got.place) == BB_OK);
+            EXPECT(bb_file_party_deallocate(party, got.place) == BB_OK);
         }
         if (at % 1000 == 999) {
             EXPECT(bb_pool_file_leave(shared_file, party) == BB_OK);
@@ -2280,7 +2791,7 @@ static void reapers(void) {
 
 static void reaps(void) {
     bb_pool_file *file = open_it();
-    bb_pool_party *party = join_it(file);
+    bb_file_party *party = join_it(file);
     const bb_place mine = take_one(party);
     const pid_t living = holder(2);
     const pid_t dying = holder(3);
@@ -2293,9 +2804,9 @@ static void reaps(void) {
     kill(living, SIGSTOP);  // a stopped process is alive
     EXPECT(reap(file, BB_REAP_DEAD) == 0 && info_of(file).held == 3);
     end_killed(living);
-    bb_pool_party *next = join_it(file);  // it has the dead one's number, with nothing left
+    bb_file_party *next = join_it(file);  // it has the dead one's number, with nothing left
     EXPECT(number_of(next) == 1 && info_of(file).held == 1);
-    EXPECT(bb_pool_party_holds(party, mine).number == 1);
+    EXPECT(bb_file_party_holds(party, mine).number == 1);
     close_it(file);
     remove_it();
     reapers();
@@ -2377,8 +2888,10 @@ static void forked_beside_a_join(void) {
 // A forked child has nothing of the file, and may close what it has not.
 static void forked(void) {
     bb_pool_file *file = open_it();
-    bb_pool_party *party = join_it(file);
+    bb_file_party *party = join_it(file);
     const bb_place place = take_one(party);
+    EXPECT(bb_pool_file_post(file, party, 0, take_one(party), 1) == BB_OK);
+    const bb_place taken = bb_pool_file_take(file, party, 0).place;
     // The pages of words, tables and region.
     const size_t page = system_page();
     char *first = (char *)info_of(file).start - 2 * PAGE;
@@ -2394,10 +2907,12 @@ static void forked(void) {
         EXPECT(system_mmap(first, page, PROT_READ | PROT_WRITE,
                            MAP_PRIVATE | MAP_ANONYMOUS | MAP_FIXED_NOREPLACE, -1, 0) == first);
         bb_pool_file_figures figures;
-        bb_pool_party *more;
+        bb_file_party *more;
         bb_holder flag;
-        EXPECT(bb_pool_party_take(party).code == BB_UNINITIALIZED);
-        EXPECT(bb_pool_file_deallocate(file, party, place) == BB_UNINITIALIZED);
+        EXPECT(bb_file_party_take(party).code == BB_UNINITIALIZED);
+        EXPECT(bb_file_party_deallocate(party, place) == BB_UNINITIALIZED);
+        EXPECT(bb_file_party_deallocate(party, taken) == BB_UNINITIALIZED);
+        EXPECT(bb_file_party_deallocate_many(party, &taken, 1).code == BB_UNINITIALIZED);
         EXPECT(bb_pool_file_info(file, &figures) == BB_UNINITIALIZED);
         EXPECT(bb_pool_file_join(file, &more) == BB_UNINITIALIZED);
         EXPECT(bb_pool_file_leave(file, party) == BB_UNINITIALIZED);
@@ -2421,11 +2936,11 @@ static void forked(void) {
         close_it(file);
         *first = 'x';
         bb_pool_file *own = open_it();
-        EXPECT(info_of(own).held == 1 && number_of(join_it(own)) == 1);
+        EXPECT(info_of(own).held == 2 && number_of(join_it(own)) == 1);
         _exit(0);
     }
     end(child);
-    EXPECT(bb_pool_party_holds(party, place).number == 1);
+    EXPECT(bb_file_party_holds(party, place).number == 1);
     close_it(file);
     remove_it();
 }
@@ -2536,10 +3051,10 @@ static void closed(void) {
     const pid_t child = child_of();
     if (child == 0) {
         bb_pool_file *own = open_it();
-        bb_pool_party *party = join_it(own);
+        bb_file_party *party = join_it(own);
         take_one(party);
         EXPECT(syscall(SYS_close_range, 3, 99, 0) == 0);
-        EXPECT(bb_pool_party_deallocate(party, take_one(party)) == BB_OK);
+        EXPECT(bb_file_party_deallocate(party, take_one(party)) == BB_OK);
         bb_pool_file_figures figures;
         EXPECT(is_alive(own, 0, life_of(own, 0)));  // it is this process's own
         EXPECT(bb_pool_file_is_alive(own, 1, 1).code == BB_FILE_SYSTEM && errno == EBADF);
@@ -2575,7 +3090,7 @@ static void namespaces(void) {
         if (inner == 0) {
             EXPECT(getpid() == 1);
             bb_pool_file *own = open_it();
-            bb_pool_party *mine = join_it(own);
+            bb_file_party *mine = join_it(own);
             EXPECT(number_of(mine) == 1 && reap(own, BB_REAP_DEAD) == 0);
             take_one(mine);
             EXPECT(info_of(own).alive == 2);
@@ -2612,7 +3127,7 @@ static void passed(void) {
     requested = 0;
     EXPECT(bb_pool_file_open_fd(&file, fd, &OPTIONS) == BB_OK);
     EXPECT(fcntl(fd, F_ADD_SEALS, F_SEAL_SHRINK | F_SEAL_GROW | F_SEAL_SEAL) == 0);
-    bb_pool_party *party = join_it(file);
+    bb_file_party *party = join_it(file);
     char byte = 'x';
 
     union {
@@ -2632,7 +3147,7 @@ static void passed(void) {
         EXPECT(recvmsg(pair[1], &message, 0) == 1 && CMSG_FIRSTHDR(&message) != NULL);
         memcpy(&got, CMSG_DATA(CMSG_FIRSTHDR(&message)), sizeof got);
         EXPECT(bb_pool_file_open_fd(&own, got, NULL) == BB_OK && info_of(own).alive == 1);
-        bb_pool_party *mine = join_it(own);
+        bb_file_party *mine = join_it(own);
         EXPECT(number_of(mine) == 1);
         take_one(mine);
         tell(pair[1]);
@@ -2658,10 +3173,10 @@ static bool is_bucket(const bb_pool_file_figures *figures, bb_place place) {
     return offset <= 19 * STRIDE && offset % STRIDE == 0;
 }
 
-// Garbage in words and slots leads to wrong answers, but to no access outside, and to no crash.
+// Garbage in words and tables leads to wrong answers, but to no access outside, and to no crash.
 static void garbage(void) {
     bb_pool_file *file = open_it();
-    bb_pool_party *party = join_it(file);
+    bb_file_party *party = join_it(file);
     const int fd = open(path, O_RDWR | O_CLOEXEC);
     unsigned char bytes[2 * PAGE];
     uint32_t seed = 1;
@@ -2679,7 +3194,7 @@ static void garbage(void) {
         const bb_pool_file_figures figures = info_of(file);
         EXPECT(figures.wrong <= 20);
         for (uint32_t slot = 0; slot < 4; slot++) {
-            const bb_chunk got = bb_pool_party_take(party);
+            const bb_chunk got = bb_file_party_take(party);
             const bb_message message = bb_pool_file_take(file, party, slot);
             const bb_message seen = bb_pool_file_look(file, slot);
             EXPECT(got.code != BB_OK || is_bucket(&figures, got.place));
@@ -2690,7 +3205,14 @@ static void garbage(void) {
             bb_pool_file_done(file, party, slot);
             if (got.code == BB_OK) {
                 const uint32_t code = bb_pool_file_post(file, party, slot, got.place, 5);
-                EXPECT(code == BB_OK || code == BB_DETACHED_FULL || code == BB_NOT_HELD);
+                EXPECT(code == BB_OK || code == BB_DETACHED_FULL || code == BB_NOT_HELD ||
+                       code == BB_FILE_NOT_DONE);
+                bb_file_party_deallocate(party, got.place);
+            }
+            if (message.code == BB_OK) {
+                EXPECT(message.len <= 100 && (seen.code != BB_OK || seen.len <= 100));
+                EXPECT(bb_pool_file_detach(file, party, message.place).code < BB_FILE_NOT_DONE);
+                bb_file_party_deallocate_many(party, &message.place, 1);
             }
             EXPECT(bb_pool_file_wait_empty(file, slot, 0) <= BB_FILE_TIMED_OUT);
             EXPECT(bb_pool_file_wait_full(file, slot, 0) <= BB_FILE_TIMED_OUT);
@@ -2740,17 +3262,21 @@ static void user_bytes(void) {
         memset(bytes, 0xff, size);
         EXPECT(sum_of(same, size) == size * 0xff);
         EXPECT(info_of(file).wrong == 0 && info_of(file).full_slots == 0);
-        // Each slot, each bucket and the life of each party is used.
-        bb_pool_party *joined[6];
+        // Each slot, each bucket and the life of each party is used, and the first and the last
+        // entries.
+        bb_file_party *joined[6];
         for (int party = 0; party < 6; party++)
             joined[party] = join_it(file);
         bb_place place = NULL;
+        uint32_t slot = 0;
         for (int bucket = 0; bucket < 20; bucket++) {
-            place = take_one(joined[bucket % 6]);
+            bb_file_party *party = joined[bucket % 6];
+            place = take_one(party);
             memset(place, 0, 100);
-            if (bucket < 4) {
-                const uint32_t slot = (uint32_t)bucket;
-                EXPECT(bb_pool_file_post(file, joined[bucket], slot, place, 100) == BB_OK);
+            const size_t number = bb_file_party_number_at(party, place).number;
+            if (number < 2 || number >= 18) {
+                EXPECT(bb_pool_file_post(file, party, slot, place, 100) == BB_OK);
+                slot++;
             }
         }
         EXPECT(sum_of(same, size) == size * 0xff && info_of(other).full_slots == 4);
@@ -2796,7 +3322,7 @@ static void long_messages(void) {
     said_pages = AS_IT_IS;
     allocates = true;
     EXPECT(code == BB_OK);
-    bb_pool_party *party = join_it(file);
+    bb_file_party *party = join_it(file);
     bb_place place = take_one(party);
     EXPECT(bb_pool_file_post(file, party, 0, place, most_len + 1) == BB_SIZE_TOO_LARGE);
     EXPECT(bb_pool_file_post(file, party, 0, place, (size_t)1 << 33) == BB_SIZE_TOO_LARGE);
@@ -2835,6 +3361,7 @@ int main(int argc, char **argv) {
         stale();
         unknown_boots();
         layouts();
+        lengths();
         refused_memory();
         many(true);
         many(false);
@@ -2847,6 +3374,17 @@ int main(int argc, char **argv) {
         lives();
         gives_all_back();
         slots();
+        buckets_of_a_party();
+        undone(0);
+        undone(8);
+        caches_and_takes();
+        freed_too_early();
+        forwards();
+        looks_at_no_entry();
+        half_done();
+        stale_takes();
+        laps();
+        wrong_entries();
         by_number();
         one_wins();
         waits();

@@ -81,11 +81,11 @@ static void make_pool(void) {
                                           .slots = (uint32_t)any(10),
                                           .user_bytes = any(3) * 100};
     bb_pool_file *file;
-    bb_pool_party *party;
+    bb_file_party *party;
     EXPECT(bb_pool_file_open(&file, path, &options) == BB_OK);
     EXPECT(bb_pool_file_join(file, &party) == BB_OK);
     for (uint64_t left = any(options.buckets) + 1; left > 0; left--) {
-        const bb_chunk chunk = bb_pool_party_take(party);
+        const bb_chunk chunk = bb_file_party_take(party);
         if (chunk.code != BB_OK)
             continue;
         const uint32_t slot = (uint32_t)any(options.slots + 1);
@@ -126,7 +126,8 @@ static size_t length_of(const unsigned char *bytes) {
     uint64_t region_align = align < PAGE ? PAGE : align;
     if (region_align > 65536)
         region_align = 65536;
-    const uint64_t before = PAGE + words + LINE + LINE * slots + lives + user;
+    const uint64_t entries = slots > 0 ? round_up(8 * buckets, LINE) : 0;
+    const uint64_t before = PAGE + words + LINE + LINE * slots + lives + entries + user;
     const uint64_t region = round_up(size, align) * (buckets - (buckets > 0)) + size;
     const uint64_t length = round_up(before, region_align) + round_up(region, PAGE);
     return length > most ? 0 : (size_t)length;
@@ -143,7 +144,7 @@ static size_t change(unsigned char *bytes, size_t length) {
         case 1: bytes[any(HEADER)] ^= (unsigned char)(1 << any(8)); break;
         case 2: bytes[any(length)] = (unsigned char)any(256); break;
         default:
-            // A word of a flag, of an event, of a slot, or of a life.
+            // A word of a flag, of an event, of a slot, of a life, or of an entry.
             put(bytes, PAGE + 8 * any((length - PAGE) / 8), 8, odd_number() << any(2) * 32);
         }
     }

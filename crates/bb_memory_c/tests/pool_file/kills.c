@@ -125,7 +125,7 @@ static void check(bb_place place, uint64_t id) {
 static bb_pool_file *file;
 static uint32_t cached;
 static uint32_t threads;
-static _Thread_local bb_pool_party *mine;
+static _Thread_local bb_file_party *mine;
 static _Thread_local uint32_t life;
 static _Thread_local uint32_t seed;
 static _Thread_local uint32_t sequence;
@@ -133,7 +133,7 @@ static _Thread_local uint64_t ids;
 
 static void join(void) {
     EXPECT(bb_pool_file_join(file, &mine) == BB_OK);
-    EXPECT(cached == 0 || bb_pool_party_cache(mine, cached) == BB_OK);
+    EXPECT(cached == 0 || bb_file_party_cache(mine, cached) == BB_OK);
 }
 
 static void enter(void) {
@@ -152,15 +152,12 @@ static void idle(void) {
 static void give_back(bb_place place, uint64_t id) {
     idle();
     check(place, id);
-    if (next(&seed) % 2 == 0)
-        EXPECT(bb_pool_party_deallocate(mine, place) == BB_OK);
-    else
-        EXPECT(bb_pool_file_deallocate(file, mine, place) == BB_OK);
+    EXPECT(bb_file_party_deallocate(mine, place) == BB_OK);
 }
 
 // Takes a bucket and fills it, or returns NULL if none is free.
 static bb_place take_one(uint64_t id) {
-    const bb_chunk got = bb_pool_party_take(mine);
+    const bb_chunk got = bb_file_party_take(mine);
     if (got.code == BB_OUT_OF_MEMORY)
         return NULL;
     EXPECT(got.code == BB_OK);
@@ -203,6 +200,17 @@ static void post(void) {
     __atomic_store_n(&counts->sent[life].posted, sequence, __ATOMIC_SEQ_CST);
 }
 
+// Tries what is refused as long as the message isn't done.
+static void try_undone(bb_place place) {
+    const uint32_t what = next(&seed) % 16;
+    if (what == 0)
+        EXPECT(bb_file_party_deallocate(mine, place) == BB_FILE_NOT_DONE);
+    else if (what == 1)
+        EXPECT(bb_file_party_deallocate_many(mine, &place, 1).number == 0);
+    else if (what == 2)
+        EXPECT(bb_pool_file_post(file, mine, next(&seed) % SLOTS, place, 8) == BB_FILE_NOT_DONE);
+}
+
 // Takes a message. It is noted as seen before it is done with: so it comes at least once, and again
 // only after a kill.
 static bool receive(uint32_t slot) {
@@ -212,8 +220,13 @@ static bool receive(uint32_t slot) {
         return false;
     }
     const uint64_t id = id_in(got.place);
+    try_undone(got.place);
     if (next(&seed) % 8 == 0) {  // put it back
         EXPECT(bb_pool_file_detach(file, mine, got.place).number == got.number);
+        return false;
+    }
+    if (next(&seed) % 32 == 0) {  // this puts it back, too
+        EXPECT(bb_pool_file_give_all_back(file, mine) == BB_OK);
         return false;
     }
     idle();
@@ -494,7 +507,7 @@ static void make_once(void) {
         EXPECT(bb_pool_file_open(&file, path, &OPTIONS) == BB_OK);
         for (int joined = 0; joined < 2; joined++) {
             EXPECT(bb_pool_file_join(file, &mine) == BB_OK);
-            EXPECT(bb_pool_party_take(mine).code == BB_OK);
+            EXPECT(bb_file_party_take(mine).code == BB_OK);
         }
         pause();
     }
@@ -541,12 +554,15 @@ enum {
     DETACHES,
     ATTACHES,
     REAPS,
+    GIVES_ALL_BACK,
     LEAVES,
     CLOSES,
     OPERATIONS,
-    // For `pause` only: a take whose code is noted, a reap of detached buckets, and an open that
-    // notes how many buckets it finds held.
+    // For `pause` only: a take whose code is noted, a look that notes the message's length, or 0 if
+    // there is none, a reap of detached buckets, and an open that notes how many buckets it finds
+    // held.
     NOTES_TAKE,
+    NOTES_LOOK,
     REAPS_DETACHED,
     NOTES_OPEN
 };
@@ -562,6 +578,7 @@ static const char *const NAMES[] = {"open",
                                     "detach",
                                     "attach",
                                     "reap",
+                                    "give all back",
                                     "leave",
                                     "close"};
 
@@ -573,7 +590,7 @@ static void leave_dead_party(void) {
         EXPECT(bb_pool_file_join(file, &mine) == BB_OK);
         bb_chunk got = {BB_OK, NULL};
         for (int count = 0; count < 3; count++)
-            got = bb_pool_party_take(mine);
+            got = bb_file_party_take(mine);
         fill(got.place, 77);
         EXPECT(bb_pool_file_post(file, mine, 1, got.place, 9) == BB_OK);
         EXPECT(bb_pool_file_take(file, mine, 1).code == BB_OK);
@@ -588,7 +605,7 @@ struct prepared {
     uint32_t number;
 };
 
-// What NOTES_TAKE or NOTES_OPEN has noted, in shared memory.
+// What NOTES_TAKE, NOTES_LOOK or NOTES_OPEN has noted, in shared memory.
 static uint32_t *noted;
 
 static struct prepared prepare(int what, uint32_t number) {
@@ -599,26 +616,27 @@ static struct prepared prepare(int what, uint32_t number) {
     // A process that joined would have the dead party's number.
     if (!opens && what != JOINS && what != REAPS && what != REAPS_DETACHED)
         EXPECT(bb_pool_file_join(file, &mine) == BB_OK);
-    if (what == BURSTS || what == LEAVES)
-        EXPECT(bb_pool_party_cache(mine, 8) == BB_OK);
-    if (what == POSTS || what == DETACHES || what == LEAVES || what == CLOSES)
-        prepared.place = bb_pool_party_take(mine).place;
+    const bool leaves = what == LEAVES || what == GIVES_ALL_BACK;
+    if (what == BURSTS || leaves)
+        EXPECT(bb_file_party_cache(mine, 8) == BB_OK);
+    if (what == POSTS || what == DETACHES || leaves || what == CLOSES)
+        prepared.place = bb_file_party_take(mine).place;
     if (prepared.place != NULL)
         fill(prepared.place, 5);
-    if (what == LEAVES) {
+    if (leaves) {
         bb_place places[2];
-        EXPECT(bb_pool_party_take_many(mine, places, 2).number == 2);
-        EXPECT(bb_pool_party_deallocate_many(mine, places, 2).number == 2);
+        EXPECT(bb_file_party_take_many(mine, places, 2).number == 2);
+        EXPECT(bb_file_party_deallocate_many(mine, places, 2).number == 2);
     }
-    if (what == LEAVES || what == CLOSES)
+    if (leaves || what == CLOSES)
         EXPECT(bb_pool_file_take(file, mine, 0).code == BB_OK);
     return prepared;
 }
 
 static void take_many(size_t count) {
     bb_place places[3];
-    EXPECT(bb_pool_party_take_many(mine, places, count).number == count);
-    EXPECT(bb_pool_party_deallocate_many(mine, places, count).number == count);
+    EXPECT(bb_file_party_take_many(mine, places, count).number == count);
+    EXPECT(bb_file_party_deallocate_many(mine, places, count).number == count);
 }
 
 static void note_open(void) {
@@ -640,7 +658,7 @@ static void operate(int what, struct prepared with) {
     case RECEIVES:
         got = bb_pool_file_take(file, mine, 0);
         EXPECT(bb_pool_file_done(file, mine, 0) == BB_OK);
-        EXPECT(bb_pool_file_deallocate(file, mine, got.place) == BB_OK);
+        EXPECT(bb_file_party_deallocate(mine, got.place) == BB_OK);
         break;
     case PUTS_BACK:
         got = bb_pool_file_take(file, mine, 0);
@@ -649,8 +667,10 @@ static void operate(int what, struct prepared with) {
     case DETACHES: EXPECT(bb_pool_file_detach(file, mine, with.place).code == BB_OK); break;
     case ATTACHES: EXPECT(bb_pool_file_attach(file, mine, with.number).code == BB_OK); break;
     case REAPS: EXPECT(bb_pool_file_reap(file, BB_REAP_HELD, NULL) == BB_OK); break;
+    case GIVES_ALL_BACK: EXPECT(bb_pool_file_give_all_back(file, mine) == BB_OK); break;
     case LEAVES: EXPECT(bb_pool_file_leave(file, mine) == BB_OK); break;
     case NOTES_TAKE: *noted = bb_pool_file_take(file, mine, 0).code; break;
+    case NOTES_LOOK: *noted = (uint32_t)bb_pool_file_look(file, 0).len; break;
     case NOTES_OPEN: note_open(); break;
     case REAPS_DETACHED: EXPECT(bb_pool_file_reap(file, BB_REAP_DEAD, NULL) == BB_OK); break;
     default: EXPECT(bb_pool_file_close(file) == BB_OK);
@@ -713,7 +733,7 @@ static bool run_steps(int what, uint32_t steps, uint32_t number) {
 
 static bool is_long(int what) {
     return what == OPENS || what == MAKES || what == CLOSES || what == LEAVES || what == JOINS ||
-           what == REAPS;
+           what == REAPS || what == GIVES_ALL_BACK;
 }
 
 // How often an operation was done when its process was killed, and how often it wasn't.
@@ -762,13 +782,13 @@ static void check_number(bb_pool_file *ours, int what, uint32_t detached, struct
 // free, but for those of messages, and each message was sent or not.
 static bool step_once(int what, uint32_t steps, struct outcome *outcome) {
     bb_pool_file *ours;
-    bb_pool_party *party;
+    bb_file_party *party;
     bb_pool_file_figures figures;
     EXPECT(bb_pool_file_open(&ours, path, &OPTIONS) == BB_OK);
     EXPECT(bb_pool_file_join(ours, &party) == BB_OK);
-    const bb_chunk chunk = bb_pool_party_take(party);
+    const bb_chunk chunk = bb_file_party_take(party);
     fill(chunk.place, 99);
-    const uint32_t number = (uint32_t)bb_pool_party_number_at(party, chunk.place).number;
+    const uint32_t number = (uint32_t)bb_file_party_number_at(party, chunk.place).number;
     if (what == ATTACHES)
         EXPECT(bb_pool_file_detach(ours, party, chunk.place).code == BB_OK);
     else
@@ -842,7 +862,7 @@ static uint32_t leave_detached(void) {
     if (child == 0) {
         EXPECT(bb_pool_file_open(&file, path, NULL) == BB_OK);
         EXPECT(bb_pool_file_join(file, &mine) == BB_OK);
-        *number = (uint32_t)bb_pool_file_detach(file, mine, bb_pool_party_take(mine).place).number;
+        *number = (uint32_t)bb_pool_file_detach(file, mine, bb_file_party_take(mine).place).number;
         _exit(0);
     }
     EXPECT(waitpid(child, NULL, 0) == child);
@@ -853,14 +873,14 @@ static uint32_t leave_detached(void) {
 
 // While a reap of detached buckets is stopped, another party attaches one, gives it back, takes it
 // again, and posts it. The message stays.
-static bool pause_reap(bb_pool_file *ours, bb_pool_party *party, uint32_t steps) {
+static bool pause_reap(bb_pool_file *ours, bb_file_party *party, uint32_t steps) {
     const uint32_t number = leave_detached();
     const pid_t child = start(REAPS_DETACHED, 0);
     const bool ended = go(child, steps);
     const bb_chunk got = bb_pool_file_attach(ours, party, number);
     if (got.code == BB_OK) {
-        EXPECT(bb_pool_party_deallocate(party, got.place) == BB_OK);
-        EXPECT(bb_pool_party_take(party).place == got.place);
+        EXPECT(bb_file_party_deallocate(party, got.place) == BB_OK);
+        EXPECT(bb_file_party_take(party).place == got.place);
         fill(got.place, 55);
         EXPECT(bb_pool_file_post(ours, party, 0, got.place, 17) == BB_OK);
     }
@@ -875,7 +895,7 @@ static bool pause_reap(bb_pool_file *ours, bb_pool_party *party, uint32_t steps)
     return ended;
 }
 
-// Expects that the flag of the bucket with this number says that this party has detached it.
+// Expects that the flag of the bucket with this number says that it is detached by this number.
 static void expect_detached(bb_pool_file *ours, uint32_t number, size_t by) {
     bb_holder flag;
     EXPECT(bb_pool_file_holder(ours, number, &flag) == BB_OK);
@@ -891,8 +911,8 @@ struct stopped_take {
 
 // Posts a message into slot 0, stops a child after this many instructions of a take of it, and then
 // lets `party` take it.
-static struct stopped_take stop_take(bb_pool_file *ours, bb_pool_party *party, uint32_t steps) {
-    const bb_chunk chunk = bb_pool_party_take(party);
+static struct stopped_take stop_take(bb_pool_file *ours, bb_file_party *party, uint32_t steps) {
+    const bb_chunk chunk = bb_file_party_take(party);
     fill(chunk.place, 99);
     EXPECT(bb_pool_file_post(ours, party, 0, chunk.place, 44) == BB_OK);
     const pid_t child = start(NOTES_TAKE, 0);
@@ -903,7 +923,7 @@ static struct stopped_take stop_take(bb_pool_file *ours, bb_pool_party *party, u
 // While a take is stopped, another party takes the message, is done with it, and detaches its
 // bucket by number. The take gets nothing then, and the bucket stays detached by its sender: a reap
 // after the taker has died doesn't free it.
-static bool pause_take(bb_pool_file *ours, bb_pool_party *party, uint32_t steps) {
+static bool pause_take(bb_pool_file *ours, bb_file_party *party, uint32_t steps) {
     const struct stopped_take take = stop_take(ours, party, steps);
     const bb_message message = take.message;
     if (message.code == BB_OK) {
@@ -916,7 +936,7 @@ static bool pause_take(bb_pool_file *ours, bb_pool_party *party, uint32_t steps)
     if (message.code == BB_OK) {
         uint32_t freed = 1;
         EXPECT(*noted == BB_NOT_HELD || *noted == BB_DETACHED_EMPTY);
-        expect_detached(ours, message.number, bb_pool_party_number(party).number);
+        expect_detached(ours, message.number, bb_file_party_number(party).number);
         end_killed(take.child);
         EXPECT(bb_pool_file_reap(ours, BB_REAP_DEAD, &freed) == BB_OK && freed == 0);
         const bb_chunk back = bb_pool_file_attach(ours, party, message.number);
@@ -930,7 +950,7 @@ static bool pause_take(bb_pool_file *ours, bb_pool_party *party, uint32_t steps)
 
 // While a take is stopped, another party takes the message, is done with it, and posts its bucket
 // to another slot. The take gets nothing then, and the message can be taken from there.
-static bool pause_late(bb_pool_file *ours, bb_pool_party *party, uint32_t steps) {
+static bool pause_posted(bb_pool_file *ours, bb_file_party *party, uint32_t steps) {
     const struct stopped_take take = stop_take(ours, party, steps);
     const bb_message message = take.message;
     if (message.code == BB_OK) {
@@ -942,7 +962,7 @@ static bool pause_late(bb_pool_file *ours, bb_pool_party *party, uint32_t steps)
         go_on(take.child);
     if (message.code == BB_OK) {
         EXPECT(*noted == BB_NOT_HELD || *noted == BB_DETACHED_EMPTY);
-        expect_detached(ours, message.number, OPTIONS.parties);
+        expect_detached(ours, message.number, OPTIONS.parties + 1);  // it is sent to slot 1
         const bb_message again = bb_pool_file_take(ours, party, 1);
         EXPECT(again.code == BB_OK && again.len == 17 && is_filled(again.place, 55));
         EXPECT(bb_pool_file_done(ours, party, 1) == BB_OK);
@@ -953,83 +973,46 @@ static bool pause_late(bb_pool_file *ours, bb_pool_party *party, uint32_t steps)
     return take.ended;
 }
 
-// How many processes have waited for a message while a take held its bucket, and how many of them
-// noticed only a tenth of a second later that they can take it.
-static uint32_t waited;
-static uint32_t woken_late;
-
-static uint64_t milliseconds(void) {
-    struct timespec time;
-    clock_gettime(CLOCK_MONOTONIC, &time);
-    return (uint64_t)time.tv_sec * 1000 + (uint64_t)time.tv_nsec / 1000000;
-}
-
-// Lets the stopped child go on while another process sleeps until it can take from slot 2.
-static void go_on_beside_sleeper(pid_t child) {
-    int ready[2];
-    int status;
-    char byte = 'r';
-    EXPECT(pipe(ready) == 0);
-    const pid_t sleeper = fork();
-    if (sleeper == 0) {
-        bb_pool_file *own;
-        end_with_parent();
-        EXPECT(bb_pool_file_open(&own, path, NULL) == BB_OK);
-        EXPECT(write(ready[1], &byte, 1) == 1);
-        const uint64_t begun = milliseconds();
-        EXPECT(bb_pool_file_wait_full(own, 2, BB_NO_TIMEOUT) == BB_OK);
-        _exit(milliseconds() - begun < 100 ? 0 : 2);
-    }
-    EXPECT(read(ready[0], &byte, 1) == 1 && close(ready[0]) == 0 && close(ready[1]) == 0);
-    usleep(3000);
-    go_on(child);
-    EXPECT(waitpid(sleeper, &status, 0) == sleeper && WIFEXITED(status));
-    EXPECT(WEXITSTATUS(status) == 0 || WEXITSTATUS(status) == 2);
-    waited++;
-    woken_late += WEXITSTATUS(status) == 2;
-}
-
-// While a take is stopped, another party takes the message, is done with it, and posts its bucket
-// into slot 2. If the take then holds the bucket for a moment, it wakes whoever waits for that
-// slot.
-static bool pause_late_take(bb_pool_file *ours, bb_pool_party *party, uint32_t steps) {
-    bb_holder holder = {BB_FREE, 0};
-    const struct stopped_take take = stop_take(ours, party, steps);
-    const bb_message message = take.message;
-    if (message.code != BB_OK) {
-        end_killed(take.child);
-        return take.ended;
-    }
+// While a look is stopped, a party takes the message, is done with it, and posts its bucket with
+// another length: to another slot, to the same one, or to both. The look finds a message that the
+// slot had, with its length.
+static bool pause_look(bb_pool_file *ours, bb_file_party *party, uint32_t steps) {
+    const bb_chunk chunk = bb_file_party_take(party);
+    EXPECT(bb_pool_file_post(ours, party, 0, chunk.place, 44) == BB_OK);
+    const pid_t child = start(NOTES_LOOK, 0);
+    const bool ended = go(child, steps);
+    EXPECT(bb_pool_file_take(ours, party, 0).len == 44);
     EXPECT(bb_pool_file_done(ours, party, 0) == BB_OK);
-    EXPECT(bb_pool_file_post(ours, party, 2, message.place, 33) == BB_OK);
-    bool has_ended = take.ended;
-    while (!has_ended && holder.state != BB_HELD) {
-        has_ended = go(take.child, 1);
-        EXPECT(bb_pool_file_holder(ours, message.number, &holder) == BB_OK);
+    if (steps % 3 > 0) {
+        EXPECT(bb_pool_file_post(ours, party, 1, chunk.place, 17) == BB_OK);
+        EXPECT(bb_pool_file_take(ours, party, 1).len == 17);
     }
-    if (!has_ended)
-        go_on_beside_sleeper(take.child);
-    EXPECT(*noted == BB_NOT_HELD || *noted == BB_DETACHED_EMPTY);
-    EXPECT(bb_pool_file_take(ours, party, 2).code == BB_OK);
-    end_killed(take.child);
-    return take.ended;
+    if (steps % 3 == 2)
+        EXPECT(bb_pool_file_done(ours, party, 1) == BB_OK);
+    if (steps % 3 != 1)
+        EXPECT(bb_pool_file_post(ours, party, 0, chunk.place, 33) == BB_OK);
+    if (!ended)
+        go_on(child);
+    EXPECT(*noted == 44 || *noted == (steps % 3 == 1 ? 0 : 33));
+    end_killed(child);
+    return ended;
 }
 
 // While a leave is stopped, another party joins and takes a bucket, which it keeps.
-static bool pause_leave(bb_pool_file *ours, bb_pool_party *party, uint32_t steps) {
-    bb_pool_party *other;
-    const bb_chunk chunk = bb_pool_party_take(party);
+static bool pause_leave(bb_pool_file *ours, bb_file_party *party, uint32_t steps) {
+    bb_file_party *other;
+    const bb_chunk chunk = bb_file_party_take(party);
     fill(chunk.place, 99);
     EXPECT(bb_pool_file_post(ours, party, 0, chunk.place, 44) == BB_OK);
     const pid_t child = start(LEAVES, 0);
     const bool ended = go(child, steps);
     EXPECT(bb_pool_file_join(ours, &other) == BB_OK);
-    const bb_chunk got = bb_pool_party_take(other);
+    const bb_chunk got = bb_file_party_take(other);
     EXPECT(got.code == BB_OK);
     if (!ended)
         go_on(child);
     end_killed(child);
-    EXPECT(bb_pool_party_holds(other, got.place).number == 1);
+    EXPECT(bb_file_party_holds(other, got.place).number == 1);
     EXPECT(bb_pool_file_take(ours, party, 0).len == 44);
     return ended;
 }
@@ -1042,11 +1025,11 @@ static bool is_locked(int fd, off_t byte) {
 
 // While an open is stopped, another file comes to have the path. If the open had no lock of the old
 // file, it opens the new one.
-static bool pause_open(bb_pool_file *ours, bb_pool_party *party, uint32_t steps) {
+static bool pause_open(bb_pool_file *ours, bb_file_party *party, uint32_t steps) {
     (void)ours;
     (void)party;
     bb_pool_file *other;
-    bb_pool_party *joined;
+    bb_file_party *joined;
     const size_t length = strlen(path);
     path[length] = '2';
     EXPECT(bb_pool_file_open(&other, path, &OPTIONS) == BB_OK);
@@ -1059,7 +1042,7 @@ static bool pause_open(bb_pool_file *ours, bb_pool_party *party, uint32_t steps)
     EXPECT(close(fd) == 0 && unlink(path) == 0);
     EXPECT(bb_pool_file_open(&other, path, &OPTIONS) == BB_OK);
     EXPECT(bb_pool_file_join(other, &joined) == BB_OK);
-    EXPECT(bb_pool_party_take(joined).code == BB_OK);
+    EXPECT(bb_file_party_take(joined).code == BB_OK);
     if (!ended)
         go_on(child);
     EXPECT(has_lock || *noted == 1);
@@ -1070,10 +1053,9 @@ static bool pause_open(bb_pool_file *ours, bb_pool_party *party, uint32_t steps)
 }
 
 static int run_pause(uint32_t long_stride) {
-    bool (*const scenes[])(bb_pool_file *, bb_pool_party *, uint32_t) = {
-        pause_take, pause_late, pause_late_take, pause_reap, pause_leave, pause_open};
-    const char *const names[] = {
-        "take", "take, posted again", "take, which is late", "reap", "leave", "open"};
+    bool (*const scenes[])(bb_pool_file *, bb_file_party *, uint32_t) = {
+        pause_take, pause_posted, pause_look, pause_reap, pause_leave, pause_open};
+    const char *const names[] = {"take", "take, posted again", "look", "reap", "leave", "open"};
     noted = mmap(NULL, 4096, PROT_READ | PROT_WRITE, MAP_SHARED | MAP_ANONYMOUS, -1, 0);
     EXPECT(noted != MAP_FAILED);
     for (int scene = 0; scene < 6; scene++) {
@@ -1081,7 +1063,7 @@ static int run_pause(uint32_t long_stride) {
         uint32_t steps = 1;
         for (bool ended = false; !ended; steps += stride) {
             bb_pool_file *ours;
-            bb_pool_party *party;
+            bb_file_party *party;
             bb_pool_file_figures figures;
             unlink(path);
             EXPECT(bb_pool_file_open(&ours, path, &OPTIONS) == BB_OK);
@@ -1100,8 +1082,6 @@ static int run_pause(uint32_t long_stride) {
             printf(" %uth", stride);
         printf(" of %u instructions\n", steps - stride);
     }
-    // If a take woke nobody, each of them would be late. A loaded machine may make some late.
-    EXPECT(waited > 0 && 2 * woken_late <= waited);
     return 0;
 }
 
