@@ -3,9 +3,9 @@
 `trace` (crates/bb_memory_c/tests/pool_file/trace.c) steps processes through their calls, and writes
 each change of a flag, an entry, a slot, a life or a lock. `file_replay` lets the machine take the
 same steps, or says at which line it can't. The machine has to accept each trace of the code. Among
-these are all traces that judge mutants, which are their controls (gate/verdicts.py). The machine has
-to refuse a trace of each mutant, unless the mutant says why it takes no step that the code doesn't
-take:
+these are all traces that judge mutants, which are their controls (gate/verdicts.py). The machine
+has to refuse a trace of each mutant, unless the mutant says why it takes no step that the code
+doesn't take:
 
     # no step: a wake changes only the words of events
 """

@@ -31,9 +31,9 @@ pub fn flag_of(word: usize, parties: u32, slots: u32) -> Option<FileFlag> {
     })
 }
 
-/// Returns the entry that a word encodes: 0 is in no slot. Otherwise the high 32 bits are the length
-/// of the bucket's message, and the low 32 bits are the number of its slot, plus 1. Returns `None`
-/// if the low 32 bits of such a word are 0.
+/// Returns the entry that a word encodes: 0 is in no slot. Otherwise the high 32 bits are the
+/// length of the bucket's message, and the low 32 bits are the number of its slot, plus 1. Returns
+/// `None` if the low 32 bits of such a word are 0.
 pub fn entry_of(word: usize) -> Option<Entry> {
     if word == 0 {
         return Some(Entry::Nowhere);

@@ -1,5 +1,5 @@
-//! Tests of which word of a pool's file is which flag, entry or slot, and of traces that the machine
-//! of such a pool allows, or refuses at a line.
+//! Tests of which word of a pool's file is which flag, entry or slot, and of traces that the
+//! machine of such a pool allows, or refuses at a line.
 use crate::tests::checks::{check, same};
 use bb_memory_file_machine::steps::{Entry, FileFlag, FileOutcome, FileStep, Place, Slot};
 use file_traces::replay::Difference;
@@ -158,8 +158,8 @@ flag 0 0 4 1
     differs(&rt, text, 15, difference);
 }
 
-/// A process is killed in a post that has filled the slot, and whoever settles its number gives back
-/// the bucket.
+/// A process is killed in a post that has filled the slot, and whoever settles its number gives
+/// back the bucket.
 #[test]
 fn a_settler_that_frees_a_message_is_refused(rt: HostRuntime) {
     let text = b"file 2 1 1 1
@@ -195,8 +195,8 @@ flag 1 0 1 0
     differs(&rt, text, 18, difference);
 }
 
-/// A party takes the message of `POSTED`. Then it gets another length, or isn't allowed to be done, or
-/// clears the entry first, or gives all back but the message.
+/// A party takes the message of `POSTED`. Then it gets another length, or isn't allowed to be done,
+/// or clears the entry first, or gives all back but the message.
 #[test]
 fn calls_after_a_post_that_are_refused(rt: HostRuntime) {
     let outside = Difference::OtherReturn(Place::Outside);
