@@ -1,10 +1,11 @@
 """Compares bb_pool_file.c with the proved machine of a pool in a file, at every word and lock.
 
 `trace` (crates/bb_memory_c/tests/pool_file/trace.c) steps processes through their calls, and writes
-each change of a flag, a slot, a life or a lock. `file_replay` lets the machine take the same steps, or says
-at which line it can't. The machine has to accept each trace of the code. Among these are all traces
-that judge mutants, which are their controls (gate/verdicts.py). The machine has to refuse a trace
-of each mutant, unless the mutant says why it takes no step that the code doesn't take:
+each change of a flag, an entry, a slot, a life or a lock. `file_replay` lets the machine take the
+same steps, or says at which line it can't. The machine has to accept each trace of the code. Among
+these are all traces that judge mutants, which are their controls (gate/verdicts.py). The machine
+has to refuse a trace of each mutant, unless the mutant says why it takes no step that the code
+doesn't take:
 
     # no step: a wake changes only the words of events
 """
@@ -59,33 +60,12 @@ def steps_of(text: str) -> Counter[str]:
     return found
 
 
-def late_takes_in(trace: str) -> int:
-    """Returns how many takes of a trace were late, and put back the flag of a bucket that they held.
-
-    Such a take changes a flag from 2 k + 1, which is held by party k, to an even word that isn't
-    2 k + 2: the bucket is detached by another party.
-    """
-    found = 0
-    for line in trace.splitlines():
-        word, *numbers = line.split()
-        if word != "flag":
-            continue
-        before, after = int(numbers[2]), int(numbers[3])
-        if before % 2 == 1 and after not in (0, before + 1):
-            found += 1
-    return found
-
-
 @dataclass(frozen=True)
 class Stepped:
-    """A trace of the code that the machine accepts.
-
-    It has the trace's control, the instructions of each call, and how many takes were late.
-    """
+    """A trace that the machine accepts: its control, and the instructions of each call."""
 
     control: Control
     steps: Counter[str]
-    late: int
 
 
 # The controls of traces, by their arguments.
@@ -121,7 +101,7 @@ class Traces:
             f"{command}, replayed", self.replay(traced.output, LONGEST), LONGEST
         )
         passed = Control(command, written.seconds + replayed.seconds)
-        return Stepped(passed, steps_of(traced.errors), late_takes_in(traced.output))
+        return Stepped(passed, steps_of(traced.errors))
 
     def check_all(self, program: Path, pool: ThreadPoolExecutor) -> dict[tuple[str, ...], Control]:
         """Raises Failed unless the machine accepts all traces of the code.
@@ -130,19 +110,15 @@ class Traces:
         """
         steps: Counter[str] = Counter()
         controls: dict[tuple[str, ...], Control] = {}
-        late = 0
         for words, each in zip(
             OF_CODE, pool.map(lambda words: self.check_code(program, words), OF_CODE)
         ):
             # `+` of two counters would drop a call that was never stepped.
             steps.update(each.steps)
             controls[words] = each.control
-            late += each.late
         few = [call for call, count in steps.items() if count < LEAST]
         if few:
             raise Failed(f"trace: fewer than {LEAST} instructions of: {' '.join(few)}")
-        if late == 0:
-            raise Failed("trace: no take was late, and put a flag back")
         say(
             f"bb_pool_file.c: {steps.total()} instructions of {len(steps)} calls take the steps of "
             "the machine"

@@ -49,13 +49,6 @@ class TracesOfPrograms(unittest.TestCase):
     def test_steps_of(self) -> None:
         self.assertEqual(pool_traces.steps_of("post 3 40\ntake 1 7\n"), {"post": 40, "take": 7})
 
-    def test_late_takes_in(self) -> None:
-        trace = (
-            "file 2 2 1 1\nflag 0 0 0 3\nflag 0 0 3 4\nflag 1 0 4 6\nflag 1 0 5 0\nlife 1 0 3 4\n"
-        )
-        self.assertEqual(pool_traces.late_takes_in(trace), 0)
-        self.assertEqual(pool_traces.late_takes_in(f"{trace}flag 1 0 3 2\nflag 1 0 3 6\n"), 2)
-
     def test_a_trace_is_replayed(self) -> None:
         traces = self.traces('test "$(cat)" = "random 5"')
         program = self.trace('echo "$1 $3"; echo "post 3 40" >&2')
@@ -65,23 +58,13 @@ class TracesOfPrograms(unittest.TestCase):
 
     def test_each_call_is_stepped(self) -> None:
         for steps, is_enough in ((pool_traces.LEAST, True), (0, False)):
-            program = self.trace(
-                f'echo "flag 1 0 3 2"; echo "post 3 {pool_traces.LEAST}\ntake 1 {steps}" >&2'
-            )
+            program = self.trace(f'echo "post 3 {pool_traces.LEAST}\ntake 1 {steps}" >&2')
             with self.subTest(steps), ThreadPoolExecutor(2) as pool:
                 if is_enough:
                     self.traces("exit 0").check_all(program, pool)
                 else:
                     with self.assertRaisesRegex(Failed, "instructions of: take$"):
                         self.traces("exit 0").check_all(program, pool)
-
-    def test_some_take_is_late(self) -> None:
-        program = self.trace(f'echo "flag 1 0 3 4"; echo "take 1 {pool_traces.LEAST}" >&2')
-        with (
-            ThreadPoolExecutor(2) as pool,
-            self.assertRaisesRegex(Failed, "no take was late"),
-        ):
-            self.traces("exit 0").check_all(program, pool)
 
     def test_a_trace_that_fails(self) -> None:
         with self.assertRaises(Failed):

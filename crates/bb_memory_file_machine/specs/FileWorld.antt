@@ -1,5 +1,5 @@
 -- A file world: the machine of a pool in a file.
-use Rattle.bb_memory_file_machine.specs.FileMachine.{FileMove, FileOutcome, FileState, FileStep, Flag, Place, Slot, file_after, file_step, outcomes_of}
+use Rattle.bb_memory_file_machine.specs.FileMachine.{Entry, FileFlag, FileMove, FileOutcome, FileState, FileStep, Place, Slot, file_after, file_step, outcomes_of}
 use Rattle.std.specs.Prelude.{IfOk, List, OnErr, OnOk, Option, Result, length, ℕ, ◌<◌, ◌^◌, ◌≡◌}
 use Rattle.std.specs.declared.vec.Vec.{Vec}
 
@@ -8,16 +8,13 @@ abbrev pub FileWorld : Type 0
 FileWorld = FileState
 
 -- the world with these words and processes
-abbrev pub world_of : List Flag → List Slot → List ℕ → List (Option ℕ) → List (Option ℕ) → List Place → FileWorld
-world_of flags slots lives locks outside places =
-    record { words = record { flags = flags; slots = slots; lives = lives; locks = locks; outside = outside }; places = places }
+abbrev pub world_of : List FileFlag → List Entry → List Slot → List ℕ → List (Option ℕ) → List Place → FileWorld
+world_of flags entries slots lives locks places =
+    record { words = record { flags = flags; entries = entries; slots = slots; lives = lives; locks = locks }; places = places }
 
--- the invariant of a world: each bucket and each slot has a number that a step can name, and so has
--- the party that nobody joins
-pub record IsFileWorld (world : FileWorld) : Type 0 where
-  pub buckets : length world.words.flags < 2 ^ 32
-  pub slots : length world.words.slots < 2 ^ 32
-  pub parties : length world.words.locks < 2 ^ 32
+-- the invariant of a world: each bucket has a number that a step can name
+abbrev pub IsFileWorld : FileWorld → Type 0
+IsFileWorld world = length world.words.flags < 2 ^ 32
 
 -- `answer` is the outcome of this step in the world `old`, which becomes `new`
 pub record Steps (old : FileWorld) (step : FileStep) (answer : FileOutcome) (new : FileWorld) : Type 0 where

@@ -4,7 +4,7 @@
 //!
 //! The modules, in the order in which to read them:
 //!
-//! - `which_word`: the flag or slot of the machine that each word of the file is.
+//! - `which_word`: the flag, entry or slot of the machine that each word of the file is.
 //! - `lines`: the lines of a trace.
 //! - `replay`: the machine follows the lines.
 //! - `traces`: from the bytes of a trace to its end.

@@ -1,8 +1,7 @@
 //! The lines of a trace. `trace.c` of the library for C defines them.
 
-use crate::which_word::{flag_of, slot_of};
-use bb_memory_file_machine::steps::Slot;
-use bb_memory_pool_machine::steps::Flag;
+use crate::which_word::{entry_of, flag_of, slot_of};
+use bb_memory_file_machine::steps::{Entry, FileFlag, Slot};
 use scripts::words::{Numbers, is_word, to_u32, words};
 
 /// A call that a process makes, with the number of the party that makes it if the trace names one.
@@ -59,14 +58,35 @@ pub enum Call {
 /// A change of a word, of a lock or of a life.
 #[derive(Debug, Clone, Copy, PartialEq, Eq)]
 pub enum Change {
-    Flag { bucket: u32, from: Flag, to: Flag },
-    Slot { slot: u32, from: Slot, to: Slot },
+    Flag {
+        bucket: u32,
+        from: FileFlag,
+        to: FileFlag,
+    },
+    Entry {
+        bucket: u32,
+        from: Entry,
+        to: Entry,
+    },
+    Slot {
+        slot: u32,
+        from: Slot,
+        to: Slot,
+    },
     /// The life of this number.
-    Life { party: u32, from: u64, to: u64 },
+    Life {
+        party: u32,
+        from: u64,
+        to: u64,
+    },
     /// The lock of this number is the process's now.
-    Lock { party: u32 },
+    Lock {
+        party: u32,
+    },
     /// The lock of this number was the process's, and is free now.
-    Unlock { party: u32 },
+    Unlock {
+        party: u32,
+    },
 }
 
 /// The result of a call.
@@ -82,8 +102,6 @@ pub enum Returned {
 #[derive(Debug, Clone, Copy, PartialEq, Eq)]
 pub enum Event {
     Begins(Call),
-    /// At this moment, the slot of the process's take has what the take found in it.
-    Looks,
     Changes(Change),
     Returns(Returned),
     IsKilled,
@@ -132,8 +150,9 @@ pub fn read_figures(text: &[u8]) -> Option<Figures> {
     }
 }
 
-/// Parses a line after the first, or returns `None` if it is unreadable.
-pub fn read_line(text: &[u8]) -> Option<Line> {
+/// Parses a line after the first, of a trace with these figures. Returns `None` if the line is
+/// unreadable.
+pub fn read_line(text: &[u8], figures: Figures) -> Option<Line> {
     let (name, numbers) = words(text)?;
     let (process, event) = match numbers {
         Numbers::One(process) => (process, event_of_one(name)?),
@@ -141,7 +160,7 @@ pub fn read_line(text: &[u8]) -> Option<Line> {
         Numbers::Three(process, a, b) => (process, event_of_three(name, to_u32(a)?, to_u32(b)?)?),
         Numbers::Four(process, a, from, to) => (
             process,
-            event_of_four(name, to_u32(a)?, from, to)?,
+            event_of_four(name, to_u32(a)?, from, to, figures)?,
         ),
         Numbers::Five(process, party, slot, bucket, length) if is_word(name, b"post") => {
             let call = Call::Post {
@@ -172,8 +191,6 @@ fn event_of_one(name: &[u8]) -> Option<Event> {
         Some(Event::Begins(Call::Reap))
     } else if is_word(name, b"recover") {
         Some(Event::Begins(Call::Recover))
-    } else if is_word(name, b"look") {
-        Some(Event::Looks)
     } else if is_word(name, b"ok") {
         Some(Event::Returns(Returned::Nothing))
     } else if is_word(name, b"refused") {
@@ -240,13 +257,27 @@ fn event_of_three(name: &[u8], party: u32, number: u32) -> Option<Event> {
     }
 }
 
-/// Returns the event of a line with the change of a flag, a slot or a life.
-fn event_of_four(name: &[u8], number: u32, from: usize, to: usize) -> Option<Event> {
+/// Returns the event of a line with the change of a flag, an entry, a slot or a life.
+fn event_of_four(
+    name: &[u8],
+    number: u32,
+    from: usize,
+    to: usize,
+    figures: Figures,
+) -> Option<Event> {
+    let Figures { parties, slots, .. } = figures;
     if is_word(name, b"flag") {
         let change = Change::Flag {
             bucket: number,
-            from: flag_of(from)?,
-            to: flag_of(to)?,
+            from: flag_of(from, parties, slots)?,
+            to: flag_of(to, parties, slots)?,
+        };
+        Some(Event::Changes(change))
+    } else if is_word(name, b"entry") {
+        let change = Change::Entry {
+            bucket: number,
+            from: entry_of(from)?,
+            to: entry_of(to)?,
         };
         Some(Event::Changes(change))
     } else if is_word(name, b"slot") {

@@ -4,12 +4,13 @@
 //! until one changes something, and that has to be the same change.
 
 use crate::lines::{Call, Change, Event, Figures, Line, Returned};
-use bb_memory_file_machine::steps::{FileOutcome, FileStep, FileWorld, Place, Slot};
-use bb_memory_pool_machine::steps::Flag;
+use bb_memory_file_machine::steps::{
+    Entry, FileFlag, FileOutcome, FileStep, FileWorld, Place, Slot,
+};
 use std::alloc::{AllocError, Global};
 
-/// The most steps without a change that a process takes in a row. A settler takes two for each
-/// slot, and one for each bucket.
+/// The most steps without a change that a process takes in a row. A settler takes one for each
+/// bucket.
 const MOST_MOVES: u32 = 100_000;
 
 /// The difference between a line and what the machine allows.
@@ -35,11 +36,18 @@ pub enum Difference {
     KeepsLock(u32),
 }
 
-/// A process: the call that it is in, and whether it has changed something in that call.
+/// A process: the call that it is in, and the last change that it has made in that call.
 #[derive(Debug, Clone, Copy, PartialEq, Eq)]
 struct Process {
     call: Option<Call>,
-    has_changed: bool,
+    last: Option<Change>,
+}
+
+impl Process {
+    /// Returns whether the process has changed something in its call.
+    fn has_changed(self) -> bool {
+        self.last.is_some()
+    }
 }
 
 /// The machine, and the calls that its processes are in.
@@ -61,7 +69,7 @@ impl Replay {
         } = figures;
         let idle = Process {
             call: None,
-            has_changed: false,
+            last: None,
         };
         Ok(Replay {
             world: FileWorld::new(alloc, buckets, slots, parties, processes)?,
@@ -78,30 +86,22 @@ impl Replay {
         };
         match (event, found.call) {
             (Event::Begins(call), None) => {
-                self.note(process, Some(call), false);
+                self.note(process, Some(call), None);
                 Ok(())
             }
-            (Event::Looks, Some(Call::Take { party, slot })) => self.expect_moves(
-                process,
-                FileStep::Take {
-                    process,
-                    party,
-                    slot,
-                },
-            ),
             (Event::Changes(change), call) => {
                 self.change(process, found, change)?;
-                self.note(process, call, true);
+                self.note(process, call, Some(change));
                 Ok(())
             }
             (Event::Returns(returned), Some(call)) => {
-                self.end(process, call, found.has_changed, returned)?;
-                self.note(process, None, false);
+                self.end(process, call, found.last, returned)?;
+                self.note(process, None, None);
                 Ok(())
             }
             (Event::IsKilled, _) => {
                 let _ = self.world.step(FileStep::Kill { process });
-                self.note(process, None, false);
+                self.note(process, None, None);
                 Ok(())
             }
             (Event::IsGone, None) => self.expect_no_lock(process),
@@ -109,10 +109,10 @@ impl Replay {
         }
     }
 
-    /// Notes the call that a process is in, and whether the process has changed something.
-    fn note(&mut self, process: u32, call: Option<Call>, has_changed: bool) {
+    /// Notes the call that a process is in, and the last change that it has made there.
+    fn note(&mut self, process: u32, call: Option<Call>, last: Option<Change>) {
         if let Some(found) = self.processes.get_mut(process as usize) {
-            *found = Process { call, has_changed };
+            *found = Process { call, last };
         }
     }
 
@@ -144,9 +144,10 @@ impl Replay {
         &mut self,
         process: u32,
         call: Call,
-        has_changed: bool,
+        last: Option<Change>,
         returned: Returned,
     ) -> Result<(), Difference> {
+        let has_changed = last.is_some();
         let is_refused = returned == Returned::Refused;
         match call {
             Call::Looks => self.expect_outside(process, !has_changed),
@@ -157,7 +158,10 @@ impl Replay {
             Call::Reap | Call::Recover | Call::Flush { .. } => {
                 self.expect_outside(process, !is_refused)
             }
-            Call::GiveAllBack { .. } => {
+            Call::GiveAllBack { party } => {
+                if !is_refused && !has_changed {
+                    self.expect_moves(process, FileStep::Leave { process, party })?;
+                }
                 self.move_on(process)?;
                 self.expect_outside(process, !has_changed || !is_refused)
             }
@@ -165,60 +169,44 @@ impl Replay {
             Call::Leave { .. } | Call::Detach { .. } | Call::Attach { .. } => {
                 self.expect_outside(process, has_changed != is_refused)
             }
-            Call::Join | Call::Post { .. } => {
+            Call::Join => {
                 self.move_on(process)?;
                 self.expect_outside(process, has_changed != is_refused)
             }
+            Call::Post { .. } => self.expect_outside(process, has_sent(last) != is_refused),
             Call::Allocate { party } => match returned {
                 Returned::Bucket(bucket) => {
-                    let is_held = self.world.flag(bucket) == Some(Flag::HeldBy(party));
+                    let is_held = self.world.flag(bucket) == Some(FileFlag::HeldBy(party));
                     self.expect_outside(process, is_held)
                 }
                 _ => self.expect_outside(process, !has_changed),
             },
-            Call::Take { slot, .. } => match returned {
+            Call::Take { party, slot } => match returned {
                 Returned::Message { bucket, length } => {
-                    self.receive(process, slot, bucket, length)
+                    let is_held = self.world.flag(bucket) == Some(FileFlag::HeldBy(party));
+                    let is_entered = self.world.entry(bucket) == Some(Entry::In { slot, length });
+                    self.expect_outside(process, has_changed && is_held && is_entered)
                 }
-                _ => self.move_on(process),
+                _ => self.expect_outside(process, !has_changed),
             },
             Call::Done { party, slot } => {
-                if is_refused && !has_changed {
-                    let _ = self.world.step(FileStep::Done {
-                        process,
-                        party,
-                        slot,
-                    });
-                    self.move_on(process)?;
-                }
-                self.expect_outside(process, has_changed != is_refused)
+                let holds = if is_refused {
+                    !has_changed && !self.has_taken(party, slot)
+                } else {
+                    has_changed
+                };
+                self.expect_outside(process, holds)
             }
         }
     }
 
-    /// Has a process receive this message from this slot.
-    fn receive(
-        &mut self,
-        process: u32,
-        slot: u32,
-        bucket: u32,
-        length: u32,
-    ) -> Result<(), Difference> {
-        let place = self.place(process)?;
-        let message = Slot::Message { bucket, length };
-        if self.world.slot(slot) != Some(message) {
-            return Err(Difference::OtherReturn(place));
+    /// Returns whether the slot has a message whose bucket the party holds.
+    fn has_taken(&self, party: u32, slot: u32) -> bool {
+        match self.world.slot(slot) {
+            Some(Slot::Message { bucket, .. }) => self.world.flag(bucket)
+                == Some(FileFlag::HeldBy(party)),
+            _ => false,
         }
-        let step = FileStep::Next { process };
-        let outcome = self.world.step(step);
-        if outcome == FileOutcome::Receives(slot) {
-            return Ok(());
-        }
-        Err(Difference::OtherStep {
-            place,
-            step,
-            outcome,
-        })
     }
 
     /// Has a process take steps that change nothing, until it is in no call.
@@ -274,6 +262,7 @@ impl Replay {
     fn is_before(&self, process: u32, change: Change) -> bool {
         match change {
             Change::Flag { bucket, from, .. } => self.world.flag(bucket) == Some(from),
+            Change::Entry { bucket, from, .. } => self.world.entry(bucket) == Some(from),
             Change::Slot { slot, from, .. } => self.world.slot(slot) == Some(from),
             Change::Life { party, from, .. } => self.world.life(party) == Some(from),
             Change::Lock { party } => self.world.lock(party) == Some(None),
@@ -285,6 +274,7 @@ impl Replay {
     fn is_after(&self, process: u32, change: Change) -> bool {
         match change {
             Change::Flag { bucket, to, .. } => self.world.flag(bucket) == Some(to),
+            Change::Entry { bucket, to, .. } => self.world.entry(bucket) == Some(to),
             Change::Slot { slot, to, .. } => self.world.slot(slot) == Some(to),
             Change::Life { party, to, .. } => self.world.life(party) == Some(to),
             Change::Lock { party } => self.world.lock(party) == Some(Some(process)),
@@ -293,16 +283,24 @@ impl Replay {
     }
 }
 
+/// Returns whether a post whose last change was this one has sent its message.
+fn has_sent(last: Option<Change>) -> bool {
+    match last {
+        Some(Change::Flag { .. }) => true,
+        _ => false,
+    }
+}
+
 /// Returns the step that a process takes next, on the way to this change.
 fn step_for(process: u32, found: Process, place: Place, change: Change) -> FileStep {
     match place {
         Place::Outside => first_step(process, found, change),
         Place::Dead => released(process, change),
-        Place::Seen { .. } => exchanged(process, change),
+        Place::Posting { .. } => filled(process, change),
         Place::Counting { .. } => counted(process, change),
-        Place::Flags { .. } => recovered(process, found, change),
+        Place::Flags { bucket, .. } => recovered(process, found, bucket, change),
         Place::Settled { .. } => settled(process, found, change),
-        _ => FileStep::Next { process },
+        Place::Sending { .. } | Place::Clearing { .. } => FileStep::Next { process },
     }
 }
 
@@ -314,12 +312,12 @@ fn first_step(process: u32, found: Process, change: Change) -> FileStep {
         return none;
     };
     match (call, change) {
-        (Call::Join, Change::Lock { party }) if !found.has_changed => {
+        (Call::Join, Change::Lock { party }) if !found.has_changed() => {
             FileStep::Lock { process, party }
         }
         (Call::Reap | Call::Recover, Change::Lock { party }) => FileStep::Lock { process, party },
         (Call::Close, _) => leaving(process, change),
-        (Call::Leave { party } | Call::GiveAllBack { party }, _) if !found.has_changed =>
+        (Call::Leave { party } | Call::GiveAllBack { party }, _) if !found.has_changed() =>
             FileStep::Leave { process, party },
         (Call::Allocate { party }, Change::Flag { bucket, .. }) => FileStep::Allocate {
             process,
@@ -332,7 +330,19 @@ fn first_step(process: u32, found: Process, change: Change) -> FileStep {
                 party,
                 bucket,
             },
-        (Call::Detach { party, bucket }, _) if !found.has_changed => FileStep::DetachNumber {
+        (
+            Call::Detach { party, bucket },
+            Change::Flag {
+                to: FileFlag::SentTo { slot, .. },
+                ..
+            },
+        ) if !found.has_changed() => FileStep::PutBack {
+            process,
+            party,
+            slot,
+            bucket,
+        },
+        (Call::Detach { party, bucket }, _) if !found.has_changed() => FileStep::DetachNumber {
             process,
             party,
             bucket,
@@ -340,10 +350,10 @@ fn first_step(process: u32, found: Process, change: Change) -> FileStep {
         (
             Call::Attach { party, bucket },
             Change::Flag {
-                from: Flag::DetachedBy(from),
+                from: FileFlag::DetachedBy(from),
                 ..
             },
-        ) if !found.has_changed => FileStep::AttachNumber {
+        ) if !found.has_changed() => FileStep::AttachNumber {
             process,
             party,
             bucket,
@@ -357,17 +367,40 @@ fn first_step(process: u32, found: Process, change: Change) -> FileStep {
                 length,
             },
             _,
-        ) if !found.has_changed => FileStep::Post {
+        ) if !found.has_changed() => FileStep::Post {
             process,
             party,
             slot,
             bucket,
             length,
         },
-        (Call::Done { party, slot }, _) if !found.has_changed => FileStep::Done {
+        (
+            Call::Take { party, slot },
+            Change::Flag {
+                bucket,
+                from: FileFlag::SentTo { lap, .. },
+                ..
+            },
+        ) if !found.has_changed() => FileStep::Take {
             process,
             party,
             slot,
+            bucket,
+            lap,
+        },
+        (
+            Call::Done { party, slot },
+            Change::Slot {
+                from: Slot::Message { bucket, .. },
+                to: Slot::Empty { lap },
+                ..
+            },
+        ) if !found.has_changed() => FileStep::Done {
+            process,
+            party,
+            slot,
+            bucket,
+            next: lap,
         },
         _ => none,
     }
@@ -381,7 +414,7 @@ fn leaving(process: u32, change: Change) -> FileStep {
             FileStep::Leave { process, party }
         }
         Change::Flag {
-            from: Flag::HeldBy(party) | Flag::DetachedBy(party),
+            from: FileFlag::HeldBy(party),
             ..
         } => FileStep::Leave { process, party },
         _ => FileStep::Next { process },
@@ -396,29 +429,30 @@ fn released(process: u32, change: Change) -> FileStep {
     }
 }
 
-/// Returns the step by which a take attaches its bucket.
-fn exchanged(process: u32, change: Change) -> FileStep {
+/// Returns the step of a post that has written the bucket's entry: it fills the slot, or clears the
+/// entry.
+fn filled(process: u32, change: Change) -> FileStep {
     match change {
-        Change::Flag {
-            from: Flag::DetachedBy(from),
+        Change::Slot {
+            from: Slot::Empty { lap },
             ..
-        } => FileStep::Exchange { process, from },
+        } => FileStep::Fill { process, lap },
         _ => FileStep::Next { process },
     }
 }
 
-/// Returns the step of a settler that goes over the flags. Only a reap with detached buckets
+/// Returns the step of a settler that has come to this bucket. Only a reap with detached buckets
 /// attaches one.
-fn recovered(process: u32, found: Process, change: Change) -> FileStep {
+fn recovered(process: u32, found: Process, at: u32, change: Change) -> FileStep {
     match (found.call, change) {
         (
             Some(Call::Recover),
             Change::Flag {
                 bucket,
-                from: Flag::DetachedBy(_),
+                from: FileFlag::DetachedBy(_),
                 ..
             },
-        ) => FileStep::Recover { process, bucket },
+        ) if bucket == at => FileStep::Recover { process },
         _ => FileStep::Next { process },
     }
 }

@@ -1,11 +1,11 @@
 //! A machine of a pool in a file that can be run: the words and locks, and the progress of each
 //! process.
-ghost use Rattle.bb_memory_file_machine.specs.FileMachine.{Checking, Flags, Late, Outside, Slots, addressing, after_slot, allocate, attach_number, attaching, begin_done, begin_take, count, counting, deallocate, detach_number, detaching, exchange, giving_back, has_bucket, is_flag, is_own, is_slot, kill, leave, lock, may_call, move_at, move_of, next, nobody, opening_state, post, process_of, putting_back, recover, release, same_flag, same_slot, some_has, unlock, with_flag, with_lock, with_slot};
+ghost use Rattle.bb_memory_file_machine.specs.FileMachine.{Flags, allocate, attach_number, attaching, clearing, count, counting, deallocate, detach_number, done, fill, giving_back, has_clear, is_flag, is_nowhere, is_own, lap_of, leave, lock, may_call, move_at, next, opening_state, post, process_of, put_back, recover, release, same_flag, sending, take, unlock, with_entry, with_flag, with_slot};
 ghost use Rattle.bb_memory_file_machine.specs.FileWorld.{FileWorld, IsFileWorld, IsMove, Replays, Steps, world_of};
 ghost use Rattle.std.specs.Prelude.{IfOk, IsSome, length, slice_get, slice_set, ◌<◌, ◌≡◌};
 
-use super::{FileOutcome, FileStep, Place, Slot};
-use bb_memory_pool_machine::steps::{Flag, PoolStep};
+use super::{Entry, FileFlag, FileOutcome, FileStep, Place, Slot};
+use bb_memory_pool_machine::steps::PoolStep;
 use std::alloc::{AllocError, Global};
 use std::marker::Model;
 
@@ -13,26 +13,26 @@ use std::marker::Model;
 #[derive(Drop)]
 pub struct FileWorld {
     alloc: Global,
-    flags: Vec<Flag>,
+    flags: Vec<FileFlag>,
+    entries: Vec<Entry>,
     slots: Vec<Slot>,
     lives: Vec<u64>,
     locks: Vec<Option<u32>>,
-    outside: Vec<Option<u32>>,
     places: Vec<Place>,
 }
 
 impl Model for FileWorld {
     ghost Value = { FileWorld };
 
-    ghost view = { λ w. world_of w.flags.items w.slots.items w.lives.items w.locks.items w.outside.items w.places.items };
+    ghost view = { λ w. world_of w.flags.items w.entries.items w.slots.items w.lives.items w.locks.items w.places.items };
 
-    ghost invariant = { λ w. IsFileWorld (world_of w.flags.items w.slots.items w.lives.items w.locks.items w.outside.items w.places.items) };
+    ghost invariant = { λ w. IsFileWorld (world_of w.flags.items w.entries.items w.slots.items w.lives.items w.locks.items w.places.items) };
 }
 
 impl FileWorld {
     /// Makes the machine over that many buckets, slots and party numbers, with that many processes,
-    /// none of them in a call. All flags and locks are free, all slots are empty, and all lives are
-    /// 0. Fails only if memory ran out.
+    /// none of them in a call. All flags and locks are free, no bucket is in a slot, and all laps
+    /// and lives are 0. Fails only if memory ran out.
     pub fn new(
         alloc: Global,
         buckets: u32,
@@ -47,19 +47,19 @@ impl FileWorld {
           processes = processes;
         })) }
     {
-        let flags = vec![in alloc; Flag::Free; buckets as usize]?;
-        let words = vec![in alloc; Slot::Empty; slots as usize]?;
+        let flags = vec![in alloc; FileFlag::Free; buckets as usize]?;
+        let entries = vec![in alloc; Entry::Nowhere; buckets as usize]?;
+        let words = vec![in alloc; Slot::Empty { lap: 0 }; slots as usize]?;
         let lives = vec![in alloc; 0; parties as usize]?;
         let locks = vec![in alloc; None; parties as usize]?;
-        let outside = vec![in alloc; None; buckets as usize]?;
         let places = vec![in alloc; Place::Outside; processes as usize]?;
         Ok(FileWorld {
             alloc,
             flags,
+            entries,
             slots: words,
             lives,
             locks,
-            outside,
             places,
         })
     }
@@ -92,10 +92,17 @@ impl FileWorld {
     }
 
     /// Returns the flag of the bucket, or `None` if there is no such bucket.
-    pub fn flag(&self, bucket: u32) -> Option<Flag>
+    pub fn flag(&self, bucket: u32) -> Option<FileFlag>
         ensures { result ≡ slice_get self.now.words.flags bucket }
     {
         found_at(&self.flags, bucket as usize)
+    }
+
+    /// Returns the entry of the bucket, or `None` if there is no such bucket.
+    pub fn entry(&self, bucket: u32) -> Option<Entry>
+        ensures { result ≡ slice_get self.now.words.entries bucket }
+    {
+        found_at(&self.entries, bucket as usize)
     }
 
     /// Returns the word of the slot, or `None` if there is no such slot.
@@ -165,18 +172,28 @@ impl FileWorld {
                 bucket,
                 length,
             } => self.post(process, place, party, slot, bucket, length),
+            FileStep::Fill { process: _, lap } => self.fill(place, lap),
             FileStep::Take {
                 process,
                 party,
                 slot,
-            } => self.begin_take(process, place, party, slot),
-            FileStep::Exchange { process: _, from } => self.exchange(place, from),
+                bucket,
+                lap,
+            } => self.take(process, place, party, slot, bucket, lap),
             FileStep::Done {
                 process,
                 party,
                 slot,
-            } => self.begin_done(process, place, party, slot),
-            FileStep::Recover { process: _, bucket } => self.recover(place, bucket),
+                bucket,
+                next,
+            } => self.done(process, place, party, slot, bucket, next),
+            FileStep::PutBack {
+                process,
+                party,
+                slot,
+                bucket,
+            } => self.put_back(process, place, party, slot, bucket),
+            FileStep::Recover { process: _ } => self.recover(place),
             FileStep::Next { process: _ } => self.next(place),
             FileStep::Unlock { process: _ } => self.unlock(place),
             FileStep::Kill { process: _ } => (FileOutcome::Dies, Place::Dead),
@@ -205,7 +222,7 @@ impl FileWorld {
     {
         match place {
             Place::Counting { party } => {
-                let next = Place::Slots { party, slot: 0 };
+                let next = Place::Flags { party, bucket: 0 };
                 self.make_greater(party, life, place, next)
             }
             Place::Settled { party } => self.make_greater(party, life, place, place),
@@ -237,7 +254,7 @@ impl FileWorld {
         ensures { IsMove self.old (leave self.old.words process place party) result.0 result.1 self.new }
     {
         if self.may_call(process, place, party) {
-            (FileOutcome::Moves, Place::Slots { party, slot: 0 })
+            (FileOutcome::Moves, Place::Flags { party, bucket: 0 })
         } else {
             (FileOutcome::Refused, place)
         }
@@ -256,10 +273,10 @@ impl FileWorld {
         if !self.may_call(process, place, party) {
             return (FileOutcome::Refused, place);
         }
-        if !self.is_flag(bucket, Flag::Free) {
+        if !self.is_flag(bucket, FileFlag::Free) {
             return (FileOutcome::Refused, place);
         }
-        self.set_flag(bucket, Flag::HeldBy(party));
+        self.set_flag(bucket, FileFlag::HeldBy(party));
         (
             FileOutcome::OnFlag(PoolStep::TryAt { party, bucket }),
             Place::Outside,
@@ -279,20 +296,13 @@ impl FileWorld {
         if !self.may_call(process, place, party) {
             return (FileOutcome::Refused, place);
         }
-        if !self.is_flag(bucket, Flag::HeldBy(party)) {
+        if !self.has_clear(party, bucket) {
             return (FileOutcome::Refused, place);
         }
-        if some_has(bucket, &self.slots) {
-            return (FileOutcome::Refused, place);
-        }
-        self.set_flag(bucket, Flag::Free);
-        (
-            FileOutcome::OnFlag(PoolStep::GiveBack { party, bucket }),
-            Place::Outside,
-        )
+        self.give_back(party, bucket, Place::Outside)
     }
 
-    /// Makes a party detach a bucket that it holds.
+    /// Makes a party detach, by its number, a bucket that it holds, and that is in no slot.
     fn detach_number(
         &mut self,
         process: u32,
@@ -305,13 +315,10 @@ impl FileWorld {
         if !self.may_call(process, place, party) {
             return (FileOutcome::Refused, place);
         }
-        if !self.is_flag(bucket, Flag::HeldBy(party)) {
+        if !self.has_clear(party, bucket) {
             return (FileOutcome::Refused, place);
         }
-        if !some_has(bucket, &self.slots) {
-            set_at(&mut self.outside, bucket as usize, Some(party));
-        }
-        self.set_flag(bucket, Flag::DetachedBy(party));
+        self.set_flag(bucket, FileFlag::DetachedBy(party));
         (
             FileOutcome::OnFlag(PoolStep::Detach { party, bucket }),
             Place::Outside,
@@ -332,22 +339,14 @@ impl FileWorld {
         if !self.may_call(process, place, party) {
             return (FileOutcome::Refused, place);
         }
-        if !self.is_flag(bucket, Flag::DetachedBy(from)) {
+        if !self.is_flag(bucket, FileFlag::DetachedBy(from)) {
             return (FileOutcome::Refused, place);
         }
-        set_at(&mut self.outside, bucket as usize, None);
-        self.set_flag(bucket, Flag::HeldBy(party));
-        (
-            FileOutcome::OnFlag(PoolStep::AttachFrom {
-                party,
-                bucket,
-                from,
-            }),
-            Place::Outside,
-        )
+        self.attach(party, bucket, from, Place::Outside)
     }
 
-    /// Makes a party fill an empty slot with a bucket that it holds, and that is in no slot.
+    /// Makes a party begin to post a bucket that it holds, and that is in no slot: it writes the
+    /// bucket's entry.
     fn post(
         &mut self,
         process: u32,
@@ -362,128 +361,140 @@ impl FileWorld {
         if !self.may_call(process, place, party) {
             return (FileOutcome::Refused, place);
         }
-        if !self.is_flag(bucket, Flag::HeldBy(party)) {
+        if !self.has_clear(party, bucket) {
             return (FileOutcome::Refused, place);
         }
-        if some_has(bucket, &self.slots) {
-            return (FileOutcome::Refused, place);
-        }
-        if !self.is_slot(slot, Slot::Empty) {
-            return (FileOutcome::Refused, place);
-        }
-        let message = Slot::Message { bucket, length };
-        set_at(&mut self.outside, bucket as usize, None);
-        set_at(&mut self.slots, slot as usize, message);
-        (FileOutcome::OnSlot(slot), Place::Posting { party, bucket })
-    }
-
-    /// Makes a party begin a take, in which it looks at the slot.
-    fn begin_take(
-        &mut self,
-        process: u32,
-        place: Place,
-        party: u32,
-        slot: u32,
-    ) -> (FileOutcome, Place)
-        ensures { IsMove self.old (begin_take self.old.words process place party slot) result.0 result.1 self.new }
-    {
-        if !self.may_call(process, place, party) {
-            return (FileOutcome::Refused, place);
-        }
-        match found_at(&self.slots, slot as usize) {
-            Some(Slot::Message { bucket, length }) => (
-                FileOutcome::Moves,
-                Place::Seen {
-                    party,
-                    slot,
-                    bucket,
-                    length,
-                },
-            ),
-            Some(Slot::Empty) | None => (FileOutcome::Refused, Place::Outside),
-        }
-    }
-
-    /// Makes a process in a take attach the bucket that it has seen.
-    fn exchange(&mut self, place: Place, from: u32) -> (FileOutcome, Place)
-        ensures { IsMove self.old (exchange self.old.words place from) result.0 result.1 self.new }
-    {
-        let Place::Seen {
-            party,
-            slot,
-            bucket,
-            length,
-        } = place
-        else {
-            return (FileOutcome::Refused, place);
-        };
-        if !self.is_flag(bucket, Flag::DetachedBy(from)) {
-            return (FileOutcome::Refused, place);
-        }
-        self.set_flag(bucket, Flag::HeldBy(party));
+        self.set_entry(bucket, Entry::In { slot, length });
         (
-            FileOutcome::OnFlag(PoolStep::AttachFrom {
-                party,
-                bucket,
-                from,
-            }),
-            Place::Attached {
+            FileOutcome::OnEntry(bucket),
+            Place::Posting {
                 party,
                 slot,
                 bucket,
-                length,
-                from,
             },
         )
     }
 
-    /// Makes a party begin a `done`, in which it looks at the slot.
-    fn begin_done(
+    /// Makes a process in a post fill its slot, if the slot is empty at this lap.
+    fn fill(&mut self, place: Place, lap: u32) -> (FileOutcome, Place)
+        ensures { IsMove self.old (fill self.old.words place lap) result.0 result.1 self.new }
+    {
+        let Place::Posting {
+            party,
+            slot,
+            bucket,
+        } = place
+        else {
+            return (FileOutcome::Refused, place);
+        };
+        match found_at(&self.slots, slot as usize) {
+            Some(Slot::Empty { lap: found }) if found == lap => {
+                self.set_slot(slot, Slot::Message { lap, bucket });
+                (
+                    FileOutcome::OnSlot(slot),
+                    Place::Sending {
+                        party,
+                        slot,
+                        bucket,
+                        lap,
+                    },
+                )
+            }
+            _ => (FileOutcome::Refused, place),
+        }
+    }
+
+    /// Makes a party take the message in a bucket, if the bucket is sent to this slot at this lap.
+    fn take(
         &mut self,
         process: u32,
         place: Place,
         party: u32,
         slot: u32,
+        bucket: u32,
+        lap: u32,
     ) -> (FileOutcome, Place)
-        ensures { IsMove self.old (begin_done self.old.words process place party slot) result.0 result.1 self.new }
+        ensures { IsMove self.old (take self.old.words process place party slot bucket lap) result.0 result.1 self.new }
     {
         if !self.may_call(process, place, party) {
             return (FileOutcome::Refused, place);
         }
-        match found_at(&self.slots, slot as usize) {
-            Some(Slot::Message { bucket, length: _ }) => (
-                FileOutcome::Moves,
-                Place::Finding {
-                    party,
-                    slot,
-                    bucket,
-                },
-            ),
-            Some(Slot::Empty) | None => (FileOutcome::Refused, Place::Outside),
+        if !self.is_flag(bucket, FileFlag::SentTo { slot, lap }) {
+            return (FileOutcome::Refused, place);
+        }
+        self.set_flag(bucket, FileFlag::HeldBy(party));
+        (
+            FileOutcome::Receives {
+                slot,
+                bucket,
+                party,
+            },
+            Place::Outside,
+        )
+    }
+
+    /// Makes a party that holds the bucket of a message empty the message's slot, which goes on with
+    /// the lap `next`.
+    fn done(
+        &mut self,
+        process: u32,
+        place: Place,
+        party: u32,
+        slot: u32,
+        bucket: u32,
+        next: u32,
+    ) -> (FileOutcome, Place)
+        ensures { IsMove self.old (done self.old.words process place party slot bucket next) result.0 result.1 self.new }
+    {
+        if !self.may_call(process, place, party) {
+            return (FileOutcome::Refused, place);
+        }
+        if !self.is_flag(bucket, FileFlag::HeldBy(party)) {
+            return (FileOutcome::Refused, place);
+        }
+        if self.lap_of(slot, bucket).is_none() {
+            return (FileOutcome::Refused, place);
+        }
+        self.set_slot(slot, Slot::Empty { lap: next });
+        (FileOutcome::OnSlot(slot), Place::Clearing { party, bucket })
+    }
+
+    /// Makes a party that holds the bucket of a message put the message back: it sends the bucket
+    /// to its slot again.
+    fn put_back(
+        &mut self,
+        process: u32,
+        place: Place,
+        party: u32,
+        slot: u32,
+        bucket: u32,
+    ) -> (FileOutcome, Place)
+        ensures { IsMove self.old (put_back self.old.words process place party slot bucket) result.0 result.1 self.new }
+    {
+        if !self.may_call(process, place, party) {
+            return (FileOutcome::Refused, place);
+        }
+        if !self.is_flag(bucket, FileFlag::HeldBy(party)) {
+            return (FileOutcome::Refused, place);
+        }
+        match self.lap_of(slot, bucket) {
+            Some(lap) => self.send(party, bucket, slot, lap, Place::Outside),
+            None => (FileOutcome::Refused, place),
         }
     }
 
-    /// Makes a settler that has been over all slots attach a bucket that the settled number had
-    /// detached.
-    fn recover(&mut self, place: Place, bucket: u32) -> (FileOutcome, Place)
-        ensures { IsMove self.old (recover self.old.words place bucket) result.0 result.1 self.new }
+    /// Makes a settler attach the bucket to which it has come, if the settled number has detached
+    /// it.
+    fn recover(&mut self, place: Place) -> (FileOutcome, Place)
+        ensures { IsMove self.old (recover self.old.words place) result.0 result.1 self.new }
     {
-        let Place::Flags { party, bucket: _ } = place else {
+        let Place::Flags { party, bucket } = place else {
             return (FileOutcome::Refused, place);
         };
-        if !self.is_flag(bucket, Flag::DetachedBy(party)) {
+        if !self.is_flag(bucket, FileFlag::DetachedBy(party)) {
             return (FileOutcome::Refused, place);
         }
-        set_at(&mut self.outside, bucket as usize, None);
-        self.set_flag(bucket, Flag::HeldBy(party));
-        (
-            FileOutcome::OnFlag(PoolStep::AttachFrom {
-                party,
-                bucket,
-                from: party,
-            }),
-            Place::Flags { party, bucket: 0 },
-        )
+        self.attach(party, bucket, party, place)
     }
 
     /// Makes a process take the next step of the call that it is in.
@@ -492,107 +503,27 @@ impl FileWorld {
     {
         match place {
             Place::Outside | Place::Dead | Place::Counting { .. } => (FileOutcome::Refused, place),
-            Place::Seen { .. } => (FileOutcome::Moves, Place::Outside),
-            Place::Settled { .. } => (FileOutcome::Moves, Place::Outside),
-            Place::Posting { party, bucket } => {
-                self.detach(party, bucket, Place::Sent { party, bucket })
+            Place::Posting { bucket, .. } | Place::Clearing { bucket, .. } => {
+                self.clear(bucket, Place::Outside)
             }
-            Place::Sent { party, bucket } => self.address(party, bucket, Place::Outside),
-            Place::Attached {
+            Place::Sending {
                 party,
                 slot,
                 bucket,
-                length,
-                from,
-            } => {
-                if self.is_slot(slot, Slot::Message { bucket, length }) {
-                    (FileOutcome::Receives(slot), Place::Outside)
-                } else {
-                    (
-                        FileOutcome::Moves,
-                        Place::Late {
-                            party,
-                            bucket,
-                            from,
-                            next: 0,
-                        },
-                    )
-                }
-            }
-            Place::Late {
-                party,
-                bucket,
-                from,
-                next,
-            } => self.late_slot(party, bucket, from, next),
-            Place::Returning {
-                party,
-                bucket,
-                from,
-            } => self.put_back(party, bucket, from),
-            Place::Finding {
-                party,
-                slot,
-                bucket,
-            } => {
-                if self.is_flag(bucket, Flag::HeldBy(party)) {
-                    (
-                        FileOutcome::Moves,
-                        Place::Ending {
-                            party,
-                            slot,
-                            bucket,
-                        },
-                    )
-                } else {
-                    (FileOutcome::Moves, Place::Outside)
-                }
-            }
-            Place::Ending {
-                party: _,
-                slot,
-                bucket: _,
-            } => {
-                set_at(&mut self.slots, slot as usize, Slot::Empty);
-                (FileOutcome::OnSlot(slot), Place::Outside)
-            }
-            Place::Slots { party, slot } => self.settle_slot(party, slot),
-            Place::Checking {
-                party,
-                slot,
-                bucket,
-            } => self.check_slot(party, slot, bucket),
-            Place::Keeping {
-                party,
-                slot,
-                bucket,
-            } => {
-                let next = Place::Addressing {
-                    party,
-                    slot,
-                    bucket,
-                };
-                self.detach(party, bucket, next)
-            }
-            Place::Addressing {
-                party,
-                slot,
-                bucket,
-            } => {
-                let slot = self.after_slot(slot);
-                self.address(party, bucket, Place::Slots { party, slot })
-            }
+                lap,
+            } => self.send(party, bucket, slot, lap, Place::Outside),
             Place::Flags { party, bucket } => self.settle_flag(party, bucket),
+            Place::Settled { .. } => (FileOutcome::Moves, Place::Outside),
         }
     }
 
-    /// Makes a settler that is done, or that hasn't looked at a slot yet, free the lock of the
+    /// Makes a settler that is done, or that hasn't settled a bucket yet, free the lock of the
     /// settled number.
     fn unlock(&mut self, place: Place) -> (FileOutcome, Place)
         ensures { IsMove self.old (unlock self.old.words place) result.0 result.1 self.new }
     {
         match place {
-            Place::Slots { party, slot: 0 } | Place::Settled { party } => {
+            Place::Flags { party, bucket: 0 } | Place::Settled { party } => {
                 set_at(&mut self.locks, party as usize, None);
                 (FileOutcome::OnLock(party), Place::Outside)
             }
@@ -617,129 +548,8 @@ impl FileWorld {
         }
     }
 
-    /// Makes a party detach a bucket.
-    fn detach(&mut self, party: u32, bucket: u32, next: Place) -> (FileOutcome, Place)
-        ensures { IsMove self.old (detaching self.old.words party bucket next) result.0 result.1 self.new }
-    {
-        self.set_flag(bucket, Flag::DetachedBy(party));
-        (
-            FileOutcome::OnFlag(PoolStep::Detach { party, bucket }),
-            next,
-        )
-    }
-
-    /// Makes a party address a bucket that it has detached to the number that nobody joins, unless
-    /// another party has attached the bucket.
-    fn address(&mut self, party: u32, bucket: u32, next: Place) -> (FileOutcome, Place)
-        ensures { IsMove self.old (addressing self.old.words party bucket next) result.0 result.1 self.new }
-    {
-        let sent = Flag::DetachedBy(party);
-        if !self.is_flag(bucket, sent) {
-            return (FileOutcome::Moves, next);
-        }
-        let to = self.nobody();
-        self.set_flag(bucket, Flag::DetachedBy(to));
-        (
-            FileOutcome::Addresses {
-                bucket,
-                from: party,
-                to,
-            },
-            next,
-        )
-    }
-
-    /// Makes a take that is late look at a slot.
-    fn late_slot(&mut self, party: u32, bucket: u32, from: u32, slot: u32) -> (FileOutcome, Place)
-        ensures { IsMove self.old (next self.old.words (Late party bucket from slot)) result.0 result.1 self.new }
-    {
-        let found = found_at(&self.slots, slot as usize);
-        let place = match found {
-            None => Place::Returning {
-                party,
-                bucket,
-                from,
-            },
-            Some(word) => {
-                if has_bucket(bucket, word) {
-                    Place::Posting { party, bucket }
-                } else {
-                    Place::Late {
-                        party,
-                        bucket,
-                        from,
-                        next: self.after_slot(slot),
-                    }
-                }
-            }
-        };
-        (FileOutcome::Moves, place)
-    }
-
-    /// Makes a take that is late put the flag back as it was found.
-    fn put_back(&mut self, party: u32, bucket: u32, from: u32) -> (FileOutcome, Place)
-        ensures { IsMove self.old (putting_back self.old.words party bucket from Outside) result.0 result.1 self.new }
-    {
-        self.set_flag(bucket, Flag::DetachedBy(from));
-        (
-            FileOutcome::PutsBack {
-                bucket,
-                party,
-                from,
-            },
-            Place::Outside,
-        )
-    }
-
-    /// Makes a settler look at a slot.
-    fn settle_slot(&mut self, party: u32, slot: u32) -> (FileOutcome, Place)
-        ensures { IsMove self.old (next self.old.words (Slots party slot)) result.0 result.1 self.new }
-    {
-        let place = match found_at(&self.slots, slot as usize) {
-            None => Place::Flags { party, bucket: 0 },
-            Some(Slot::Empty) => Place::Slots {
-                party,
-                slot: self.after_slot(slot),
-            },
-            Some(Slot::Message { bucket, length: _ }) => Place::Checking {
-                party,
-                slot,
-                bucket,
-            },
-        };
-        (FileOutcome::Moves, place)
-    }
-
-    /// Makes a settler check whether the settled number holds the bucket that was in the slot, or
-    /// has detached it.
-    fn check_slot(&mut self, party: u32, slot: u32, bucket: u32) -> (FileOutcome, Place)
-        ensures { IsMove self.old (next self.old.words (Checking party slot bucket)) result.0 result.1 self.new }
-    {
-        if self.is_flag(bucket, Flag::HeldBy(party)) {
-            (
-                FileOutcome::Moves,
-                Place::Keeping {
-                    party,
-                    slot,
-                    bucket,
-                },
-            )
-        } else if self.is_flag(bucket, Flag::DetachedBy(party)) {
-            (
-                FileOutcome::Moves,
-                Place::Addressing {
-                    party,
-                    slot,
-                    bucket,
-                },
-            )
-        } else {
-            let slot = self.after_slot(slot);
-            (FileOutcome::Moves, Place::Slots { party, slot })
-        }
-    }
-
-    /// Makes a settler give back the bucket if the settled number holds it.
+    /// Makes a settler send or give back the bucket to which it has come, if the settled number
+    /// holds it.
     fn settle_flag(&mut self, party: u32, bucket: u32) -> (FileOutcome, Place)
         ensures { IsMove self.old (next self.old.words (Flags party bucket)) result.0 result.1 self.new }
     {
@@ -750,41 +560,89 @@ impl FileWorld {
             party,
             bucket: bucket + 1,
         };
-        if self.is_flag(bucket, Flag::HeldBy(party)) {
-            self.set_flag(bucket, Flag::Free);
-            (
-                FileOutcome::OnFlag(PoolStep::GiveBack { party, bucket }),
-                next,
-            )
-        } else {
-            (FileOutcome::Moves, next)
+        if !self.is_flag(bucket, FileFlag::HeldBy(party)) {
+            return (FileOutcome::Moves, next);
+        }
+        let Some(Entry::In { slot, length: _ }) = found_at(&self.entries, bucket as usize) else {
+            return self.give_back(party, bucket, next);
+        };
+        match self.lap_of(slot, bucket) {
+            Some(lap) => self.send(party, bucket, slot, lap, next),
+            None => self.clear(bucket, Place::Flags { party, bucket }),
         }
     }
 
-    /// Returns the slot after this one, at which a settler looks next.
-    fn after_slot(&self, slot: u32) -> u32
-        ensures { result ≡ after_slot self.now.words slot }
+    /// Makes a party attach a bucket that the party `from` has detached.
+    fn attach(&mut self, party: u32, bucket: u32, from: u32, next: Place) -> (FileOutcome, Place)
+        ensures { IsMove self.old (attaching self.old.words party bucket from next) result.0 result.1 self.new }
     {
-        if (slot as usize) < self.slots.len() {
-            slot + 1
-        } else {
-            slot
-        }
+        self.set_flag(bucket, FileFlag::HeldBy(party));
+        (
+            FileOutcome::OnFlag(PoolStep::AttachFrom {
+                party,
+                bucket,
+                from,
+            }),
+            next,
+        )
     }
 
-    /// Returns the number after the parties' numbers, which nobody joins.
-    fn nobody(&self) -> u32
-        ensures { result ≡ nobody self.now.words }
+    /// Makes a party give back a bucket.
+    fn give_back(&mut self, party: u32, bucket: u32, next: Place) -> (FileOutcome, Place)
+        ensures { IsMove self.old (giving_back self.old.words party bucket next) result.0 result.1 self.new }
     {
-        self.locks.len() as u32
+        self.set_flag(bucket, FileFlag::Free);
+        (
+            FileOutcome::OnFlag(PoolStep::GiveBack { party, bucket }),
+            next,
+        )
+    }
+
+    /// Makes a party send a bucket to the slot that has it at this lap.
+    fn send(
+        &mut self,
+        party: u32,
+        bucket: u32,
+        slot: u32,
+        lap: u32,
+        next: Place,
+    ) -> (FileOutcome, Place)
+        ensures { IsMove self.old (sending self.old.words party bucket slot lap next) result.0 result.1 self.new }
+    {
+        self.set_flag(bucket, FileFlag::SentTo { slot, lap });
+        (FileOutcome::Sends { bucket, party }, next)
+    }
+
+    /// Makes a process write into a bucket's entry that the bucket is in no slot.
+    fn clear(&mut self, bucket: u32, next: Place) -> (FileOutcome, Place)
+        ensures { IsMove self.old (clearing self.old.words bucket next) result.0 result.1 self.new }
+    {
+        self.set_entry(bucket, Entry::Nowhere);
+        (FileOutcome::OnEntry(bucket), next)
     }
 
     /// Writes a bucket's flag.
-    fn set_flag(&mut self, bucket: u32, flag: Flag)
+    fn set_flag(&mut self, bucket: u32, flag: FileFlag)
         ensures words { self.new.words ≡ with_flag self.old.words bucket flag }
         ensures places { self.new.places ≡ self.old.places }
     {
         set_at(&mut self.flags, bucket as usize, flag);
+    }
+
+    /// Writes a bucket's entry.
+    fn set_entry(&mut self, bucket: u32, entry: Entry)
+        ensures words { self.new.words ≡ with_entry self.old.words bucket entry }
+        ensures places { self.new.places ≡ self.old.places }
+    {
+        set_at(&mut self.entries, bucket as usize, entry);
+    }
+
+    /// Writes a slot's word.
+    fn set_slot(&mut self, slot: u32, word: Slot)
+        ensures words { self.new.words ≡ with_slot self.old.words slot word }
+        ensures places { self.new.places ≡ self.old.places }
+    {
+        set_at(&mut self.slots, slot as usize, word);
     }
 
     /// Returns whether the process is in no call and has the lock of this number.
@@ -807,8 +665,16 @@ impl FileWorld {
         }
     }
 
+    /// Returns whether the party holds the bucket, and the bucket's entry says that it is in no
+    /// slot.
+    fn has_clear(&self, party: u32, bucket: u32) -> bool
+        ensures { result ≡ has_clear self.now.words party bucket }
+    {
+        self.is_flag(bucket, FileFlag::HeldBy(party)) && self.is_nowhere(bucket)
+    }
+
     /// Returns whether there is such a bucket and its flag is this one.
-    fn is_flag(&self, bucket: u32, flag: Flag) -> bool
+    fn is_flag(&self, bucket: u32, flag: FileFlag) -> bool
         ensures { result ≡ is_flag self.now.words bucket flag }
     {
         match found_at(&self.flags, bucket as usize) {
@@ -817,69 +683,44 @@ impl FileWorld {
         }
     }
 
-    /// Returns whether there is such a slot and its word is this one.
-    fn is_slot(&self, slot: u32, word: Slot) -> bool
-        ensures { result ≡ is_slot self.now.words slot word }
+    /// Returns whether there is such a bucket and its entry says that it is in no slot.
+    fn is_nowhere(&self, bucket: u32) -> bool
+        ensures { result ≡ is_nowhere self.now.words bucket }
+    {
+        match found_at(&self.entries, bucket as usize) {
+            Some(Entry::Nowhere) => true,
+            Some(Entry::In { .. }) | None => false,
+        }
+    }
+
+    /// Returns the lap at which this slot has the bucket, or `None` if it hasn't.
+    fn lap_of(&self, slot: u32, bucket: u32) -> Option<u32>
+        ensures { result ≡ lap_of self.now.words slot bucket }
     {
         match found_at(&self.slots, slot as usize) {
-            Some(found) => same_slot(found, word),
-            None => false,
+            Some(Slot::Message { lap, bucket: other }) if other == bucket => Some(lap),
+            _ => None,
         }
     }
 }
 
 /// Returns whether two flags are the same.
-fn same_flag(one: Flag, other: Flag) -> bool
+fn same_flag(one: FileFlag, other: FileFlag) -> bool
     ensures { result ≡ same_flag one other }
 {
     match (one, other) {
-        (Flag::Free, Flag::Free) => true,
-        (Flag::HeldBy(party), Flag::HeldBy(holder)) => party == holder,
-        (Flag::DetachedBy(party), Flag::DetachedBy(sender)) => party == sender,
-        _ => false,
-    }
-}
-
-/// Returns whether two words of slots are the same.
-fn same_slot(one: Slot, other: Slot) -> bool
-    ensures { result ≡ same_slot one other }
-{
-    match (one, other) {
-        (Slot::Empty, Slot::Empty) => true,
+        (FileFlag::Free, FileFlag::Free) => true,
+        (FileFlag::HeldBy(party), FileFlag::HeldBy(holder)) => party == holder,
+        (FileFlag::DetachedBy(party), FileFlag::DetachedBy(sender)) => party == sender,
         (
-            Slot::Message { bucket, length },
-            Slot::Message {
-                bucket: there,
-                length: size,
+            FileFlag::SentTo { slot, lap },
+            FileFlag::SentTo {
+                slot: there,
+                lap: then,
             },
-        ) => bucket == there && length == size,
+        ) => slot == there && lap == then,
         _ => false,
     }
-}
-
-/// Returns whether the word is that of a message in this bucket.
-fn has_bucket(bucket: u32, word: Slot) -> bool
-    ensures { result ≡ has_bucket bucket word }
-{
-    match word {
-        Slot::Message {
-            bucket: other,
-            length: _,
-        } => other == bucket,
-        Slot::Empty => false,
-    }
-}
-
-/// Returns whether one of these slots has a message in this bucket.
-fn some_has(bucket: u32, slots: &[Slot]) -> bool
-    ensures { result ≡ some_has bucket slots.now }
-{
-    for word in slots {
-        if has_bucket(bucket, *word) {
-            return true;
-        }
-    }
-    false
 }
 
 /// Returns the process that takes a step.
@@ -895,10 +736,11 @@ fn process_of(step: FileStep) -> u32
         FileStep::DetachNumber { process, .. } => process,
         FileStep::AttachNumber { process, .. } => process,
         FileStep::Post { process, .. } => process,
+        FileStep::Fill { process, .. } => process,
         FileStep::Take { process, .. } => process,
-        FileStep::Exchange { process, .. } => process,
         FileStep::Done { process, .. } => process,
-        FileStep::Recover { process, .. } => process,
+        FileStep::PutBack { process, .. } => process,
+        FileStep::Recover { process } => process,
         FileStep::Next { process } => process,
         FileStep::Unlock { process } => process,
         FileStep::Kill { process } => process,

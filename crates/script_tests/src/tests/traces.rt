@@ -1,32 +1,52 @@
-//! Tests of which word of a pool's file is which flag or slot, and of traces that the machine of
-//! such a pool allows, or refuses at a line.
+//! Tests of which word of a pool's file is which flag, entry or slot, and of traces that the
+//! machine of such a pool allows, or refuses at a line.
 use crate::tests::checks::{check, same};
-use bb_memory_base::steps::Flag;
-use bb_memory_file_machine::steps::{FileOutcome, FileStep, Place, Slot};
+use bb_memory_file_machine::steps::{Entry, FileFlag, FileOutcome, FileStep, Place, Slot};
 use file_traces::replay::Difference;
 use file_traces::traces::{End, end_of};
-use file_traces::which_word::{flag_of, slot_of};
+use file_traces::which_word::{entry_of, flag_of, slot_of};
 use std::process::Abort;
 
 #[test]
 fn words_of_flags(rt: HostRuntime) {
-    check(&rt, flag_of(0) == Some(Flag::Free));
-    check(&rt, flag_of(1) == Some(Flag::HeldBy(0)));
-    check(&rt, flag_of(2) == Some(Flag::DetachedBy(0)));
-    check(&rt, flag_of(7) == Some(Flag::HeldBy(3)));
-    check(&rt, flag_of(10) == Some(Flag::DetachedBy(4)));
-    check(&rt, flag_of(usize::MAX) == None);
+    check(&rt, flag_of(0, 4, 3) == Some(FileFlag::Free));
+    check(&rt, flag_of(1, 4, 3) == Some(FileFlag::HeldBy(0)));
+    check(&rt, flag_of(2, 4, 3) == Some(FileFlag::DetachedBy(0)));
+    check(&rt, flag_of(7, 4, 3) == Some(FileFlag::HeldBy(3)));
+    check(&rt, flag_of(8, 4, 3) == Some(FileFlag::DetachedBy(3)));
+    check(&rt, flag_of(usize::MAX, 4, 3) == None);
+}
+
+/// The numbers from 4 on are those of slots 0 to 2 at lap 0, then at lap 1, and so on.
+#[test]
+fn words_of_flags_that_name_a_slot(rt: HostRuntime) {
+    let at_first = FileFlag::SentTo { slot: 0, lap: 0 };
+    let last = FileFlag::SentTo { slot: 2, lap: 0 };
+    let next = FileFlag::SentTo { slot: 0, lap: 1 };
+    let later = FileFlag::SentTo { slot: 1, lap: 5 };
+    check(&rt, flag_of(10, 4, 3) == Some(at_first));
+    check(&rt, flag_of(14, 4, 3) == Some(last));
+    check(&rt, flag_of(16, 4, 3) == Some(next));
+    check(&rt, flag_of(42, 4, 3) == Some(later));
+    check(&rt, flag_of(10, 4, 0) == None);
+}
+
+#[test]
+fn words_of_entries(rt: HostRuntime) {
+    let entry = Entry::In { slot: 3, length: 8 };
+    check(&rt, entry_of(0) == Some(Entry::Nowhere));
+    check(&rt, entry_of(34_359_738_372) == Some(entry));
+    check(&rt, entry_of(34_359_738_368) == None);
 }
 
 #[test]
 fn words_of_slots(rt: HostRuntime) {
-    let message = Slot::Message {
-        bucket: 3,
-        length: 8,
-    };
-    check(&rt, slot_of(0) == Some(Slot::Empty));
-    check(&rt, slot_of(34_359_738_372) == Some(message));
-    check(&rt, slot_of(34_359_738_368) == None);
+    let first = Slot::Message { lap: 0, bucket: 3 };
+    let later = Slot::Message { lap: 8, bucket: 3 };
+    check(&rt, slot_of(0) == Some(Slot::Empty { lap: 0 }));
+    check(&rt, slot_of(4) == Some(first));
+    check(&rt, slot_of(34_359_738_368) == Some(Slot::Empty { lap: 8 }));
+    check(&rt, slot_of(34_359_738_372) == Some(later));
 }
 
 /// A party joins and posts a message, as the machine has it.
@@ -40,9 +60,9 @@ allocate 0 0
 flag 0 0 0 1
 ok 0 0
 post 0 0 0 0 8
-slot 0 0 0 34359738369
-flag 0 0 1 2
-flag 0 0 2 4
+entry 0 0 0 34359738369
+slot 0 0 0 1
+flag 0 0 1 4
 ok 0
 ";
 
@@ -56,7 +76,7 @@ fn each_change_is_allowed(rt: HostRuntime) {
 }
 
 #[test]
-fn a_detach_before_the_post_is_refused(rt: HostRuntime) {
+fn a_post_that_fills_the_slot_first_is_refused(rt: HostRuntime) {
     let text = b"file 2 1 1 1
 join 0
 lock 0 0
@@ -66,7 +86,7 @@ allocate 0 0
 flag 0 0 0 1
 ok 0 0
 post 0 0 0 0 8
-flag 0 0 1 2
+slot 0 0 0 1
 ";
     let difference = Difference::OtherStep {
         place: Place::Outside,
@@ -77,9 +97,144 @@ flag 0 0 1 2
             bucket: 0,
             length: 8,
         },
-        outcome: FileOutcome::OnSlot(0),
+        outcome: FileOutcome::OnEntry(0),
     };
     differs(&rt, text, 10, difference);
+}
+
+/// A post finds its slot full, and the bucket's entry still says that the bucket is in the slot.
+#[test]
+fn a_refused_post_that_leaves_the_entry_is_refused(rt: HostRuntime) {
+    let text = b"file 2 1 1 1
+join 0
+lock 0 0
+life 0 0 0 2
+ok 0
+allocate 0 0
+flag 0 0 0 1
+ok 0 0
+post 0 0 0 0 8
+entry 0 0 0 34359738369
+refused 0
+";
+    let posting = Place::Posting {
+        party: 0,
+        slot: 0,
+        bucket: 0,
+    };
+    differs(&rt, text, 11, Difference::OtherReturn(posting));
+}
+
+/// A take from slot 1 gets the bucket that is sent to slot 0.
+#[test]
+fn a_take_from_another_slot_is_refused(rt: HostRuntime) {
+    let text = b"file 2 1 1 2
+join 0
+lock 0 0
+life 0 0 0 2
+ok 0
+allocate 0 0
+flag 0 0 0 1
+ok 0 0
+post 0 0 0 0 8
+entry 0 0 0 34359738369
+slot 0 0 0 1
+flag 0 0 1 4
+ok 0
+take 0 0 1
+flag 0 0 4 1
+";
+    let difference = Difference::OtherStep {
+        place: Place::Outside,
+        step: FileStep::Take {
+            process: 0,
+            party: 0,
+            slot: 1,
+            bucket: 0,
+            lap: 0,
+        },
+        outcome: FileOutcome::Refused,
+    };
+    differs(&rt, text, 15, difference);
+}
+
+/// A process is killed in a post that has filled the slot, and whoever settles its number gives
+/// back the bucket.
+#[test]
+fn a_settler_that_frees_a_message_is_refused(rt: HostRuntime) {
+    let text = b"file 2 1 1 1
+join 0
+lock 0 0
+life 0 0 0 2
+ok 0
+allocate 0 0
+flag 0 0 0 1
+ok 0 0
+post 0 0 0 0 8
+entry 0 0 0 34359738369
+slot 0 0 0 1
+kill 0
+unlock 0 0
+gone 0
+reap 1
+lock 1 0
+life 1 0 2 4
+flag 1 0 1 0
+";
+    let difference = Difference::OtherStep {
+        place: Place::Flags {
+            party: 0,
+            bucket: 0,
+        },
+        step: FileStep::Next { process: 1 },
+        outcome: FileOutcome::Sends {
+            bucket: 0,
+            party: 0,
+        },
+    };
+    differs(&rt, text, 18, difference);
+}
+
+/// A party takes the message of `POSTED`. Then it gets another length, or isn't allowed to be done,
+/// or clears the entry first, or gives all back but the message.
+#[test]
+fn calls_after_a_post_that_are_refused(rt: HostRuntime) {
+    let outside = Difference::OtherReturn(Place::Outside);
+    differs_after(&rt, b"take 0 0 0\nflag 0 0 4 1\nok 0 0 9\n", 17, outside);
+    differs_after(
+        &rt,
+        b"take 0 0 0\nflag 0 0 4 1\nok 0 0 8\ndone 0 0 0\nrefused 0\n",
+        19,
+        outside,
+    );
+    let cleared_first = Difference::OtherStep {
+        place: Place::Outside,
+        step: FileStep::Next { process: 0 },
+        outcome: FileOutcome::Refused,
+    };
+    differs_after(
+        &rt,
+        b"take 0 0 0\nflag 0 0 4 1\nok 0 0 8\ndone 0 0 0\nentry 0 0 34359738369 0\n",
+        19,
+        cleared_first,
+    );
+    let kept = Difference::OtherStep {
+        place: Place::Flags {
+            party: 0,
+            bucket: 0,
+        },
+        step: FileStep::Next { process: 0 },
+        outcome: FileOutcome::Sends {
+            bucket: 0,
+            party: 0,
+        },
+    };
+    differs_after(
+        &rt,
+        b"take 0 0 0\nflag 0 0 4 1\nok 0 0 8\ngive_all_back 0 0\nok 0\n",
+        19,
+        kept,
+    );
 }
 
 #[test]
@@ -112,61 +267,6 @@ fn a_join_that_counts_no_life_is_refused(rt: HostRuntime) {
         4,
         Difference::OtherBefore,
     );
-}
-
-/// A take has seen a message. Its receiver sends the bucket on by number, and the take attaches it,
-/// too late. Then it leaves its own name in the flag.
-const RENAMED: &[u8] = b"file 2 2 1 1
-join 0
-lock 0 0
-life 0 0 0 2
-life 0 0 2 3
-ok 0
-join 1
-lock 1 1
-life 1 1 0 2
-life 1 1 2 3
-ok 1
-allocate 0 0
-flag 0 0 0 1
-ok 0 0
-post 0 0 0 0 8
-slot 0 0 0 34359738369
-flag 0 0 1 2
-flag 0 0 2 6
-ok 0
-take 1 1 0
-look 1
-take 0 0 0
-look 0
-flag 0 0 6 1
-ok 0 0 8
-done 0 0 0
-slot 0 0 34359738369 0
-ok 0
-detach 0 0 0
-flag 0 0 1 2
-ok 0
-flag 1 0 2 3
-flag 1 0 3 4
-";
-
-#[test]
-fn a_late_take_that_leaves_its_name_is_refused(rt: HostRuntime) {
-    let difference = Difference::OtherStep {
-        place: Place::Returning {
-            party: 1,
-            bucket: 0,
-            from: 0,
-        },
-        step: FileStep::Next { process: 1 },
-        outcome: FileOutcome::PutsBack {
-            bucket: 0,
-            party: 1,
-            from: 0,
-        },
-    };
-    differs(&rt, RENAMED, 33, difference);
 }
 
 #[test]
@@ -213,4 +313,17 @@ fn differs(rt: &(impl Abort + AllocGlobal), text: &[u8], line: usize, difference
         end_of(rt.alloc(), text),
         End::Difference { line, difference },
     );
+}
+
+/// Checks that the machine differs, at this line, from `POSTED` with more lines.
+fn differs_after(
+    rt: &(impl Abort + AllocGlobal),
+    more: &[u8],
+    line: usize,
+    difference: Difference,
+) {
+    let mut text = Vec::new(rt.alloc());
+    text.extend_from_slice(POSTED).expect(rt, "there is memory");
+    text.extend_from_slice(more).expect(rt, "there is memory");
+    differs(rt, &text, line, difference);
 }
