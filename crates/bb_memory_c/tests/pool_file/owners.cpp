@@ -64,7 +64,7 @@ void run_waits(const char *path) {
     bb::pool_file_party party;
     EXPECT(party.give_all_back() == BB_UNINITIALIZED);
     EXPECT(file.open(path) == BB_OK && party.join(file) == BB_OK);
-    const auto number = static_cast<std::uint32_t>(bb_pool_party_number(party.get()).number);
+    const auto number = static_cast<std::uint32_t>(bb_file_party_number(party.get()).number);
     const bb_number life = file.life(number);
     EXPECT(life.code == BB_OK && file.is_alive(number, life.number).number == 1);
     EXPECT(file.is_alive(number, life.number + 2).number == 0);
@@ -75,7 +75,7 @@ void run_waits(const char *path) {
     EXPECT(file.wait_empty(0, 1) == BB_FILE_TIMED_OUT && file.wait_bucket(1) == BB_OK);
     EXPECT(party.take(0).done() == BB_OK && file.wait_empty(0, 1) == BB_OK);
     void *places[20];
-    EXPECT(bb_pool_party_take_many(party.get(), places, 20).number == 20);
+    EXPECT(bb_file_party_take_many(party.get(), places, 20).number == 20);
     EXPECT(file.wait_bucket(1) == BB_FILE_TIMED_OUT);
     EXPECT(party.give_all_back() == BB_OK && file.is_alive(number, life.number).number == 1);
     die(path);
@@ -213,7 +213,7 @@ void run(const char *path) {
         EXPECT(file.info()->held == 0 && file.info()->detached == 0);
         run_buckets(file, sender, receiver);
         run_user(file, path);
-        EXPECT(bb_pool_party_take(sender.get()).code == BB_OK);
+        EXPECT(bb_file_party_take(sender.get()).code == BB_OK);
         bb::pool_file_party moved = std::move(sender);
         EXPECT(sender.get() == nullptr && moved.get() != nullptr && file.info()->held == 1);
         moved.leave();
