@@ -185,6 +185,9 @@ pub enum PoolFileError {
     SlotFull,
     /// The slot names no bucket: somebody wrote wrong values into the file.
     WrongSlot,
+    /// The bucket is still in a slot. Safe code never gets this error: the bucket of a [`Message`]
+    /// is freed only after [`done`](Message::done), and isn't posted.
+    NotDone,
 }
 
 impl PoolFileError {
@@ -204,6 +207,7 @@ impl PoolFileError {
             FILE_DAMAGED => PoolFileError::Damaged,
             FILE_UNSAFE => PoolFileError::Unsafe,
             FILE_STALE => PoolFileError::Stale,
+            FILE_NOT_DONE => PoolFileError::NotDone,
             _ => crate::error::no_such_answer(code),
         }
     }
@@ -230,6 +234,7 @@ impl fmt::Display for PoolFileError {
             PoolFileError::NoBucket => "no bucket is free",
             PoolFileError::SlotFull => "the slot is full",
             PoolFileError::WrongSlot => "the slot names no bucket",
+            PoolFileError::NotDone => "the bucket is still in a slot",
         })
     }
 }

@@ -171,6 +171,17 @@ void run_buckets(const bb::pool_file &file, bb::pool_file_party &sender,
         EXPECT(sender.attach(20).code() == BB_NOT_A_BUCKET && file.info()->held == 1);
     }
     EXPECT(file.info()->held == 0 && file.info()->detached == 0);
+    EXPECT(sender.post(0, 5) == BB_OK);
+    {
+        // The bucket of a message that the party isn't done with.
+        const bb_message taken = bb_pool_file_take(file.get(), receiver.get(), 0);
+        bb::pool_file_bucket undone(file.get(), receiver.get(), {taken.code, taken.place});
+        EXPECT(undone && undone.post(1, taken.len) == BB_FILE_NOT_DONE && undone);
+        EXPECT(undone.detach() == taken.number && !undone);
+        EXPECT(sender.attach(taken.number).code() == BB_NOT_HELD);
+    }
+    EXPECT(file.info()->held == 0 && file.info()->full_slots == 1);
+    EXPECT(receiver.take(0).done() == BB_OK && file.info()->full_slots == 0);
 }
 
 void run(const char *path) {
