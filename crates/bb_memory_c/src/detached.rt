@@ -6,7 +6,7 @@ ghost use Rattle.bb_memory_c_calls.specs.declared.code.TheConstants.{UNINITIALIZ
 ghost use Rattle.std.specs.Prelude.{IfOk, IfSome, None, Some, ◌≡◌};
 
 use crate::handle::{DetachedHandle, Handle, PoolPartyHandle};
-use crate::shared_pool::{JoinedPool, note};
+use crate::shared_pool::{JoinedPool, entry, note};
 use bb_memory_c_calls::answer::{Answer, Figure};
 use bb_memory_c_calls::{call, code};
 use bb_memory_shared_pools::shared_pool::{DetachedBucket, by_number};
@@ -105,6 +105,21 @@ impl JoinedPool {
         let size = self.pool.bucket_size();
         let bucket = by_number::bucket(&*self.pool, self.party.party(), number, size);
         Answer::of(Ok(bucket.chunk()))
+    }
+
+    /// Has the party no longer count the bucket of this number as in use, unless the bucket's flag says that the party holds it. If
+    /// only parties write the flags, it says so, and nothing changes.
+    #[tactic(auto, unfolding(bb_memory_shared_pools::specs::SharedPoolCaching::IsOut))]
+    fn forget_sent(&mut self, number: u32)
+        ensures { self.new ≡ self.old }
+    {
+        let is_in_use = entry(&self.in_use, number) == Some(true);
+        if number >= self.pool.number_of_buckets() || !is_in_use {
+            return;
+        }
+        if !self.party.is_held(&*self.pool, number) {
+            note(&mut self.in_use, number, false);
+        }
     }
 
     /// Attaches the bucket that is in `detached`, which has none then.
@@ -227,6 +242,18 @@ pub extern "C" fn bb_pool_party_attach_number(
     match handle.made_mut() {
         Some(joined) => joined.attach_number(number, from),
         None => Answer::refusal(code::UNINITIALIZED),
+    }
+}
+
+/// Has a party that caches no longer count the bucket of this number as in use, unless the bucket's flag says that the party holds
+/// it. `bb_pool_file.c` writes flags by itself, and calls this after that. If only parties write the flags, nothing changes. The call
+/// takes no memory, and waits for nothing.
+#[unsafe(no_mangle)]
+pub extern "C" fn party_forget_sent(handle: &mut PoolPartyHandle, number: u32)
+    ensures { handle.new.value ≡ handle.old.value }
+{
+    if let Some(joined) = handle.made_mut() {
+        joined.forget_sent(number);
     }
 }
 

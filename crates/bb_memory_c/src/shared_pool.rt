@@ -69,7 +69,7 @@ fn room_for(most: u32, buckets: u32) -> usize
 }
 
 /// Returns the entry of the bucket of this number, if there is one.
-fn entry(in_use: &[bool], number: u32) -> Option<bool>
+pub(crate) fn entry(in_use: &[bool], number: u32) -> Option<bool>
     ensures { result ≡ slice_get in_use.now number }
 {
     in_use.get(number as usize).copied()

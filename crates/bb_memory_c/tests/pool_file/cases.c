@@ -122,7 +122,7 @@ int fdatasync(int fd) {
     char header[PAGE] = "";
     const ssize_t length = pread(fd, header, sizeof header, 0);
     EXPECT(length > 16 && length < PAGE && memcmp(header, "bbpool\r\n", 8) == 0);
-    EXPECT(header[8] == 4 && memcmp(header + 9, "\0\0\0\1", 4) == 0);
+    EXPECT(header[8] == 5 && memcmp(header + 9, "\0\0\0\1", 4) == 0);
     synced++;
     errno = syncing_error;
     return syncing_error == 0 ? 0 : -1;
@@ -266,20 +266,20 @@ static void remove_it(void) {
     EXPECT(unlink(path) == 0);
 }
 
-static bb_pool_party *join_it(bb_pool_file *file) {
-    bb_pool_party *party = NULL;
+static bb_file_party *join_it(bb_pool_file *file) {
+    bb_file_party *party = NULL;
     EXPECT(bb_pool_file_join(file, &party) == BB_OK);
     return party;
 }
 
-static bb_place take_one(bb_pool_party *party) {
-    const bb_chunk chunk = bb_pool_party_take(party);
+static bb_place take_one(bb_file_party *party) {
+    const bb_chunk chunk = bb_file_party_take(party);
     EXPECT(chunk.code == BB_OK);
     return chunk.place;
 }
 
-static size_t number_of(bb_pool_party *party) {
-    return bb_pool_party_number(party).number;
+static size_t number_of(bb_file_party *party) {
+    return bb_file_party_number(party).number;
 }
 
 static bb_pool_file_figures info_of(bb_pool_file *file) {
@@ -367,7 +367,7 @@ static pid_t holder(uint32_t buckets) {
     EXPECT(pipe(ready) == 0);
     const pid_t child = child_of();
     if (child == 0) {
-        bb_pool_party *party = join_it(open_it());
+        bb_file_party *party = join_it(open_it());
         for (uint32_t at = 0; at < buckets; at++)
             take_one(party);
         tell(ready[1]);
@@ -460,7 +460,7 @@ static void wrong_files(void) {
     foreign_file(bytes, sizeof bytes, BB_FILE_FOREIGN);
     memcpy(bytes, "bbpool\n\n", 8);
     foreign_file(bytes, sizeof bytes, BB_FILE_FOREIGN);
-    for (char older = 1; older < 4; older++) {  // the formats of 3.0.0, and of 3.1.0 and 3.2.0
+    for (char older = 1; older < 5; older++) {  // the formats of 3.0.0 to 4.0.0
         memcpy(bytes, "bbpool\r\n", 8);
         bytes[8] = older;
         foreign_file(bytes, sizeof bytes, BB_FILE_VERSION);
@@ -471,9 +471,9 @@ static void wrong_files(void) {
         foreign_file(bytes, 15, BB_FILE_FOREIGN);
         bytes[STATE] = 0;
     }
-    memcpy(bytes, "bbpool\r\n\4\0\0\0\3", 13);  // state 3
+    memcpy(bytes, "bbpool\r\n\5\0\0\0\3", 13);  // state 3
     foreign_file(bytes, sizeof bytes, BB_FILE_FOREIGN);
-    memcpy(bytes, "bbpool\r\n\4\0\0\0\2", 13);  // ready, with no buckets
+    memcpy(bytes, "bbpool\r\n\5\0\0\0\2", 13);  // ready, with no buckets
     write_file(path, bytes, sizeof bytes, 0);
     EXPECT(code_of(path, NULL) == BB_FILE_DAMAGED && code_of(path, &OPTIONS) == BB_FILE_MISMATCH);
     remove_it();
@@ -486,7 +486,7 @@ static void wrong_files(void) {
     write_file(path, "\1", 1, STATE);
     EXPECT(truncate(path, 16) == 0 && code_of(path, NULL) == BB_FILE_STALE);
     EXPECT(code_of(path, &OPTIONS) == BB_OK && code_of(path, NULL) == BB_OK);
-    write_file(path, "\5", 1, 8);  // a later format
+    write_file(path, "\6", 1, 8);  // a later format
     EXPECT(code_of(path, NULL) == BB_FILE_VERSION && code_of(path, &OPTIONS) == BB_FILE_VERSION);
     remove_it();
     impossible_options();
@@ -873,7 +873,7 @@ static void aligned(size_t align, uint32_t slots) {
     requested = 0;
     EXPECT(bb_pool_file_open(&one, path, &options) == BB_OK);
     EXPECT(bb_pool_file_open(&two, path, NULL) == BB_OK);
-    bb_pool_party *party = join_it(one);
+    bb_file_party *party = join_it(one);
     EXPECT(info_of(one).start != info_of(two).start);
     EXPECT((uintptr_t)info_of(two).start % align == 0);
     for (int at = 0; at < 3; at++) {
@@ -887,7 +887,7 @@ static void aligned(size_t align, uint32_t slots) {
         const char *bucket = start + at * BB_STRIDE(3 * align - 1, align);
         EXPECT(bucket[0] == (char)at + 1 && bucket[options.bucket_size - 1] == (char)at + 1);
     }
-    EXPECT(bb_pool_party_take(party).code == BB_OUT_OF_MEMORY);
+    EXPECT(bb_file_party_take(party).code == BB_OUT_OF_MEMORY);
     EXPECT(info_of(two).held == 3 && info_of(two).alive == 1);
     close_it(one);
     EXPECT(info_of(two).held == 0);
@@ -952,7 +952,7 @@ static void release_plainly(void *context, void *block) {
 // the next one succeeds.
 static void refused_memory(void) {
     bb_pool_file *file = NULL;
-    bb_pool_party *party = NULL;
+    bb_file_party *party = NULL;
     uint32_t code = BB_MALLOC_REFUSED;
     bb_use_memory(allocate, release, &blocks);
     for (to_refuse = 1; code != BB_OK; to_refuse++) {
@@ -970,13 +970,18 @@ static void refused_memory(void) {
     }
     EXPECT(to_refuse > 2 && number_of(party) == 0);
     to_refuse = 0;
+    // A reap requests none.
     const pid_t dying = holder(2);
     end_killed(dying);
-    to_refuse = 1;
     memory_requests = 0;
-    EXPECT(bb_pool_file_reap(file, BB_REAP_HELD, NULL) == BB_MALLOC_REFUSED);
+    EXPECT(reap(file, BB_REAP_HELD) == 2 && memory_requests == 0);
+    // A join that fails has freed what the dead party held.
+    const pid_t second = holder(2);
+    end_killed(second);
+    to_refuse = 1;
+    EXPECT(bb_pool_file_join(file, &party) == BB_MALLOC_REFUSED);
     to_refuse = 0;
-    EXPECT(reap(file, BB_REAP_HELD) == 2);
+    EXPECT(info_of(file).held == 0 && info_of(file).alive == 1);
     close_it(file);
     EXPECT(blocks == 0);
     bb_use_memory(allocate_plainly, release_plainly, NULL);
@@ -1096,7 +1101,7 @@ static void many(bool again) {
         bb_pool_file *two;
         requested = 0;
         EXPECT(bb_pool_file_open(&one, path, &options) == BB_OK);
-        bb_pool_party *party = join_it(one);
+        bb_file_party *party = join_it(one);
         bb_place first = take_one(party);
         take_one(party);
         memory_size = 0;
@@ -1110,7 +1115,7 @@ static void many(bool again) {
         bb_holder last;
         EXPECT(info_of(two).held == 2 && info_of(two).wrong == 0);
         EXPECT(bb_pool_file_holder(two, numbers[at] - 1, &last) == BB_OK && last.state == BB_FREE);
-        EXPECT(bb_pool_party_deallocate(party, first) == BB_OK && info_of(two).held == 1);
+        EXPECT(bb_file_party_deallocate(party, first) == BB_OK && info_of(two).held == 1);
         take_one(join_it(two));
         EXPECT(info_of(one).held == 2 && info_of(one).wrong == 0);
         close_it(one);
@@ -1127,8 +1132,8 @@ static void many(bool again) {
 static void parties(void) {
     bb_pool_file *one = open_it();
     bb_pool_file *two = open_it();
-    bb_pool_party *joined[6];
-    bb_pool_party *more;
+    bb_file_party *joined[6];
+    bb_file_party *more;
     for (int at = 0; at < 6; at++)
         joined[at] = join_it(at % 2 == 1 ? one : two);
     for (int at = 0; at < 6; at++)
@@ -1137,8 +1142,8 @@ static void parties(void) {
     EXPECT(bb_pool_file_join(one, &more) == BB_NO_PARTY);
     EXPECT(info_of(one).alive == 6 && info_of(two).alive == 6);
     const bb_place place = take_one(joined[1]);
-    EXPECT(bb_pool_party_deallocate(joined[3], place) == BB_NOT_HELD);
-    EXPECT(bb_pool_file_deallocate(one, joined[3], place) == BB_NOT_HELD);
+    EXPECT(bb_file_party_deallocate(joined[3], place) == BB_NOT_HELD);
+    EXPECT(bb_file_party_deallocate(joined[3], place) == BB_NOT_HELD);
     EXPECT(bb_pool_file_leave(two, joined[1]) == BB_UNINITIALIZED);
     const uint64_t life = life_of(two, 1);
     EXPECT(is_alive(two, 1, life) && is_alive(one, 1, life));
@@ -1179,7 +1184,7 @@ static void many_parties(void) {
     const bb_pool_file_options options = {
         .bucket_size = 8, .bucket_align = 8, .buckets = 4, .parties = PARTIES};
     bb_pool_file *files[OPENED];
-    bb_pool_party *joined[PARTIES];
+    bb_file_party *joined[PARTIES];
     for (int at = 0; at < OPENED; at++)
         EXPECT(bb_pool_file_open(&files[at], path, &options) == BB_OK);
     looks_at_locks = 0;
@@ -1195,7 +1200,7 @@ static void many_parties(void) {
     for (int at = 0; at < OPENED; at++)
         EXPECT(info_of(files[at]).alive == 120);
     // Party 0 joins again, elsewhere: the system reports its lock in another order.
-    bb_pool_party *const again = join_it(files[1]);
+    bb_file_party *const again = join_it(files[1]);
     EXPECT(number_of(again) == 0);
     for (int at = 0; at < OPENED; at++)
         EXPECT(info_of(files[at]).alive == 121);
@@ -1205,7 +1210,7 @@ static void many_parties(void) {
 }
 
 static bb_pool_file *others_file;
-static bb_pool_party *others_party;
+static bb_file_party *others_party;
 
 static void join_and_take(void) {
     others_party = join_it(others_file);
@@ -1234,10 +1239,10 @@ static void moving_parties(void) {
 // A party gives back what it caches when it leaves, and when its process has died.
 static void cached(void) {
     bb_pool_file *file = open_it();
-    bb_pool_party *party = join_it(file);
-    EXPECT(bb_pool_party_cache(party, 8) == BB_OK);
+    bb_file_party *party = join_it(file);
+    EXPECT(bb_file_party_cache(party, 8) == BB_OK);
     const bb_place place = take_one(party);
-    EXPECT(bb_pool_file_deallocate(file, party, place) == BB_OK);
+    EXPECT(bb_file_party_deallocate(party, place) == BB_OK);
     EXPECT(info_of(file).held == 1);
     EXPECT(bb_pool_file_detach(file, party, place).code == BB_NOT_HELD);
     EXPECT(bb_pool_file_post(file, party, 0, place, 1) == BB_NOT_HELD);
@@ -1252,7 +1257,7 @@ static void detach_in_child(bool leaves) {
     const pid_t child = child_of();
     if (child == 0) {
         bb_pool_file *own = open_it();
-        bb_pool_party *party = join_it(own);
+        bb_file_party *party = join_it(own);
         EXPECT(bb_pool_file_detach(own, party, take_one(party)).code == BB_OK);
         if (leaves)
             EXPECT(bb_pool_file_leave(own, party) == BB_OK);
@@ -1274,7 +1279,7 @@ static void reaps_detached(void) {
     EXPECT(reap(file, BB_REAP_LEFT) == 1 && info_of(file).detached == 0);
     // Number 0 is used by a living party, with a bucket that an earlier one had detached.
     detach_in_child(true);
-    bb_pool_party *party = join_it(file);
+    bb_file_party *party = join_it(file);
     EXPECT(number_of(party) == 0 && reap(file, BB_REAP_DEAD | BB_REAP_LEFT) == 0);
     detach_in_child(false);  // with number 1
     EXPECT(info_of(file).detached == 2 && reap(file, BB_REAP_DEAD) == 1);
@@ -1318,7 +1323,7 @@ static void lives(void) {
         close(ready[0]);
         close(ready[1]);
     }
-    bb_pool_party *party = join_it(file);
+    bb_file_party *party = join_it(file);
     const uint64_t life = life_of(file, 0);
     EXPECT(number_of(party) == 0 && life > last && !is_alive(file, 0, last));
     EXPECT(reap(file, BB_REAP_DEAD | BB_REAP_LEFT) == 0 && life_of(file, 0) == life);
@@ -1337,14 +1342,14 @@ static void lives(void) {
 static void gives_all_back(void) {
     bb_pool_file *file = open_it();
     bb_pool_file *other = open_it();
-    bb_pool_party *sender = join_it(file);
-    bb_pool_party *party = join_it(file);
+    bb_file_party *sender = join_it(file);
+    bb_file_party *party = join_it(file);
     const bb_place hello = take_one(sender);
     memcpy(hello, "hello", 6);
     EXPECT(bb_pool_file_post(file, sender, 0, hello, 6) == BB_OK);
-    EXPECT(bb_pool_party_cache(party, 4) == BB_OK);
+    EXPECT(bb_file_party_cache(party, 4) == BB_OK);
     take_one(party);
-    EXPECT(bb_pool_file_deallocate(file, party, take_one(party)) == BB_OK);
+    EXPECT(bb_file_party_deallocate(party, take_one(party)) == BB_OK);
     EXPECT(bb_pool_file_take(file, party, 0).code == BB_OK);
     const bb_number sent = bb_pool_file_detach(file, party, take_one(party));
     EXPECT(bb_pool_file_give_all_back(other, party) == BB_UNINITIALIZED);
@@ -1354,7 +1359,7 @@ static void gives_all_back(void) {
     // Whoever takes all other buckets doesn't get the message's.
     for (int at = 0; at < 18; at++)
         memcpy(take_one(sender), "private", 8);
-    EXPECT(bb_pool_party_take(sender).code == BB_OUT_OF_MEMORY);
+    EXPECT(bb_file_party_take(sender).code == BB_OUT_OF_MEMORY);
     const bb_message again = bb_pool_file_take(file, party, 0);
     EXPECT(again.code == BB_OK && again.len == 6 && strcmp(again.place, "hello") == 0);
     EXPECT(bb_pool_file_give_all_back(file, sender) == BB_OK && info_of(file).held == 1);
@@ -1371,9 +1376,9 @@ static void gives_all_back(void) {
 static void slots(void) {
     bb_pool_file *one = open_it();
     bb_pool_file *two = open_it();
-    bb_pool_party *sender = join_it(one);
-    bb_pool_party *a = join_it(two);
-    bb_pool_party *b = join_it(two);
+    bb_file_party *sender = join_it(one);
+    bb_file_party *a = join_it(two);
+    bb_file_party *b = join_it(two);
     const bb_place bucket = take_one(sender);
     bb_holder flag;
     memcpy(bucket, "hello", 6);
@@ -1386,10 +1391,10 @@ static void slots(void) {
     EXPECT(bb_pool_file_post(one, sender, 0, (char *)bucket + 1, 6) == BB_NOT_HELD);
     EXPECT(bb_pool_file_post(one, sender, 0, bucket, 6) == BB_OK);
     EXPECT(bb_pool_file_post(one, sender, 1, bucket, 6) == BB_NOT_HELD);
-    EXPECT(bb_pool_party_deallocate(sender, bucket) == BB_NOT_HELD);
+    EXPECT(bb_file_party_deallocate(sender, bucket) == BB_NOT_HELD);
     const bb_place second = take_one(sender);
     EXPECT(bb_pool_file_post(one, sender, 0, second, 6) == BB_DETACHED_FULL);
-    EXPECT(bb_pool_party_deallocate(sender, second) == BB_OK);
+    EXPECT(bb_file_party_deallocate(sender, second) == BB_OK);
     EXPECT(bb_pool_file_done(two, a, 0) == BB_NOT_HELD);
     EXPECT(bb_pool_file_done(two, a, 4) == BB_INVALID_ARGUMENT);
     const bb_message seen = bb_pool_file_look(two, 0);
@@ -1411,7 +1416,7 @@ static void slots(void) {
     EXPECT(info_of(one).detached == 1 && info_of(one).full_slots == 1);
     EXPECT(bb_pool_file_take(one, sender, 0).code == BB_OK);
     EXPECT(bb_pool_file_done(one, sender, 0) == BB_OK);
-    EXPECT(bb_pool_party_deallocate(sender, bucket) == BB_OK);
+    EXPECT(bb_file_party_deallocate(sender, bucket) == BB_OK);
     const bb_pool_file_figures figures = info_of(two);
     EXPECT(figures.held == 0 && figures.detached == 0 && figures.full_slots == 0);
     close_it(one);
@@ -1422,8 +1427,8 @@ static void slots(void) {
 static void by_number(void) {
     bb_pool_file *one = open_it();
     bb_pool_file *two = open_it();
-    bb_pool_party *sender = join_it(one);
-    bb_pool_party *a = join_it(two);
+    bb_file_party *sender = join_it(one);
+    bb_file_party *a = join_it(two);
     bb_place bucket = take_one(sender);
     bb_number detached = bb_pool_file_detach(one, sender, bucket);
     uint32_t number = (uint32_t)detached.number;
@@ -1450,7 +1455,7 @@ static void by_number(void) {
     const pid_t child = child_of();
     if (child == 0) {
         bb_pool_file *own = open_it();
-        bb_pool_party *party = join_it(own);
+        bb_file_party *party = join_it(own);
         EXPECT(bb_pool_file_post(own, party, 2, take_one(party), 7) == BB_OK);
         const bb_message got = bb_pool_file_take(own, party, 2);
         EXPECT(bb_pool_file_detach(own, party, got.place).code == BB_OK);
@@ -1476,14 +1481,14 @@ static void one_wins(void) {
     uint32_t *wins = &shared[32];
     uint32_t *tried = &shared[48];
     bb_pool_file *file = open_it();
-    bb_pool_party *party = join_it(file);
+    bb_file_party *party = join_it(file);
     pid_t children[CHILDREN];
     for (int at = 0; at < CHILDREN; at++) {
         children[at] = child_of();
         if (children[at] != 0)
             continue;
         bb_pool_file *own = open_it();
-        bb_pool_party *mine = join_it(own);
+        bb_file_party *mine = join_it(own);
         for (uint32_t now = 1; now <= ROUNDS; now++) {
             while (__atomic_load_n(round, __ATOMIC_SEQ_CST) < now)
                 sched_yield();
@@ -1493,7 +1498,7 @@ static void one_wins(void) {
             __atomic_fetch_add(tried, 1, __ATOMIC_SEQ_CST);
             while (__atomic_load_n(tried, __ATOMIC_SEQ_CST) < CHILDREN * now)
                 sched_yield();
-            if (got.code == BB_OK && bb_pool_party_deallocate(mine, got.place) != BB_OK)
+            if (got.code == BB_OK && bb_file_party_deallocate(mine, got.place) != BB_OK)
                 _exit(1);
         }
         _exit(0);
@@ -1545,7 +1550,7 @@ static uint32_t wait_bucket(bb_pool_file *file, uint32_t unused, uint32_t timeou
 
 static void waits(void) {
     bb_pool_file *file = open_it();
-    bb_pool_party *party = join_it(file);
+    bb_file_party *party = join_it(file);
     uint64_t begun = milliseconds();
     EXPECT(bb_pool_file_wait_full(file, 1, 150) == BB_FILE_TIMED_OUT);
     EXPECT(milliseconds() - begun >= 150);
@@ -1576,13 +1581,13 @@ static void waits(void) {
     EXPECT(bb_pool_file_wait_bucket(file, 10) == BB_FILE_TIMED_OUT);
     child = sleeper(wait_bucket, 0);
     second = sleeper(wait_bucket, 0);
-    EXPECT(bb_pool_file_deallocate(file, party, message.place) == BB_OK);
+    EXPECT(bb_file_party_deallocate(party, message.place) == BB_OK);
     end(child);
     end(second);
     // A return that wakes nobody is noticed, and so is a reap.
     const bb_place last = take_one(party);
     child = sleeper(wait_bucket, 0);
-    EXPECT(bb_pool_party_deallocate(party, last) == BB_OK);
+    EXPECT(bb_file_party_deallocate(party, last) == BB_OK);
     end(child);
     const pid_t dying = holder(1);
     child = sleeper(wait_bucket, 0);
@@ -1613,13 +1618,13 @@ static void ping(void) {
     };
 
     bb_pool_file *file = open_it();
-    bb_pool_party *party = join_it(file);
+    bb_file_party *party = join_it(file);
     for (int at = 0; at < 19; at++)
         take_one(party);
     const pid_t child = child_of();
     if (child == 0) {
         bb_pool_file *own = open_it();
-        bb_pool_party *mine = join_it(own);
+        bb_file_party *mine = join_it(own);
         uint32_t late = 0;
         for (int round = 0; round < ROUNDS; round++) {
             late += is_late(bb_pool_file_wait_full, own);
@@ -1627,7 +1632,7 @@ static void ping(void) {
             usleep(1000);  // so long that the sender sleeps
             EXPECT(message.code == BB_OK && bb_pool_file_done(own, mine, 0) == BB_OK);
             usleep(1000);
-            EXPECT(bb_pool_file_deallocate(own, mine, message.place) == BB_OK);
+            EXPECT(bb_file_party_deallocate(mine, message.place) == BB_OK);
         }
         EXPECT(late <= MOST_LATE);
         _exit(0);
@@ -1650,28 +1655,28 @@ static void ping(void) {
 struct waking {
     uint32_t (*wait)(bb_pool_file *, uint32_t, uint32_t);
     uint32_t slot;
-    void (*prepare)(bb_pool_file *, bb_pool_party *);
-    void (*act)(bb_pool_file *, bb_pool_party *);
+    void (*prepare)(bb_pool_file *, bb_file_party *);
+    void (*act)(bb_pool_file *, bb_file_party *);
 };
 
 // The messages and parties of a `prepare`, for the `act` after it.
 static bb_message prepared;
-static bb_pool_party *leaving;
+static bb_file_party *leaving;
 
-static void free_message(bb_pool_file *file, bb_pool_party *party, uint32_t slot) {
+static void free_message(bb_pool_file *file, bb_file_party *party, uint32_t slot) {
     const bb_message message = bb_pool_file_take(file, party, slot);
     if (message.code != BB_OK)
         return;
     EXPECT(bb_pool_file_done(file, party, slot) == BB_OK);
-    EXPECT(bb_pool_file_deallocate(file, party, message.place) == BB_OK);
+    EXPECT(bb_file_party_deallocate(party, message.place) == BB_OK);
 }
 
-static void post_into(bb_pool_file *file, bb_pool_party *party, uint32_t slot) {
+static void post_into(bb_pool_file *file, bb_file_party *party, uint32_t slot) {
     EXPECT(bb_pool_file_post(file, party, slot, take_one(party), 8) == BB_OK);
 }
 
 // The slots are empty but for slot 1, whose message is taken.
-static void take_again(bb_pool_file *file, bb_pool_party *party) {
+static void take_again(bb_pool_file *file, bb_file_party *party) {
     for (uint32_t slot = 0; slot < 4; slot++)
         free_message(file, party, slot);
     post_into(file, party, 1);
@@ -1679,25 +1684,25 @@ static void take_again(bb_pool_file *file, bb_pool_party *party) {
     EXPECT(prepared.code == BB_OK);
 }
 
-static void put_back(bb_pool_file *file, bb_pool_party *party) {
+static void put_back(bb_pool_file *file, bb_file_party *party) {
     EXPECT(bb_pool_file_detach(file, party, prepared.place).code == BB_OK);
 }
 
 // All slots are full, and slot 1's message is taken.
-static void fill_all(bb_pool_file *file, bb_pool_party *party) {
+static void fill_all(bb_pool_file *file, bb_file_party *party) {
     take_again(file, party);
     for (uint32_t slot = 0; slot < 4; slot++)
         if (slot != 1)
             post_into(file, party, slot);
 }
 
-static void be_done(bb_pool_file *file, bb_pool_party *party) {
+static void be_done(bb_pool_file *file, bb_file_party *party) {
     EXPECT(bb_pool_file_done(file, party, 1) == BB_OK);
-    EXPECT(bb_pool_file_deallocate(file, party, prepared.place) == BB_OK);
+    EXPECT(bb_file_party_deallocate(party, prepared.place) == BB_OK);
 }
 
 // Another party has taken slot 1's message, and holds all other buckets.
-static void take_by_another(bb_pool_file *file, bb_pool_party *party) {
+static void take_by_another(bb_pool_file *file, bb_file_party *party) {
     leaving = join_it(file);
     free_message(file, party, 1);
     post_into(file, party, 1);
@@ -1706,19 +1711,19 @@ static void take_by_another(bb_pool_file *file, bb_pool_party *party) {
         take_one(leaving);
 }
 
-static void leave_both(bb_pool_file *file, bb_pool_party *party) {
+static void leave_both(bb_pool_file *file, bb_file_party *party) {
     (void)party;
     EXPECT(bb_pool_file_leave(file, leaving) == BB_OK);
 }
 
 // The same by a process that is dead by now.
-static void take_by_the_dead(bb_pool_file *file, bb_pool_party *party) {
+static void take_by_the_dead(bb_pool_file *file, bb_file_party *party) {
     free_message(file, party, 1);
     post_into(file, party, 1);
     const pid_t child = child_of();
     if (child == 0) {
         bb_pool_file *own = open_it();
-        bb_pool_party *mine = join_it(own);
+        bb_file_party *mine = join_it(own);
         EXPECT(bb_pool_file_take(own, mine, 1).code == BB_OK);
         for (int at = 0; at < 19; at++)
             take_one(mine);
@@ -1727,7 +1732,7 @@ static void take_by_the_dead(bb_pool_file *file, bb_pool_party *party) {
     end(child);
 }
 
-static void reap_all(bb_pool_file *file, bb_pool_party *party) {
+static void reap_all(bb_pool_file *file, bb_file_party *party) {
     (void)party;
     EXPECT(reap(file, BB_REAP_HELD) == 19);
 }
@@ -1744,7 +1749,7 @@ static void wakes(const struct waking *waking) {
     int replies[2];
     EXPECT(pipe(asks) == 0 && pipe(replies) == 0);
     bb_pool_file *file = open_it();
-    bb_pool_party *party = join_it(file);
+    bb_file_party *party = join_it(file);
     const pid_t child = child_of();
     if (child == 0) {
         bb_pool_file *own = open_it();
@@ -1807,13 +1812,13 @@ static void two_woken(void) {
     pid_t children[2];
     EXPECT(pipe(asks) == 0 && pipe(replies) == 0);
     bb_pool_file *file = open_it();
-    bb_pool_party *party = join_it(file);
+    bb_file_party *party = join_it(file);
     for (int at = 0; at < 2; at++) {
         children[at] = child_of();
         if (children[at] != 0)
             continue;
         bb_pool_file *own = open_it();
-        bb_pool_party *mine = join_it(own);
+        bb_file_party *mine = join_it(own);
         for (int round = 0; round < ROUNDS; round++) {
             bb_message message = {BB_DETACHED_EMPTY, 0, NULL, 0};
             hear(asks[0]);
@@ -1828,7 +1833,7 @@ static void two_woken(void) {
                 }
             }
             const char late = milliseconds() - begun >= 100;
-            EXPECT(bb_pool_file_deallocate(own, mine, message.place) == BB_OK);
+            EXPECT(bb_file_party_deallocate(mine, message.place) == BB_OK);
             EXPECT(write(replies[1], &late, 1) == 1);
             hear(asks[0]);
         }
@@ -1865,7 +1870,7 @@ static void killed_when_woken(void) {
     uint64_t least = UINT64_MAX;
     for (int tries = 0; tries < 3; tries++) {
         bb_pool_file *file = open_it();
-        bb_pool_party *party = join_it(file);
+        bb_file_party *party = join_it(file);
         const pid_t first = sleeper(bb_pool_file_wait_full, 1);
         const pid_t second = sleeper(bb_pool_file_wait_full, 1);
         const uint64_t begun = milliseconds();
@@ -1900,7 +1905,7 @@ static void unconcerned(void) {
     };
 
     bb_pool_file *file = open_it();
-    bb_pool_party *party = join_it(file);
+    bb_file_party *party = join_it(file);
     post_into(file, party, 2);
     const pid_t for_message = sleeper(bb_pool_file_wait_full, 1);
     const pid_t for_room = sleeper(bb_pool_file_wait_empty, 2);
@@ -1923,13 +1928,13 @@ static void unconcerned(void) {
 }
 
 // Work of a process until it is killed, which waits for this slot or for any.
-static void receive_each(bb_pool_file *file, bb_pool_party *party, uint32_t slot) {
+static void receive_each(bb_pool_file *file, bb_file_party *party, uint32_t slot) {
     EXPECT(bb_pool_file_wait_full(file, slot, BB_NO_TIMEOUT) == BB_OK);
     for (uint32_t at = 0; at < 4; at++)
         free_message(file, party, at);
 }
 
-static void send_each(bb_pool_file *file, bb_pool_party *party, uint32_t slot) {
+static void send_each(bb_pool_file *file, bb_file_party *party, uint32_t slot) {
     EXPECT(bb_pool_file_wait_empty(file, slot, BB_NO_TIMEOUT) == BB_OK);
     const bb_place place = take_one(party);
     uint32_t code = BB_DETACHED_FULL;
@@ -1937,12 +1942,12 @@ static void send_each(bb_pool_file *file, bb_pool_party *party, uint32_t slot) {
         if (slot == BB_ANY_SLOT || slot == at)
             code = bb_pool_file_post(file, party, at, place, 8);
     if (code == BB_DETACHED_FULL)
-        EXPECT(bb_pool_party_deallocate(party, place) == BB_OK);
+        EXPECT(bb_file_party_deallocate(party, place) == BB_OK);
 }
 
-static void allocate_each(bb_pool_file *file, bb_pool_party *party, uint32_t slot) {
+static void allocate_each(bb_pool_file *file, bb_file_party *party, uint32_t slot) {
     EXPECT(bb_pool_file_wait_bucket(file, BB_NO_TIMEOUT) == BB_OK);
-    const bb_chunk chunk = bb_pool_party_take(party);
+    const bb_chunk chunk = bb_file_party_take(party);
     if (chunk.code == BB_OK)
         EXPECT(bb_pool_file_post(file, party, slot, chunk.place, 8) == BB_OK);
 }
@@ -1954,40 +1959,40 @@ static void see_slot(bb_pool_file *file, uint32_t slot, uint32_t code) {
 }
 
 // What wakes one of them, in the round with this number.
-static void post_in_round(bb_pool_file *file, bb_pool_party *party, uint32_t round) {
+static void post_in_round(bb_pool_file *file, bb_file_party *party, uint32_t round) {
     see_slot(file, round % 4, BB_DETACHED_EMPTY);
     post_into(file, party, round % 4);
 }
 
-static void post_into_first(bb_pool_file *file, bb_pool_party *party, uint32_t round) {
+static void post_into_first(bb_pool_file *file, bb_file_party *party, uint32_t round) {
     post_in_round(file, party, 4 * round);
 }
 
-static void free_in_round(bb_pool_file *file, bb_pool_party *party, uint32_t round) {
+static void free_in_round(bb_pool_file *file, bb_file_party *party, uint32_t round) {
     if (round > 0)
         see_slot(file, round % 4, BB_OK);
     free_message(file, party, round % 4);
 }
 
-static void free_first(bb_pool_file *file, bb_pool_party *party, uint32_t round) {
+static void free_first(bb_pool_file *file, bb_file_party *party, uint32_t round) {
     if (round > 0)
         see_slot(file, 0, BB_OK);
     free_message(file, party, 0);
 }
 
 // Before the first round, the party takes all buckets. Then one of them goes to and fro.
-static void free_bucket(bb_pool_file *file, bb_pool_party *party, uint32_t round) {
+static void free_bucket(bb_pool_file *file, bb_file_party *party, uint32_t round) {
     if (round == 0) {
         for (int at = 0; at < 19; at++)
             take_one(party);
-        EXPECT(bb_pool_file_deallocate(file, party, take_one(party)) == BB_OK);
+        EXPECT(bb_file_party_deallocate(party, take_one(party)) == BB_OK);
     }
     free_first(file, party, round);
 }
 
 // Of four processes that wait for the same, each message, empty slot or bucket wakes one.
-static void one_of_four(void (*work)(bb_pool_file *, bb_pool_party *, uint32_t), uint32_t slot,
-                        void (*act)(bb_pool_file *, bb_pool_party *, uint32_t)) {
+static void one_of_four(void (*work)(bb_pool_file *, bb_file_party *, uint32_t), uint32_t slot,
+                        void (*act)(bb_pool_file *, bb_file_party *, uint32_t)) {
     enum {
         ROUNDS = 60,
         WORKERS = 4
@@ -1997,14 +2002,14 @@ static void one_of_four(void (*work)(bb_pool_file *, bb_pool_party *, uint32_t),
     int ready[2];
     EXPECT(pipe(ready) == 0);
     bb_pool_file *file = open_it();
-    bb_pool_party *party = join_it(file);
+    bb_file_party *party = join_it(file);
     act(file, party, 0);
     for (int at = 0; at < WORKERS; at++) {
         children[at] = child_of();
         if (children[at] != 0)
             continue;
         bb_pool_file *own = open_it();
-        bb_pool_party *mine = join_it(own);
+        bb_file_party *mine = join_it(own);
         tell(ready[1]);
         for (;;)
             work(own, mine, slot);
@@ -2081,7 +2086,7 @@ static bool is_readable(int fd, int timeout) {
 // The codes of watches, and what makes a descriptor readable.
 static void watched(void) {
     bb_pool_file *file = open_it();
-    bb_pool_party *party = join_it(file);
+    bb_file_party *party = join_it(file);
     const int fd = watch_it(file);
     const int other = watch_it(file);
     EXPECT((fcntl(fd, F_GETFD) & FD_CLOEXEC) != 0 && other != fd);
@@ -2161,14 +2166,14 @@ static void event_loop(void) {
     };
 
     bb_pool_file *file = open_it();
-    bb_pool_party *party = join_it(file);
+    bb_file_party *party = join_it(file);
     pid_t children[LOOPS];
     for (uint32_t at = 0; at < LOOPS; at++) {
         children[at] = child_of();
         if (children[at] != 0)
             continue;
         bb_pool_file *own = open_it();
-        bb_pool_party *mine = join_it(own);
+        bb_file_party *mine = join_it(own);
         const int fd = watch_it(own);
         for (uint32_t taken = 0; taken < MESSAGES;) {
             arm(own, fd, 2 * at);
@@ -2180,7 +2185,7 @@ static void event_loop(void) {
                     continue;
                 taken++;
                 EXPECT(bb_pool_file_done(own, mine, slot) == BB_OK);
-                EXPECT(bb_pool_file_deallocate(own, mine, message.place) == BB_OK);
+                EXPECT(bb_file_party_deallocate(mine, message.place) == BB_OK);
             }
             if (taken == before)
                 EXPECT(is_readable(fd, 20000));
@@ -2224,14 +2229,14 @@ static void *reap_in_thread(void *unused) {
 }
 
 static void *work_in_thread(void *unused) {
-    bb_pool_party *party = join_it(shared_file);
+    bb_file_party *party = join_it(shared_file);
     for (int at = 0; at < 5000; at++) {
-        const bb_chunk got = bb_pool_party_take(party);
+        const bb_chunk got = bb_file_party_take(party);
         if (got.code == BB_OK) {
             uint64_t *word = got.place;
             *word = (uintptr_t)&got;
             EXPECT(*word == (uintptr_t)&got);
-            EXPECT(bb_pool_party_deallocate(party, got.place) == BB_OK);
+            EXPECT(bb_file_party_deallocate(party, got.place) == BB_OK);
         }
         if (at % 1000 == 999) {
             EXPECT(bb_pool_file_leave(shared_file, party) == BB_OK);
@@ -2280,7 +2285,7 @@ static void reapers(void) {
 
 static void reaps(void) {
     bb_pool_file *file = open_it();
-    bb_pool_party *party = join_it(file);
+    bb_file_party *party = join_it(file);
     const bb_place mine = take_one(party);
     const pid_t living = holder(2);
     const pid_t dying = holder(3);
@@ -2293,9 +2298,9 @@ static void reaps(void) {
     kill(living, SIGSTOP);  // a stopped process is alive
     EXPECT(reap(file, BB_REAP_DEAD) == 0 && info_of(file).held == 3);
     end_killed(living);
-    bb_pool_party *next = join_it(file);  // it has the dead one's number, with nothing left
+    bb_file_party *next = join_it(file);  // it has the dead one's number, with nothing left
     EXPECT(number_of(next) == 1 && info_of(file).held == 1);
-    EXPECT(bb_pool_party_holds(party, mine).number == 1);
+    EXPECT(bb_file_party_holds(party, mine).number == 1);
     close_it(file);
     remove_it();
     reapers();
@@ -2377,7 +2382,7 @@ static void forked_beside_a_join(void) {
 // A forked child has nothing of the file, and may close what it has not.
 static void forked(void) {
     bb_pool_file *file = open_it();
-    bb_pool_party *party = join_it(file);
+    bb_file_party *party = join_it(file);
     const bb_place place = take_one(party);
     // The pages of words, tables and region.
     const size_t page = system_page();
@@ -2394,10 +2399,10 @@ static void forked(void) {
         EXPECT(system_mmap(first, page, PROT_READ | PROT_WRITE,
                            MAP_PRIVATE | MAP_ANONYMOUS | MAP_FIXED_NOREPLACE, -1, 0) == first);
         bb_pool_file_figures figures;
-        bb_pool_party *more;
+        bb_file_party *more;
         bb_holder flag;
-        EXPECT(bb_pool_party_take(party).code == BB_UNINITIALIZED);
-        EXPECT(bb_pool_file_deallocate(file, party, place) == BB_UNINITIALIZED);
+        EXPECT(bb_file_party_take(party).code == BB_UNINITIALIZED);
+        EXPECT(bb_file_party_deallocate(party, place) == BB_UNINITIALIZED);
         EXPECT(bb_pool_file_info(file, &figures) == BB_UNINITIALIZED);
         EXPECT(bb_pool_file_join(file, &more) == BB_UNINITIALIZED);
         EXPECT(bb_pool_file_leave(file, party) == BB_UNINITIALIZED);
@@ -2425,7 +2430,7 @@ static void forked(void) {
         _exit(0);
     }
     end(child);
-    EXPECT(bb_pool_party_holds(party, place).number == 1);
+    EXPECT(bb_file_party_holds(party, place).number == 1);
     close_it(file);
     remove_it();
 }
@@ -2536,10 +2541,10 @@ static void closed(void) {
     const pid_t child = child_of();
     if (child == 0) {
         bb_pool_file *own = open_it();
-        bb_pool_party *party = join_it(own);
+        bb_file_party *party = join_it(own);
         take_one(party);
         EXPECT(syscall(SYS_close_range, 3, 99, 0) == 0);
-        EXPECT(bb_pool_party_deallocate(party, take_one(party)) == BB_OK);
+        EXPECT(bb_file_party_deallocate(party, take_one(party)) == BB_OK);
         bb_pool_file_figures figures;
         EXPECT(is_alive(own, 0, life_of(own, 0)));  // it is this process's own
         EXPECT(bb_pool_file_is_alive(own, 1, 1).code == BB_FILE_SYSTEM && errno == EBADF);
@@ -2575,7 +2580,7 @@ static void namespaces(void) {
         if (inner == 0) {
             EXPECT(getpid() == 1);
             bb_pool_file *own = open_it();
-            bb_pool_party *mine = join_it(own);
+            bb_file_party *mine = join_it(own);
             EXPECT(number_of(mine) == 1 && reap(own, BB_REAP_DEAD) == 0);
             take_one(mine);
             EXPECT(info_of(own).alive == 2);
@@ -2612,7 +2617,7 @@ static void passed(void) {
     requested = 0;
     EXPECT(bb_pool_file_open_fd(&file, fd, &OPTIONS) == BB_OK);
     EXPECT(fcntl(fd, F_ADD_SEALS, F_SEAL_SHRINK | F_SEAL_GROW | F_SEAL_SEAL) == 0);
-    bb_pool_party *party = join_it(file);
+    bb_file_party *party = join_it(file);
     char byte = 'x';
 
     union {
@@ -2632,7 +2637,7 @@ static void passed(void) {
         EXPECT(recvmsg(pair[1], &message, 0) == 1 && CMSG_FIRSTHDR(&message) != NULL);
         memcpy(&got, CMSG_DATA(CMSG_FIRSTHDR(&message)), sizeof got);
         EXPECT(bb_pool_file_open_fd(&own, got, NULL) == BB_OK && info_of(own).alive == 1);
-        bb_pool_party *mine = join_it(own);
+        bb_file_party *mine = join_it(own);
         EXPECT(number_of(mine) == 1);
         take_one(mine);
         tell(pair[1]);
@@ -2661,7 +2666,7 @@ static bool is_bucket(const bb_pool_file_figures *figures, bb_place place) {
 // Garbage in words and slots leads to wrong answers, but to no access outside, and to no crash.
 static void garbage(void) {
     bb_pool_file *file = open_it();
-    bb_pool_party *party = join_it(file);
+    bb_file_party *party = join_it(file);
     const int fd = open(path, O_RDWR | O_CLOEXEC);
     unsigned char bytes[2 * PAGE];
     uint32_t seed = 1;
@@ -2679,7 +2684,7 @@ static void garbage(void) {
         const bb_pool_file_figures figures = info_of(file);
         EXPECT(figures.wrong <= 20);
         for (uint32_t slot = 0; slot < 4; slot++) {
-            const bb_chunk got = bb_pool_party_take(party);
+            const bb_chunk got = bb_file_party_take(party);
             const bb_message message = bb_pool_file_take(file, party, slot);
             const bb_message seen = bb_pool_file_look(file, slot);
             EXPECT(got.code != BB_OK || is_bucket(&figures, got.place));
@@ -2741,7 +2746,7 @@ static void user_bytes(void) {
         EXPECT(sum_of(same, size) == size * 0xff);
         EXPECT(info_of(file).wrong == 0 && info_of(file).full_slots == 0);
         // Each slot, each bucket and the life of each party is used.
-        bb_pool_party *joined[6];
+        bb_file_party *joined[6];
         for (int party = 0; party < 6; party++)
             joined[party] = join_it(file);
         bb_place place = NULL;
@@ -2796,7 +2801,7 @@ static void long_messages(void) {
     said_pages = AS_IT_IS;
     allocates = true;
     EXPECT(code == BB_OK);
-    bb_pool_party *party = join_it(file);
+    bb_file_party *party = join_it(file);
     bb_place place = take_one(party);
     EXPECT(bb_pool_file_post(file, party, 0, place, most_len + 1) == BB_SIZE_TOO_LARGE);
     EXPECT(bb_pool_file_post(file, party, 0, place, (size_t)1 << 33) == BB_SIZE_TOO_LARGE);

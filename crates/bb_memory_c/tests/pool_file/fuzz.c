@@ -81,11 +81,11 @@ static void make_pool(void) {
                                           .slots = (uint32_t)any(10),
                                           .user_bytes = any(3) * 100};
     bb_pool_file *file;
-    bb_pool_party *party;
+    bb_file_party *party;
     EXPECT(bb_pool_file_open(&file, path, &options) == BB_OK);
     EXPECT(bb_pool_file_join(file, &party) == BB_OK);
     for (uint64_t left = any(options.buckets) + 1; left > 0; left--) {
-        const bb_chunk chunk = bb_pool_party_take(party);
+        const bb_chunk chunk = bb_file_party_take(party);
         if (chunk.code != BB_OK)
             continue;
         const uint32_t slot = (uint32_t)any(options.slots + 1);

@@ -125,7 +125,7 @@ static void check(bb_place place, uint64_t id) {
 static bb_pool_file *file;
 static uint32_t cached;
 static uint32_t threads;
-static _Thread_local bb_pool_party *mine;
+static _Thread_local bb_file_party *mine;
 static _Thread_local uint32_t life;
 static _Thread_local uint32_t seed;
 static _Thread_local uint32_t sequence;
@@ -133,7 +133,7 @@ static _Thread_local uint64_t ids;
 
 static void join(void) {
     EXPECT(bb_pool_file_join(file, &mine) == BB_OK);
-    EXPECT(cached == 0 || bb_pool_party_cache(mine, cached) == BB_OK);
+    EXPECT(cached == 0 || bb_file_party_cache(mine, cached) == BB_OK);
 }
 
 static void enter(void) {
@@ -153,14 +153,14 @@ static void give_back(bb_place place, uint64_t id) {
     idle();
     check(place, id);
     if (next(&seed) % 2 == 0)
-        EXPECT(bb_pool_party_deallocate(mine, place) == BB_OK);
+        EXPECT(bb_file_party_deallocate(mine, place) == BB_OK);
     else
-        EXPECT(bb_pool_file_deallocate(file, mine, place) == BB_OK);
+        EXPECT(bb_file_party_deallocate(mine, place) == BB_OK);
 }
 
 // Takes a bucket and fills it, or returns NULL if none is free.
 static bb_place take_one(uint64_t id) {
-    const bb_chunk got = bb_pool_party_take(mine);
+    const bb_chunk got = bb_file_party_take(mine);
     if (got.code == BB_OUT_OF_MEMORY)
         return NULL;
     EXPECT(got.code == BB_OK);
@@ -494,7 +494,7 @@ static void make_once(void) {
         EXPECT(bb_pool_file_open(&file, path, &OPTIONS) == BB_OK);
         for (int joined = 0; joined < 2; joined++) {
             EXPECT(bb_pool_file_join(file, &mine) == BB_OK);
-            EXPECT(bb_pool_party_take(mine).code == BB_OK);
+            EXPECT(bb_file_party_take(mine).code == BB_OK);
         }
         pause();
     }
@@ -573,7 +573,7 @@ static void leave_dead_party(void) {
         EXPECT(bb_pool_file_join(file, &mine) == BB_OK);
         bb_chunk got = {BB_OK, NULL};
         for (int count = 0; count < 3; count++)
-            got = bb_pool_party_take(mine);
+            got = bb_file_party_take(mine);
         fill(got.place, 77);
         EXPECT(bb_pool_file_post(file, mine, 1, got.place, 9) == BB_OK);
         EXPECT(bb_pool_file_take(file, mine, 1).code == BB_OK);
@@ -600,15 +600,15 @@ static struct prepared prepare(int what, uint32_t number) {
     if (!opens && what != JOINS && what != REAPS && what != REAPS_DETACHED)
         EXPECT(bb_pool_file_join(file, &mine) == BB_OK);
     if (what == BURSTS || what == LEAVES)
-        EXPECT(bb_pool_party_cache(mine, 8) == BB_OK);
+        EXPECT(bb_file_party_cache(mine, 8) == BB_OK);
     if (what == POSTS || what == DETACHES || what == LEAVES || what == CLOSES)
-        prepared.place = bb_pool_party_take(mine).place;
+        prepared.place = bb_file_party_take(mine).place;
     if (prepared.place != NULL)
         fill(prepared.place, 5);
     if (what == LEAVES) {
         bb_place places[2];
-        EXPECT(bb_pool_party_take_many(mine, places, 2).number == 2);
-        EXPECT(bb_pool_party_deallocate_many(mine, places, 2).number == 2);
+        EXPECT(bb_file_party_take_many(mine, places, 2).number == 2);
+        EXPECT(bb_file_party_deallocate_many(mine, places, 2).number == 2);
     }
     if (what == LEAVES || what == CLOSES)
         EXPECT(bb_pool_file_take(file, mine, 0).code == BB_OK);
@@ -617,8 +617,8 @@ static struct prepared prepare(int what, uint32_t number) {
 
 static void take_many(size_t count) {
     bb_place places[3];
-    EXPECT(bb_pool_party_take_many(mine, places, count).number == count);
-    EXPECT(bb_pool_party_deallocate_many(mine, places, count).number == count);
+    EXPECT(bb_file_party_take_many(mine, places, count).number == count);
+    EXPECT(bb_file_party_deallocate_many(mine, places, count).number == count);
 }
 
 static void note_open(void) {
@@ -640,7 +640,7 @@ static void operate(int what, struct prepared with) {
     case RECEIVES:
         got = bb_pool_file_take(file, mine, 0);
         EXPECT(bb_pool_file_done(file, mine, 0) == BB_OK);
-        EXPECT(bb_pool_file_deallocate(file, mine, got.place) == BB_OK);
+        EXPECT(bb_file_party_deallocate(mine, got.place) == BB_OK);
         break;
     case PUTS_BACK:
         got = bb_pool_file_take(file, mine, 0);
@@ -762,13 +762,13 @@ static void check_number(bb_pool_file *ours, int what, uint32_t detached, struct
 // free, but for those of messages, and each message was sent or not.
 static bool step_once(int what, uint32_t steps, struct outcome *outcome) {
     bb_pool_file *ours;
-    bb_pool_party *party;
+    bb_file_party *party;
     bb_pool_file_figures figures;
     EXPECT(bb_pool_file_open(&ours, path, &OPTIONS) == BB_OK);
     EXPECT(bb_pool_file_join(ours, &party) == BB_OK);
-    const bb_chunk chunk = bb_pool_party_take(party);
+    const bb_chunk chunk = bb_file_party_take(party);
     fill(chunk.place, 99);
-    const uint32_t number = (uint32_t)bb_pool_party_number_at(party, chunk.place).number;
+    const uint32_t number = (uint32_t)bb_file_party_number_at(party, chunk.place).number;
     if (what == ATTACHES)
         EXPECT(bb_pool_file_detach(ours, party, chunk.place).code == BB_OK);
     else
@@ -842,7 +842,7 @@ static uint32_t leave_detached(void) {
     if (child == 0) {
         EXPECT(bb_pool_file_open(&file, path, NULL) == BB_OK);
         EXPECT(bb_pool_file_join(file, &mine) == BB_OK);
-        *number = (uint32_t)bb_pool_file_detach(file, mine, bb_pool_party_take(mine).place).number;
+        *number = (uint32_t)bb_pool_file_detach(file, mine, bb_file_party_take(mine).place).number;
         _exit(0);
     }
     EXPECT(waitpid(child, NULL, 0) == child);
@@ -853,14 +853,14 @@ static uint32_t leave_detached(void) {
 
 // While a reap of detached buckets is stopped, another party attaches one, gives it back, takes it
 // again, and posts it. The message stays.
-static bool pause_reap(bb_pool_file *ours, bb_pool_party *party, uint32_t steps) {
+static bool pause_reap(bb_pool_file *ours, bb_file_party *party, uint32_t steps) {
     const uint32_t number = leave_detached();
     const pid_t child = start(REAPS_DETACHED, 0);
     const bool ended = go(child, steps);
     const bb_chunk got = bb_pool_file_attach(ours, party, number);
     if (got.code == BB_OK) {
-        EXPECT(bb_pool_party_deallocate(party, got.place) == BB_OK);
-        EXPECT(bb_pool_party_take(party).place == got.place);
+        EXPECT(bb_file_party_deallocate(party, got.place) == BB_OK);
+        EXPECT(bb_file_party_take(party).place == got.place);
         fill(got.place, 55);
         EXPECT(bb_pool_file_post(ours, party, 0, got.place, 17) == BB_OK);
     }
@@ -891,8 +891,8 @@ struct stopped_take {
 
 // Posts a message into slot 0, stops a child after this many instructions of a take of it, and then
 // lets `party` take it.
-static struct stopped_take stop_take(bb_pool_file *ours, bb_pool_party *party, uint32_t steps) {
-    const bb_chunk chunk = bb_pool_party_take(party);
+static struct stopped_take stop_take(bb_pool_file *ours, bb_file_party *party, uint32_t steps) {
+    const bb_chunk chunk = bb_file_party_take(party);
     fill(chunk.place, 99);
     EXPECT(bb_pool_file_post(ours, party, 0, chunk.place, 44) == BB_OK);
     const pid_t child = start(NOTES_TAKE, 0);
@@ -903,7 +903,7 @@ static struct stopped_take stop_take(bb_pool_file *ours, bb_pool_party *party, u
 // While a take is stopped, another party takes the message, is done with it, and detaches its
 // bucket by number. The take gets nothing then, and the bucket stays detached by its sender: a reap
 // after the taker has died doesn't free it.
-static bool pause_take(bb_pool_file *ours, bb_pool_party *party, uint32_t steps) {
+static bool pause_take(bb_pool_file *ours, bb_file_party *party, uint32_t steps) {
     const struct stopped_take take = stop_take(ours, party, steps);
     const bb_message message = take.message;
     if (message.code == BB_OK) {
@@ -916,7 +916,7 @@ static bool pause_take(bb_pool_file *ours, bb_pool_party *party, uint32_t steps)
     if (message.code == BB_OK) {
         uint32_t freed = 1;
         EXPECT(*noted == BB_NOT_HELD || *noted == BB_DETACHED_EMPTY);
-        expect_detached(ours, message.number, bb_pool_party_number(party).number);
+        expect_detached(ours, message.number, bb_file_party_number(party).number);
         end_killed(take.child);
         EXPECT(bb_pool_file_reap(ours, BB_REAP_DEAD, &freed) == BB_OK && freed == 0);
         const bb_chunk back = bb_pool_file_attach(ours, party, message.number);
@@ -930,7 +930,7 @@ static bool pause_take(bb_pool_file *ours, bb_pool_party *party, uint32_t steps)
 
 // While a take is stopped, another party takes the message, is done with it, and posts its bucket
 // to another slot. The take gets nothing then, and the message can be taken from there.
-static bool pause_late(bb_pool_file *ours, bb_pool_party *party, uint32_t steps) {
+static bool pause_late(bb_pool_file *ours, bb_file_party *party, uint32_t steps) {
     const struct stopped_take take = stop_take(ours, party, steps);
     const bb_message message = take.message;
     if (message.code == BB_OK) {
@@ -992,7 +992,7 @@ static void go_on_beside_sleeper(pid_t child) {
 // While a take is stopped, another party takes the message, is done with it, and posts its bucket
 // into slot 2. If the take then holds the bucket for a moment, it wakes whoever waits for that
 // slot.
-static bool pause_late_take(bb_pool_file *ours, bb_pool_party *party, uint32_t steps) {
+static bool pause_late_take(bb_pool_file *ours, bb_file_party *party, uint32_t steps) {
     bb_holder holder = {BB_FREE, 0};
     const struct stopped_take take = stop_take(ours, party, steps);
     const bb_message message = take.message;
@@ -1016,20 +1016,20 @@ static bool pause_late_take(bb_pool_file *ours, bb_pool_party *party, uint32_t s
 }
 
 // While a leave is stopped, another party joins and takes a bucket, which it keeps.
-static bool pause_leave(bb_pool_file *ours, bb_pool_party *party, uint32_t steps) {
-    bb_pool_party *other;
-    const bb_chunk chunk = bb_pool_party_take(party);
+static bool pause_leave(bb_pool_file *ours, bb_file_party *party, uint32_t steps) {
+    bb_file_party *other;
+    const bb_chunk chunk = bb_file_party_take(party);
     fill(chunk.place, 99);
     EXPECT(bb_pool_file_post(ours, party, 0, chunk.place, 44) == BB_OK);
     const pid_t child = start(LEAVES, 0);
     const bool ended = go(child, steps);
     EXPECT(bb_pool_file_join(ours, &other) == BB_OK);
-    const bb_chunk got = bb_pool_party_take(other);
+    const bb_chunk got = bb_file_party_take(other);
     EXPECT(got.code == BB_OK);
     if (!ended)
         go_on(child);
     end_killed(child);
-    EXPECT(bb_pool_party_holds(other, got.place).number == 1);
+    EXPECT(bb_file_party_holds(other, got.place).number == 1);
     EXPECT(bb_pool_file_take(ours, party, 0).len == 44);
     return ended;
 }
@@ -1042,11 +1042,11 @@ static bool is_locked(int fd, off_t byte) {
 
 // While an open is stopped, another file comes to have the path. If the open had no lock of the old
 // file, it opens the new one.
-static bool pause_open(bb_pool_file *ours, bb_pool_party *party, uint32_t steps) {
+static bool pause_open(bb_pool_file *ours, bb_file_party *party, uint32_t steps) {
     (void)ours;
     (void)party;
     bb_pool_file *other;
-    bb_pool_party *joined;
+    bb_file_party *joined;
     const size_t length = strlen(path);
     path[length] = '2';
     EXPECT(bb_pool_file_open(&other, path, &OPTIONS) == BB_OK);
@@ -1059,7 +1059,7 @@ static bool pause_open(bb_pool_file *ours, bb_pool_party *party, uint32_t steps)
     EXPECT(close(fd) == 0 && unlink(path) == 0);
     EXPECT(bb_pool_file_open(&other, path, &OPTIONS) == BB_OK);
     EXPECT(bb_pool_file_join(other, &joined) == BB_OK);
-    EXPECT(bb_pool_party_take(joined).code == BB_OK);
+    EXPECT(bb_file_party_take(joined).code == BB_OK);
     if (!ended)
         go_on(child);
     EXPECT(has_lock || *noted == 1);
@@ -1070,7 +1070,7 @@ static bool pause_open(bb_pool_file *ours, bb_pool_party *party, uint32_t steps)
 }
 
 static int run_pause(uint32_t long_stride) {
-    bool (*const scenes[])(bb_pool_file *, bb_pool_party *, uint32_t) = {
+    bool (*const scenes[])(bb_pool_file *, bb_file_party *, uint32_t) = {
         pause_take, pause_late, pause_late_take, pause_reap, pause_leave, pause_open};
     const char *const names[] = {
         "take", "take, posted again", "take, which is late", "reap", "leave", "open"};
@@ -1081,7 +1081,7 @@ static int run_pause(uint32_t long_stride) {
         uint32_t steps = 1;
         for (bool ended = false; !ended; steps += stride) {
             bb_pool_file *ours;
-            bb_pool_party *party;
+            bb_file_party *party;
             bb_pool_file_figures figures;
             unlink(path);
             EXPECT(bb_pool_file_open(&ours, path, &OPTIONS) == BB_OK);

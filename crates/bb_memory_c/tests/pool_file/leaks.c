@@ -321,13 +321,13 @@ static void close_in_turn(const bb_pool_file_options *options) {
     bool has_failed = true;
     uint32_t told = 0;
     for (uint32_t call = 1; has_failed; call++) {
-        bb_pool_party *party;
+        bb_file_party *party;
         EXPECT(open_failing(0, -1, options) == BB_OK);
         is_watched = true;
         for (int joined = 0; joined < 2; joined++)
             EXPECT(bb_pool_file_join(file, &party) == BB_OK);
         is_watched = false;
-        EXPECT(bb_pool_party_take(party).code == BB_OK);
+        EXPECT(bb_file_party_take(party).code == BB_OK);
         const uint32_t code = close_failing(call);
         const int why = errno;
         has_failed = failing == 0;

@@ -48,10 +48,10 @@ static void post(const char *path) {
     EXPECT(child >= 0);
     if (child == 0) {
         bb_pool_file *file;
-        bb_pool_party *party;
+        bb_file_party *party;
         EXPECT(bb_pool_file_open(&file, path, NULL) == BB_OK);
         EXPECT(bb_pool_file_join(file, &party) == BB_OK);
-        const bb_chunk chunk = bb_pool_party_take(party);
+        const bb_chunk chunk = bb_file_party_take(party);
         EXPECT(chunk.code == BB_OK);
         memcpy(chunk.place, "hello", 6);
         EXPECT(bb_pool_file_post(file, party, 0, chunk.place, 6) == BB_OK);
@@ -65,15 +65,15 @@ int run_silent(const char *path) {
     const bb_pool_file_options options = {
         .bucket_size = 64, .bucket_align = 8, .buckets = 4, .parties = 2, .slots = 1, .mode = 0};
     bb_pool_file *file;
-    bb_pool_party *party;
+    bb_file_party *party;
     void *places[4];
     use_pool();
     EXPECT(bb_pool_file_open(&file, path, &options) == BB_OK);
     EXPECT(bb_pool_file_join(file, &party) == BB_OK);
-    EXPECT(bb_pool_party_take_many(party, places, 4).number == 4);
+    EXPECT(bb_file_party_take_many(party, places, 4).number == 4);
     for (int at = 0; at < 4; at++) {
         memset(places[at], at, 64);
-        EXPECT(bb_pool_party_deallocate(party, places[at]) == BB_OK);
+        EXPECT(bb_file_party_deallocate(party, places[at]) == BB_OK);
     }
     post(path);
     const bb_message message = bb_pool_file_take(file, party, 0);

@@ -28,10 +28,10 @@ static void expect(bool holds, int line) {
 
 #define EXPECT(holds) expect(holds, __LINE__)
 
-static bb_pool_party *take_some(bb_pool_file *file, bb_place *places, size_t count) {
-    bb_pool_party *party = NULL;
+static bb_file_party *take_some(bb_pool_file *file, bb_place *places, size_t count) {
+    bb_file_party *party = NULL;
     EXPECT(bb_pool_file_join(file, &party) == BB_OK);
-    EXPECT(bb_pool_party_take_many(party, places, count).number == count);
+    EXPECT(bb_file_party_take_many(party, places, count).number == count);
     return party;
 }
 
@@ -99,7 +99,7 @@ int main(int argc, char **argv) {
     const pid_t child = fork();
     if (child == 0) {
         bb_pool_file *own = open_it(path);
-        bb_pool_party *party = take_some(own, places, 4);
+        bb_file_party *party = take_some(own, places, 4);
         EXPECT(bb_pool_file_post(own, party, 1, places[2], 44) == BB_OK);
         EXPECT(bb_pool_file_detach(own, party, places[3]).code == BB_OK);
         _exit(0);

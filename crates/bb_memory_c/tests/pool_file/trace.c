@@ -1,6 +1,6 @@
 // Writes a trace of processes that share a pool in a file. It has one process at a time go on by
-// single instructions. After each instruction it looks at each flag, slot, life and lock in the
-// file, and writes a line for each change. The program `file_replay` reads the trace, and has the
+// single instructions. After each instruction it looks at each flag, entry, slot, life and lock in
+// the file, and writes a line for each change. The program `file_replay` reads the trace, and has the
 // proved machine take the same steps.
 //
 //     trace random FOLDER SEED CALLS CACHED
@@ -20,8 +20,8 @@
 //     done P K S
 //                         a call begins; `recover` is a reap with detached buckets, `show` any call
 //                         that only looks, and `close` has each party of P leave
-//     look P              a hint: at this moment, the slot of P's take has what the take found there
 //     flag P B FROM TO    P's instruction changed the word of a flag
+//     entry P B FROM TO   or that of an entry
 //     slot P S FROM TO    or that of a slot
 //     life P K FROM TO    or the life of a number
 //     lock P K, unlock P K    or the lock of a number
@@ -50,8 +50,8 @@
 #include "bb_pool_file.h"
 
 // The pool, and where its words are in the file: after a page for the header come 16 words that
-// are no flag, and then the flags. After their page comes a line of events, then the slots, and
-// then the lives.
+// are no flag, and then the flags. After their page comes a line of events, then the slots, then the
+// lives, and then the entries.
 enum {
     PARTIES = 4,
     SLOTS = 3,
@@ -62,6 +62,8 @@ enum {
     FIRST_SLOT = (PAGE + 128) / 8,
     WORDS_IN_SLOT = 16,
     FIRST_LIFE = FIRST_SLOT + SLOTS * WORDS_IN_SLOT,
+    // The lives take a line, which has as many words as a slot.
+    FIRST_ENTRY = FIRST_LIFE + WORDS_IN_SLOT,
     // The byte of the file whose lock is that of number 0.
     FIRST_LOCK = 2
 };
@@ -156,7 +158,7 @@ enum hand {
 
 static bb_pool_file *file;
 static bb_pool_file *second;
-static bb_pool_party *handles[PARTIES];
+static bb_file_party *handles[PARTIES];
 static enum hand hands[PARTIES][BUCKETS];
 static uint32_t slots_of[BUCKETS];
 static uint32_t cached;
@@ -165,7 +167,7 @@ static uint32_t me;
 static struct shared *mine;
 
 static bb_place place_at(uint32_t party, uint32_t bucket) {
-    return bb_pool_party_place_at(handles[party], bucket).place;
+    return bb_file_party_place_at(handles[party], bucket).place;
 }
 
 static uint32_t count_joined(void) {
@@ -184,12 +186,14 @@ static uint32_t find(uint32_t party, enum hand hand) {
     return BUCKETS;
 }
 
-// Returns a bucket that is detached, from this one on, or this one if there is none.
+// Returns a bucket that is detached, from this one on, or this one if there is none. One that is
+// sent to a slot counts only sometimes, since it can't be attached.
 static uint32_t find_detached(uint32_t bucket) {
+    const bool any = next(&seed) % 4 == 0;
     bb_holder holder;
     for (uint32_t at = bucket; at < bucket + BUCKETS; at++)
         if (bb_pool_file_holder(file, at % BUCKETS, &holder) == BB_OK &&
-            holder.state == BB_DETACHED)
+            holder.state == BB_DETACHED && (any || holder.party < PARTIES))
             return at % BUCKETS;
     return bucket;
 }
@@ -232,13 +236,15 @@ static void choose_call(void) {
     } else if (what < 113) {
         mine->call = GIVE_ALL_BACK;
     }
-    // Some calls are refused: those with a bucket that the party doesn't have. A bucket that is in a
-    // slot may not be given back or posted.
+    // Some calls are refused: those with a bucket that the party doesn't have, or that is still in a
+    // slot.
     const bool is_bad = next(&seed) % 16 == 0;
     if (mine->call == DEALLOCATE || mine->call == POST) {
-        if (out < BUCKETS && !is_bad)
+        if (message < BUCKETS && is_bad)
+            mine->bucket = message;
+        else if (out < BUCKETS && !is_bad)
             mine->bucket = out;
-        else if (hands[mine->party][mine->bucket] != NOTHING)
+        else if (hands[mine->party][mine->bucket] == OUT)
             mine->call = ALLOCATE;
     }
     if (mine->call == ATTACH && !is_bad)
@@ -289,8 +295,8 @@ static uint32_t show(void) {
 }
 
 static void operate(void) {
-    bb_pool_party *party = mine->party < PARTIES ? handles[mine->party] : NULL;
-    bb_pool_party *joined = NULL;
+    bb_file_party *party = mine->party < PARTIES ? handles[mine->party] : NULL;
+    bb_file_party *joined = NULL;
     bb_chunk chunk = {BB_OK, NULL};
     bb_message message = {BB_OK, 0, NULL, 0};
     mine->got = 0;
@@ -301,7 +307,7 @@ static void operate(void) {
         mine->code = bb_pool_file_join(file, &joined);
         if (mine->code != BB_OK)
             break;
-        mine->got = (uint32_t)bb_pool_party_number(joined).number;
+        mine->got = (uint32_t)bb_file_party_number(joined).number;
         handles[mine->got] = joined;
         memset(hands[mine->got], 0, sizeof hands[mine->got]);
         break;
@@ -312,16 +318,16 @@ static void operate(void) {
     case LEAVE: mine->code = bb_pool_file_leave(file, party); break;
     case GIVE_ALL_BACK: mine->code = bb_pool_file_give_all_back(file, party); break;
     case FLUSH:
-        mine->code = bb_pool_party_flush(party);
+        mine->code = bb_file_party_flush(party);
         if (mine->len % 2 == 0)
-            mine->code = bb_pool_party_cache(party, cached);
+            mine->code = bb_file_party_cache(party, cached);
         break;
     case ALLOCATE:
-        chunk = bb_pool_party_take(party);
+        chunk = bb_file_party_take(party);
         mine->code = chunk.code;
         break;
     case DEALLOCATE:
-        mine->code = bb_pool_file_deallocate(file, party, place_at(mine->party, mine->bucket));
+        mine->code = bb_file_party_deallocate(party, place_at(mine->party, mine->bucket));
         break;
     case DETACH:
         mine->code = bb_pool_file_detach(file, party, place_at(mine->party, mine->bucket)).code;
@@ -340,7 +346,7 @@ static void operate(void) {
     default: mine->code = bb_pool_file_done(file, party, mine->slot);
     }
     if (mine->call == ALLOCATE && mine->code == BB_OK)
-        mine->got = (uint32_t)bb_pool_party_number_at(party, chunk.place).number;
+        mine->got = (uint32_t)bb_file_party_number_at(party, chunk.place).number;
 }
 
 // Notes what a call that succeeded has done to the party's buckets.
@@ -359,16 +365,7 @@ static void note_hands(void) {
     case DEALLOCATE:
     case DETACH:
     case POST: hand[mine->bucket] = NOTHING; break;
-    case ATTACH:
-        hand[mine->bucket] = OUT;
-        for (uint32_t slot = 0; slot < SLOTS; slot++) {
-            const bb_message message = bb_pool_file_look(file, slot);
-            if (message.code != BB_OK || message.number != mine->bucket)
-                continue;
-            hand[mine->bucket] = MESSAGE;
-            slots_of[mine->bucket] = slot;
-        }
-        break;
+    case ATTACH: hand[mine->bucket] = OUT; break;
     case TAKE:
         hand[mine->got] = MESSAGE;
         slots_of[mine->got] = mine->slot;
@@ -429,7 +426,7 @@ static void work(uint32_t process, uint32_t first_seed) {
         raise(SIGUSR1);
         if (mine->call == JOIN && mine->code == BB_OK) {
             if (cached > 0)
-                EXPECT(bb_pool_party_cache(handles[mine->got], cached) == BB_OK);
+                EXPECT(bb_file_party_cache(handles[mine->got], cached) == BB_OK);
             if (process % 4 < 2 && mine->idle[0] == 0)
                 start_idle();
         }
@@ -442,6 +439,7 @@ static void work(uint32_t process, uint32_t first_seed) {
 enum kind {
     BEGINS,
     FLAG,
+    ENTRY,
     SLOT,
     LIFE,
     LOCK,
@@ -460,17 +458,9 @@ struct event {
     struct shared call;
 };
 
-// The hint that is right before an event: of this process.
-struct look {
-    size_t before;
-    uint32_t process;
-};
-
 static struct event *events;
 static size_t count;
 static size_t room;
-static struct look looks[4096];
-static size_t look_count;
 
 static struct event *add(enum kind kind, uint32_t process) {
     if (count == room) {
@@ -521,12 +511,10 @@ static void write_change(const char *name, const struct event *event) {
 
 static void write_event(size_t at) {
     const struct event *event = &events[at];
-    for (size_t look = 0; look < look_count; look++)
-        if (looks[look].before == at)
-            printf("look %u\n", looks[look].process);
     switch (event->kind) {
     case BEGINS: write_call(event->process, &event->call); break;
     case FLAG: write_change("flag", event); break;
+    case ENTRY: write_change("entry", event); break;
     case SLOT: write_change("slot", event); break;
     case LIFE: write_change("life", event); break;
     case LOCK:
@@ -544,6 +532,7 @@ static void write_event(size_t at) {
 static const uint64_t *words;
 static int watching;
 static uint64_t flags[BUCKETS];
+static uint64_t entries[BUCKETS];
 static uint64_t slots[SLOTS];
 static uint64_t lives[PARTIES];
 static bool locks[PARTIES];
@@ -556,9 +545,6 @@ struct process {
     bool is_in_call;
     // The number of turns before which it doesn't go on.
     uint32_t rests_until;
-    // The event of its call's beginning, and of the first change of a flag in it, if there is one.
-    size_t begun;
-    size_t attached;
 };
 
 static struct process living[LIVING];
@@ -581,14 +567,20 @@ static void change(enum kind kind, uint32_t process, uint32_t at, uint64_t from,
     event->to = to;
 }
 
-// Adds an event for each word and lock that has changed: for flags, slots, locks and lives in this
-// order.
+// Adds an event for each word and lock that has changed: for flags, entries, slots, locks and lives
+// in this order.
 static void compare(uint32_t process) {
     for (uint32_t bucket = 0; bucket < BUCKETS; bucket++) {
         const uint64_t word = __atomic_load_n(&words[FIRST_FLAG + bucket], __ATOMIC_SEQ_CST);
         if (word != flags[bucket])
             change(FLAG, process, bucket, flags[bucket], word);
         flags[bucket] = word;
+    }
+    for (uint32_t bucket = 0; bucket < BUCKETS; bucket++) {
+        const uint64_t word = __atomic_load_n(&words[FIRST_ENTRY + bucket], __ATOMIC_SEQ_CST);
+        if (word != entries[bucket])
+            change(ENTRY, process, bucket, entries[bucket], word);
+        entries[bucket] = word;
     }
     for (uint32_t slot = 0; slot < SLOTS; slot++) {
         const uint64_t word =
@@ -609,41 +601,6 @@ static void compare(uint32_t process) {
             change(LIFE, process, party, lives[party], word);
         lives[party] = word;
     }
-}
-
-static uint32_t bucket_in(uint64_t word) {
-    return (uint32_t)word - 1;
-}
-
-// Adds the hint for a take that has attached a bucket: a moment at which the slot had the message.
-// It is the last one before the bucket was attached, at which the slot had what the take returned,
-// or if it returned nothing, the bucket and not the word that it had right after.
-static void hint(const struct process *of, bool has_returned) {
-    const struct shared *call = &shared[of->number];
-    uint64_t word = slots[call->slot];
-    uint64_t after = 0;
-    for (size_t at = count; at > of->begun; at--) {
-        const struct event *event = &events[at - 1];
-        if (event->kind == SLOT && event->at == call->slot)
-            word = event->from;
-        if (at - 1 == of->attached)
-            after = word;
-        if (at - 1 > of->attached || word == 0 || bucket_in(word) != events[of->attached].at)
-            continue;
-        const bool is_got = call->code == BB_OK && word >> 32 == call->got_len;
-        const bool is_lost = call->code != BB_OK && word != after;
-        if (has_returned && !is_got && !is_lost)
-            continue;
-        EXPECT(look_count < sizeof looks / sizeof *looks);
-        looks[look_count] = (struct look){at - 1, of->number};
-        look_count++;
-        return;
-    }
-}
-
-static void add_hint(const struct process *of, bool has_returned) {
-    if (shared[of->number].call == TAKE && of->attached != 0)
-        hint(of, has_returned);
 }
 
 static int wait_for(pid_t pid) {
@@ -674,7 +631,6 @@ static void start(struct process *of, uint32_t first_seed) {
 
 static void end(struct process *of) {
     struct shared *call = &shared[of->number];
-    add_hint(of, true);
     add(RETURNS, of->number)->call = *call;
     made[call->call]++;
     go_to_call(of);
@@ -691,8 +647,6 @@ static void go(struct process *of, struct turn turn) {
     const struct shared *call = &shared[of->number];
     if (!of->is_in_call) {
         of->is_in_call = true;
-        of->begun = count;
-        of->attached = 0;
         add(BEGINS, of->number)->call = *call;
     }
     uint32_t left = turn.most;
@@ -710,19 +664,13 @@ static void go(struct process *of, struct turn turn) {
         left--;
         if (count > before && left > turn.after_change)
             left = turn.after_change;
-        if (count > before && of->attached == 0 && events[before].kind == FLAG)
-            of->attached = before;
     }
 }
 
 // Kills a process where it is.
 static void end_killed(struct process *of) {
-    struct shared *call = &shared[of->number];
+    const struct shared *call = &shared[of->number];
     int status;
-    if (of->is_in_call) {
-        call->code = BB_OK;
-        add_hint(of, false);
-    }
     add(KILL, of->number);
     EXPECT(kill(of->pid, SIGKILL) == 0);
     EXPECT(waitpid(of->pid, &status, 0) == of->pid && WIFSIGNALED(status));
@@ -802,7 +750,6 @@ static void make_unstepped(struct process *of, enum call call, uint32_t bucket) 
     ptrace(PTRACE_CONT, of->pid, NULL, NULL);
     EXPECT(wait_for(of->pid) == SIGUSR1);
     compare(of->number);
-    of->attached = 0;
     end(of);
 }
 
@@ -987,7 +934,6 @@ int main(int argc, char **argv) {
     char *first = map(lead + 2 * PAGE, watching, (off_t)(PAGE - lead));
     words = (void *)(first + lead);
     shared = map(PROCESSES * sizeof *shared, -1, 0);
-    add(GONE, PROCESSES);  // so that no event of a call has the index 0
     if (is_random) {
         cached = (uint32_t)atoi(argv[5]);
         run_random((uint32_t)atoi(argv[3]), (uint32_t)atoi(argv[4]));
@@ -996,7 +942,7 @@ int main(int argc, char **argv) {
     }
     unlink(path);
     printf("file %d %d %d %d\n", PROCESSES, PARTIES, BUCKETS, SLOTS);
-    for (size_t at = 1; at < count; at++)
+    for (size_t at = 0; at < count; at++)
         write_event(at);
     for (int call = 0; call < CALLS; call++)
         fprintf(stderr, "%s %llu %llu\n", NAMES[call], (unsigned long long)made[call],
