@@ -223,13 +223,13 @@ def run_commands(top: Path, work: Path, anew: bool) -> str:
     with ExitStack() as parts:
         rt_ci = parts.enter_context(background("rt ci", ci_words(anew), copy, log))
         layout.install()
+        commands: dict[str, list[str | Path]] = {
+            "mutants": [*nice, top / ".ci/mutants", *["--anew"] * anew],
+            "memrun on scripts": [top / ".ci/run-memrun"],
+            "hosts: C, C++ and Rust": [top / ".ci/run-c"],
+        }
         others = [
-            parts.enter_context(background(part, words, top))
-            for part, words in (
-                ("mutants", [*nice, top / ".ci/mutants", *["--anew"] * anew]),
-                ("memrun on scripts", [top / ".ci/run-memrun"]),
-                ("hosts: C, C++ and Rust", [top / ".ci/run-c"]),
-            )
+            parts.enter_context(background(part, words, top)) for part, words in commands.items()
         ]
         with times.part("texts"):
             check_texts(top)

@@ -209,7 +209,7 @@ private:
 // `done`, its bucket is freed. Without `done` the message is put back, and can be taken again.
 class pool_file_message {
 public:
-    pool_file_message(bb_pool_file *file, bb_pool_party *party, std::uint32_t slot) noexcept
+    pool_file_message(bb_pool_file *file, bb_file_party *party, std::uint32_t slot) noexcept
         : file_(file), party_(party), slot_(slot), message_(bb_pool_file_take(file, party, slot)) {}
 
     pool_file_message(pool_file_message &&other) noexcept
@@ -230,7 +230,7 @@ public:
         if (message_.code != BB_OK)
             return;
         if (is_done_)
-            bb_pool_file_deallocate(file_, party_, message_.place);
+            bb_file_party_deallocate(party_, message_.place);
         else
             static_cast<void>(bb_pool_file_detach(file_, party_, message_.place).code);
     }
@@ -268,7 +268,7 @@ public:
 
 private:
     bb_pool_file *file_;
-    bb_pool_party *party_;
+    bb_file_party *party_;
     std::uint32_t slot_;
     bb_message message_;
     bool is_done_ = false;
@@ -278,7 +278,7 @@ private:
 // freed, unless it was posted or detached.
 class pool_file_bucket {
 public:
-    pool_file_bucket(bb_pool_file *file, bb_pool_party *party, bb_chunk chunk) noexcept
+    pool_file_bucket(bb_pool_file *file, bb_file_party *party, bb_chunk chunk) noexcept
         : file_(file), party_(party), chunk_(chunk) {}
 
     pool_file_bucket(pool_file_bucket &&other) noexcept
@@ -294,7 +294,7 @@ public:
 
     ~pool_file_bucket() {
         if (chunk_.code == BB_OK)
-            bb_pool_file_deallocate(file_, party_, chunk_.place);
+            bb_file_party_deallocate(party_, chunk_.place);
     }
 
     // Returns BB_OK if there is a bucket, otherwise why there is none: BB_NOT_HELD if it was
@@ -333,7 +333,7 @@ public:
 
 private:
     bb_pool_file *file_;
-    bb_pool_party *party_;
+    bb_file_party *party_;
     bb_chunk chunk_;
 };
 
@@ -385,7 +385,7 @@ public:
                                      std::size_t size) noexcept {
         if (party_ == nullptr)
             return BB_UNINITIALIZED;
-        const bb_chunk chunk = bb_pool_party_allocate(party_, size, 1);
+        const bb_chunk chunk = bb_file_party_allocate(party_, size, 1);
         if (chunk.code == BB_INVALID_LAYOUT)  // no object has that many bytes
             return BB_SIZE_TOO_LARGE;
         if (chunk.code != BB_OK)
@@ -393,7 +393,7 @@ public:
         std::memcpy(chunk.place, bytes, size);
         const std::uint32_t code = bb_pool_file_post(file_, party_, slot, chunk.place, size);
         if (code != BB_OK)
-            bb_pool_file_deallocate(file_, party_, chunk.place);
+            bb_file_party_deallocate(party_, chunk.place);
         return code;
     }
 
@@ -412,7 +412,7 @@ public:
     // Allocates a whole bucket, to build a message in it. BB_OUT_OF_MEMORY if no bucket is free.
     // The party has to have joined.
     [[nodiscard]] pool_file_bucket bucket() noexcept {
-        return pool_file_bucket(file_, party_, bb_pool_party_take(party_));
+        return pool_file_bucket(file_, party_, bb_file_party_take(party_));
     }
 
     // Attaches the bucket with this number, which another party has detached, with the codes of
@@ -421,13 +421,12 @@ public:
         return pool_file_bucket(file_, party_, bb_pool_file_attach(file_, party_, number));
     }
 
-    // Returns the handle for the functions of bb_memory.h and of bb_pool_file.h, or null if the
-    // party hasn't joined.
-    bb_pool_party *get() const noexcept { return party_; }
+    // Returns the party for the functions of bb_pool_file.h, or null if it hasn't joined.
+    bb_file_party *get() const noexcept { return party_; }
 
 private:
     bb_pool_file *file_ = nullptr;
-    bb_pool_party *party_ = nullptr;
+    bb_file_party *party_ = nullptr;
 };
 
 }  // namespace bb

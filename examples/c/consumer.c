@@ -8,7 +8,7 @@
 static const bb_pool_file_options OPTIONS = {256, 64, 1000, 16, 8, 0600, 0};
 
 // Receives the message in the slot, if there is one that no other consumer has taken.
-static uint32_t receive(bb_pool_file *file, bb_pool_party *mine, uint32_t slot) {
+static uint32_t receive(bb_pool_file *file, bb_file_party *mine, uint32_t slot) {
     const bb_message message = bb_pool_file_take(file, mine, slot);
     if (message.code == BB_DETACHED_EMPTY || message.code == BB_NOT_HELD)
         return BB_OK;
@@ -17,12 +17,12 @@ static uint32_t receive(bb_pool_file *file, bb_pool_party *mine, uint32_t slot) 
     puts((const char *)message.place);
     fflush(stdout);
     const uint32_t code = bb_pool_file_done(file, mine, slot);
-    return code == BB_OK ? bb_pool_file_deallocate(file, mine, message.place) : code;
+    return code == BB_OK ? bb_file_party_deallocate(mine, message.place) : code;
 }
 
 int main(int argc, char **argv) {
     bb_pool_file *file;
-    bb_pool_party *mine;
+    bb_file_party *mine;
     if (argc != 2) {
         fputs("usage: consumer FILE\n", stderr);
         return 2;

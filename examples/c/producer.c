@@ -16,21 +16,21 @@ static uint32_t reap_if_timed_out(bb_pool_file *file, uint32_t waited) {
 }
 
 // Allocates a bucket. Waits while other processes hold all of them, some of which may be dead.
-static bb_chunk allocate_bucket(bb_pool_file *file, bb_pool_party *mine) {
-    bb_chunk chunk = bb_pool_party_take(mine);
+static bb_chunk allocate_bucket(bb_pool_file *file, bb_file_party *mine) {
+    bb_chunk chunk = bb_file_party_take(mine);
     while (chunk.code == BB_OUT_OF_MEMORY) {
         const uint32_t code = reap_if_timed_out(file, bb_pool_file_wait_bucket(file, 1000));
         if (code != BB_OK) {
             chunk.code = code;
             return chunk;
         }
-        chunk = bb_pool_party_take(mine);
+        chunk = bb_file_party_take(mine);
     }
     return chunk;
 }
 
 // Posts the bucket into the first empty slot. Waits while all of them are full.
-static uint32_t post(bb_pool_file *file, bb_pool_party *mine, bb_place place, size_t len) {
+static uint32_t post(bb_pool_file *file, bb_file_party *mine, bb_place place, size_t len) {
     uint32_t code = BB_OK;
     while (code == BB_OK) {
         for (uint32_t slot = 0; slot < OPTIONS.slots; slot++) {
@@ -45,7 +45,7 @@ static uint32_t post(bb_pool_file *file, bb_pool_party *mine, bb_place place, si
 
 int main(int argc, char **argv) {
     bb_pool_file *file;
-    bb_pool_party *mine;
+    bb_file_party *mine;
     if (argc != 3) {
         fputs("usage: producer FILE COUNT\n", stderr);
         return 2;

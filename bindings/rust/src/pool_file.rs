@@ -1,6 +1,6 @@
 //! A pool in a file, over `bb_pool_file.h`. Its rules hold here, and types enforce those that they
 //! can.
-use crate::ffi::{self, Chunk, Handle, Number};
+use crate::ffi::{self, Chunk, Number};
 use core::cell::Cell;
 use core::ffi::{c_char, c_int, c_void};
 use core::fmt;
@@ -27,10 +27,17 @@ const FILE_DAMAGED: u32 = 30;
 const FILE_UNSAFE: u32 = 31;
 const FILE_STALE: u32 = 32;
 const FILE_TIMED_OUT: u32 = 33;
+const FILE_NOT_DONE: u32 = 34;
 
 /// The `bb_pool_file` of the header.
 #[repr(C)]
 struct File {
+    nothing: [u8; 0],
+}
+
+/// The `bb_file_party` of the header.
+#[repr(C)]
+struct FileParty {
     nothing: [u8; 0],
 }
 
@@ -52,30 +59,30 @@ unsafe extern "C" {
     fn bb_pool_file_open_fd(to: *mut *mut File, fd: c_int, options: *const PoolFileOptions) -> u32;
     fn bb_pool_file_close(file: *mut File) -> u32;
     fn bb_pool_file_user(file: *mut File) -> *mut c_void;
-    fn bb_pool_file_join(file: *mut File, to: *mut *mut Handle) -> u32;
-    fn bb_pool_file_leave(file: *mut File, party: *mut Handle) -> u32;
-    fn bb_pool_file_deallocate(file: *mut File, party: *mut Handle, place: *const c_void) -> u32;
+    fn bb_pool_file_join(file: *mut File, to: *mut *mut FileParty) -> u32;
+    fn bb_pool_file_leave(file: *mut File, party: *mut FileParty) -> u32;
     fn bb_pool_file_post(
         file: *mut File,
-        party: *mut Handle,
+        party: *mut FileParty,
         slot: u32,
         place: *const c_void,
         len: usize,
     ) -> u32;
-    fn bb_pool_file_take(file: *mut File, party: *mut Handle, slot: u32) -> Taken;
-    fn bb_pool_file_done(file: *mut File, party: *mut Handle, slot: u32) -> u32;
+    fn bb_pool_file_take(file: *mut File, party: *mut FileParty, slot: u32) -> Taken;
+    fn bb_pool_file_done(file: *mut File, party: *mut FileParty, slot: u32) -> u32;
     fn bb_pool_file_wait_full(file: *mut File, slot: u32, milliseconds: u32) -> u32;
     fn bb_pool_file_wait_empty(file: *mut File, slot: u32, milliseconds: u32) -> u32;
     fn bb_pool_file_wait_bucket(file: *mut File, milliseconds: u32) -> u32;
     fn bb_pool_file_watch(file: *mut File, fd: *mut c_int) -> u32;
     fn bb_pool_file_arm(file: *mut File, fd: c_int, slot: u32) -> u32;
-    fn bb_pool_file_detach(file: *mut File, party: *mut Handle, place: *const c_void) -> Number;
+    fn bb_pool_file_detach(file: *mut File, party: *mut FileParty, place: *const c_void) -> Number;
     fn bb_pool_file_reap(file: *mut File, what: u32, freed: *mut u32) -> u32;
     fn bb_pool_file_life(file: *mut File, party: u32) -> Number;
     fn bb_pool_file_is_alive(file: *mut File, party: u32, life: u64) -> Number;
     fn bb_pool_file_info(file: *mut File, to: *mut PoolFileInfo) -> u32;
-    fn bb_pool_party_allocate(party: *mut Handle, size: usize, align: usize) -> Chunk;
-    fn bb_pool_party_number(party: *mut Handle) -> Number;
+    fn bb_file_party_allocate(party: *mut FileParty, size: usize, align: usize) -> Chunk;
+    fn bb_file_party_deallocate(party: *mut FileParty, place: *const c_void) -> u32;
+    fn bb_file_party_number(party: *mut FileParty) -> Number;
 }
 
 /// The figures that a file is made with. A file that exists has to have the same ones, except for
@@ -178,6 +185,9 @@ pub enum PoolFileError {
     SlotFull,
     /// The slot names no bucket: somebody wrote wrong values into the file.
     WrongSlot,
+    /// The bucket is still in a slot. Safe code never gets this error: the bucket of a [`Message`]
+    /// is freed only after [`done`](Message::done), and isn't posted.
+    NotDone,
 }
 
 impl PoolFileError {
@@ -197,6 +207,7 @@ impl PoolFileError {
             FILE_DAMAGED => PoolFileError::Damaged,
             FILE_UNSAFE => PoolFileError::Unsafe,
             FILE_STALE => PoolFileError::Stale,
+            FILE_NOT_DONE => PoolFileError::NotDone,
             _ => crate::error::no_such_answer(code),
         }
     }
@@ -223,6 +234,7 @@ impl fmt::Display for PoolFileError {
             PoolFileError::NoBucket => "no bucket is free",
             PoolFileError::SlotFull => "the slot is full",
             PoolFileError::WrongSlot => "the slot names no bucket",
+            PoolFileError::NotDone => "the bucket is still in a slot",
         })
     }
 }
@@ -453,7 +465,7 @@ impl AsRawFd for Watch<'_> {
 /// time. When it is dropped, it leaves, and what it holds is freed.
 pub struct PoolFileParty<'a> {
     file: &'a PoolFile,
-    party: NonNull<Handle>,
+    party: NonNull<FileParty>,
     one_thread: PhantomData<Cell<()>>,
 }
 
@@ -464,7 +476,7 @@ impl PoolFileParty<'_> {
     /// Returns the number and the life of the party.
     pub fn id(&self) -> PartyId {
         // SAFETY: the party has joined.
-        let number = unsafe { bb_pool_party_number(self.party.as_ptr()) }.number as u32;
+        let number = unsafe { bb_file_party_number(self.party.as_ptr()) }.number as u32;
         // SAFETY: the file is open.
         let life = unsafe { bb_pool_file_life(self.file.file.as_ptr(), number) }.number as u64;
         PartyId { number, life }
@@ -475,7 +487,7 @@ impl PoolFileParty<'_> {
     pub fn post(&self, slot: u32, bytes: &[u8]) -> Result<(), PoolFileError> {
         let (file, party) = (self.file.file.as_ptr(), self.party.as_ptr());
         // SAFETY: the party has joined.
-        let chunk = unsafe { bb_pool_party_allocate(party, bytes.len(), 1) };
+        let chunk = unsafe { bb_file_party_allocate(party, bytes.len(), 1) };
         PoolFileError::unless_ok(chunk.code)?;
         // SAFETY: the bucket is this party's, and has room for the bytes.
         unsafe { ptr::copy_nonoverlapping(bytes.as_ptr(), chunk.place.cast(), bytes.len()) };
@@ -483,7 +495,7 @@ impl PoolFileParty<'_> {
         let code = unsafe { bb_pool_file_post(file, party, slot, chunk.place, bytes.len()) };
         if code != ffi::OK {
             // SAFETY: the party holds the bucket still.
-            unsafe { bb_pool_file_deallocate(file, party, chunk.place) };
+            unsafe { bb_file_party_deallocate(party, chunk.place) };
         }
         PoolFileError::unless_ok(code)
     }
@@ -559,7 +571,7 @@ impl Drop for Message<'_> {
         // SAFETY: the party holds the bucket.
         unsafe {
             if self.is_done {
-                bb_pool_file_deallocate(file, party, place);
+                bb_file_party_deallocate(party, place);
             } else {
                 bb_pool_file_detach(file, party, place);
             }

@@ -3,6 +3,7 @@ use bb_memory::{Message, PartyId, PoolFile, PoolFileError, PoolFileOptions, Pool
 use core::ffi::{c_int, c_short, c_ulong};
 use std::env;
 use std::fs;
+use std::mem;
 use std::os::fd::{AsFd, AsRawFd};
 use std::path::PathBuf;
 use std::process::{self, Command};
@@ -61,6 +62,24 @@ fn a_message_is_taken_once_and_comes_again_unless_it_is_done_with() {
     assert_eq!((info.alive, info.held, info.detached, info.full_slots), (2, 0, 0, 0));
     drop((sender, receiver));
     assert_eq!(file.info().unwrap().alive, 0);
+}
+
+#[test]
+fn a_party_that_leaves_puts_back_the_messages_that_it_isnt_done_with() {
+    let path = Scratch::new("leave");
+    let file = PoolFile::open(&path.0, &OPTIONS).unwrap();
+    let (sender, receiver) = (file.join().unwrap(), file.join().unwrap());
+    sender.post(0, b"undone").unwrap();
+    sender.post(1, b"done").unwrap();
+    mem::forget(receiver.take(0).unwrap().unwrap());
+    let mut message = receiver.take(1).unwrap().unwrap();
+    message.done();
+    mem::forget(message);
+    assert_eq!(file.info().unwrap().held, 2);
+    drop(receiver);
+    let info = file.info().unwrap();
+    assert_eq!((info.held, info.detached, info.full_slots), (0, 1, 1));
+    assert_eq!(&*sender.take(0).unwrap().unwrap(), b"undone");
 }
 
 #[test]

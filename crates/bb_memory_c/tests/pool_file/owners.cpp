@@ -64,7 +64,7 @@ void run_waits(const char *path) {
     bb::pool_file_party party;
     EXPECT(party.give_all_back() == BB_UNINITIALIZED);
     EXPECT(file.open(path) == BB_OK && party.join(file) == BB_OK);
-    const auto number = static_cast<std::uint32_t>(bb_pool_party_number(party.get()).number);
+    const auto number = static_cast<std::uint32_t>(bb_file_party_number(party.get()).number);
     const bb_number life = file.life(number);
     EXPECT(life.code == BB_OK && file.is_alive(number, life.number).number == 1);
     EXPECT(file.is_alive(number, life.number + 2).number == 0);
@@ -75,7 +75,7 @@ void run_waits(const char *path) {
     EXPECT(file.wait_empty(0, 1) == BB_FILE_TIMED_OUT && file.wait_bucket(1) == BB_OK);
     EXPECT(party.take(0).done() == BB_OK && file.wait_empty(0, 1) == BB_OK);
     void *places[20];
-    EXPECT(bb_pool_party_take_many(party.get(), places, 20).number == 20);
+    EXPECT(bb_file_party_take_many(party.get(), places, 20).number == 20);
     EXPECT(file.wait_bucket(1) == BB_FILE_TIMED_OUT);
     EXPECT(party.give_all_back() == BB_OK && file.is_alive(number, life.number).number == 1);
     die(path);
@@ -171,6 +171,17 @@ void run_buckets(const bb::pool_file &file, bb::pool_file_party &sender,
         EXPECT(sender.attach(20).code() == BB_NOT_A_BUCKET && file.info()->held == 1);
     }
     EXPECT(file.info()->held == 0 && file.info()->detached == 0);
+    EXPECT(sender.post(0, 5) == BB_OK);
+    {
+        // The bucket of a message that the party isn't done with.
+        const bb_message taken = bb_pool_file_take(file.get(), receiver.get(), 0);
+        bb::pool_file_bucket undone(file.get(), receiver.get(), {taken.code, taken.place});
+        EXPECT(undone && undone.post(1, taken.len) == BB_FILE_NOT_DONE && undone);
+        EXPECT(undone.detach() == taken.number && !undone);
+        EXPECT(sender.attach(taken.number).code() == BB_NOT_HELD);
+    }
+    EXPECT(file.info()->held == 0 && file.info()->full_slots == 1);
+    EXPECT(receiver.take(0).done() == BB_OK && file.info()->full_slots == 0);
 }
 
 void run(const char *path) {
@@ -213,7 +224,7 @@ void run(const char *path) {
         EXPECT(file.info()->held == 0 && file.info()->detached == 0);
         run_buckets(file, sender, receiver);
         run_user(file, path);
-        EXPECT(bb_pool_party_take(sender.get()).code == BB_OK);
+        EXPECT(bb_file_party_take(sender.get()).code == BB_OK);
         bb::pool_file_party moved = std::move(sender);
         EXPECT(sender.get() == nullptr && moved.get() != nullptr && file.info()->held == 1);
         moved.leave();
