@@ -11,7 +11,7 @@ ghost use Rattle.std.specs.Prelude.{List, ℕ, ◌<◌, ◌↔◌, ◌≡◌, �
 
 use bb_memory_pool_machine::steps::PoolStep;
 
-/// The flag of a bucket: who may touch the bucket, or where it is sent.
+/// The flag of a bucket: who may touch the bucket, or to which slot it is sent.
 #[derive(Debug, Clone, Copy, PartialEq, Eq)]
 pub enum FileFlag {
     /// Nobody holds the bucket.
