@@ -34,7 +34,7 @@ pub enum Entry {
     In { slot: u32, length: u32 },
 }
 
-/// The word of a slot. Its lap is another one each time that the slot is emptied.
+/// The word of a slot, with a lap that whoever empties the slot writes anew.
 #[derive(Debug, Clone, Copy, PartialEq, Eq)]
 pub enum Slot {
     /// No message is in the slot.
