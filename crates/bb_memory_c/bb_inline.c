@@ -9,6 +9,7 @@
 #define bb_pool_get inline_pool_get
 #define bb_shared_pool_init_at_least inline_shared_pool_init_at_least
 #define bb_pool_party_get inline_pool_party_get
+#define bb_file_party_get inline_file_party_get
 #define bb_pool_file_name inline_pool_file_name
 #define bb_pool_file_text inline_pool_file_text
 
@@ -21,6 +22,7 @@
 #undef bb_pool_get
 #undef bb_shared_pool_init_at_least
 #undef bb_pool_party_get
+#undef bb_file_party_get
 #undef bb_pool_file_name
 #undef bb_pool_file_text
 
@@ -58,6 +60,10 @@ uint32_t bb_shared_pool_init_at_least(bb_shared_pool *pool, size_t bucket_size, 
 
 void *bb_pool_party_get(bb_pool_party *party) {
     return inline_pool_party_get(party);
+}
+
+void *bb_file_party_get(bb_file_party *party) {
+    return inline_file_party_get(party);
 }
 
 const char *bb_pool_file_name(uint32_t code) {
