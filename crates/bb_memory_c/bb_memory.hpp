@@ -172,6 +172,10 @@ public:
         return static_cast<error>(bb_bump_init(get(), start, size));
     }
 
+    // Frees all chunks. The next chunk is allocated at the start of the region again. The chunks
+    // must not be used anymore.
+    error reset() noexcept { return static_cast<error>(bb_bump_deallocate(get())); }
+
     // Returns the figures of the bump, or nothing if there is none.
     std::optional<bb_bump_figures> info() noexcept { return bb::info(get()); }
 };
@@ -477,20 +481,6 @@ inline std::size_t deallocate_many(bb_pool_party *to, void *const *places, std::
     return bb_pool_party_deallocate_many(to, places, count).number;
 }
 
-// Detaches the bucket at `place`, with a chunk of `len` bytes, into a `bb_detached`.
-inline error detach(bb_pool_party *from, const void *place, std::size_t len, detached &into) {
-    return static_cast<error>(bb_pool_party_detach(from, place, len, into.get()));
-}
-
-// Detaches the bucket at `place` and returns its number, by which another party attaches it.
-// Returns nothing if `from` doesn't hold the bucket, or if its pool has no other party.
-inline std::optional<std::uint32_t> detach_number(bb_pool_party *from, const void *place) {
-    bb_number number = bb_pool_party_detach_number(from, place);
-    if (number.code != BB_OK)
-        return std::nullopt;
-    return static_cast<std::uint32_t>(number.number);
-}
-
 //
 // VALUES IN BUCKETS
 //
@@ -525,22 +515,9 @@ unique<void, Handle> take(Handle *from) {
     return unique<void, Handle>(given.code == BB_OK ? given.place : nullptr, {from});
 }
 
-// Attaches the bucket that is in `from`. The pointer is empty if the pool refuses.
-inline unique<void, bb_pool_party> attach(bb_pool_party *to, detached &from) {
-    bb_chunk given = bb_pool_party_attach(to, from.get());
-    return unique<void, bb_pool_party>(given.code == BB_OK ? given.place : nullptr, {to});
-}
-
-// Attaches the bucket with this number if party `from` has detached it by `detach_number`. If
-// several parties call this, at most one gets the bucket; the others get an empty pointer.
-inline unique<void, bb_pool_party> attach_number(bb_pool_party *to, std::uint32_t number,
-                                                 std::uint32_t from) {
-    bb_chunk given = bb_pool_party_attach_number(to, number, from);
-    return unique<void, bb_pool_party>(given.code == BB_OK ? given.place : nullptr, {to});
-}
-
 // Makes a T in a bucket of a pool or of a party's pool, whose handle has to outlive the pointer.
-// The pointer is empty if the pool refuses. If T's constructor throws, the bucket is freed.
+// An aggregate, such as a struct without constructors, gets its members in their order. The pointer
+// is empty if the pool refuses. If T's constructor throws, the bucket is freed.
 template<class T, class Handle, class... Arguments>
 std::enable_if_t<has_buckets<Handle>, unique<T, Handle>> make(Handle *from,
                                                               Arguments &&...arguments) {
@@ -548,88 +525,217 @@ std::enable_if_t<has_buckets<Handle>, unique<T, Handle>> make(Handle *from,
     if (given.code != BB_OK)
         return unique<T, Handle>(nullptr, {from});
     unique<void, Handle> bucket(given.place, {from});
-    T *made = ::new (bucket.get()) T(std::forward<Arguments>(arguments)...);
+    T *made;
+    if constexpr (std::is_constructible_v<T, Arguments...>)
+        made = ::new (bucket.get()) T(std::forward<Arguments>(arguments)...);
+    else
+        made = ::new (bucket.get()) T{std::forward<Arguments>(arguments)...};
     bucket.release();
     return unique<T, Handle>(made, {from});
+}
+
+//
+// MESSAGES: a bucket that goes from one party to another, with the value in it.
+//
+
+// A call that detaches a bucket takes the pointer that owns the bucket, and empties it. So nobody
+// destroys the value on its way: whoever attaches the bucket owns the value. If the call is
+// refused, the pointer keeps both. A bucket that no such pointer owns is detached by the functions
+// of bb_memory.h.
+
+// Detaches the bucket of `from`, with its T, into a `bb_detached`. Returns `not_held` if `from` is
+// empty, and otherwise the codes of `bb_pool_party_detach`.
+template<class T>
+std::enable_if_t<!std::is_void_v<T>, error> detach(unique<T, bb_pool_party> &from, detached &into) {
+    if (!from)
+        return error::not_held;
+    bb_pool_party *party = from.get_deleter().to;
+    error code = static_cast<error>(bb_pool_party_detach(party, from.get(), sizeof(T), into.get()));
+    if (code == error::ok)
+        static_cast<void>(from.release());
+    return code;
+}
+
+// Detaches the bucket of `from`, with a chunk of `len` bytes, into a `bb_detached`. Returns
+// `not_held` if `from` is empty, and otherwise the codes of `bb_pool_party_detach`.
+inline error detach(unique<void, bb_pool_party> &from, std::size_t len, detached &into) {
+    if (!from)
+        return error::not_held;
+    bb_pool_party *party = from.get_deleter().to;
+    error code = static_cast<error>(bb_pool_party_detach(party, from.get(), len, into.get()));
+    if (code == error::ok)
+        static_cast<void>(from.release());
+    return code;
+}
+
+// Detaches the bucket of `from`, with its T, unless that is `void`, and returns the bucket's
+// number, by which another party attaches it. Returns nothing if `from` is empty, if its party
+// doesn't hold the bucket, or if the pool has no other party.
+template<class T>
+std::optional<std::uint32_t> detach_number(unique<T, bb_pool_party> &from) {
+    if (!from)
+        return std::nullopt;
+    bb_number number = bb_pool_party_detach_number(from.get_deleter().to, from.get());
+    if (number.code != BB_OK)
+        return std::nullopt;
+    static_cast<void>(from.release());
+    return static_cast<std::uint32_t>(number.number);
+}
+
+// Attaches the bucket that is in `from`. The sender has made a T in it, unless T is `void`. The
+// pointer is empty if the pool refuses, or if the chunk in `from` doesn't have the size of a T:
+// then the bucket stays in `from`.
+template<class T = void>
+unique<T, bb_pool_party> attach(bb_pool_party *to, detached &from) {
+    if constexpr (!std::is_void_v<T>)
+        if (from.len() != sizeof(T))
+            return unique<T, bb_pool_party>(nullptr, {to});
+    bb_chunk given = bb_pool_party_attach(to, from.get());
+    void *place = given.code == BB_OK ? given.place : nullptr;
+    return unique<T, bb_pool_party>(static_cast<T *>(place), {to});
+}
+
+// Attaches the bucket with this number if party `from` has detached it by `detach_number`. The
+// sender has made a T in it, unless T is `void`. If several parties call this, at most one gets the
+// bucket; the others get an empty pointer.
+template<class T = void>
+unique<T, bb_pool_party> attach_number(bb_pool_party *to, std::uint32_t number,
+                                       std::uint32_t from) {
+    bb_chunk given = bb_pool_party_attach_number(to, number, from);
+    void *place = given.code == BB_OK ? given.place : nullptr;
+    return unique<T, bb_pool_party>(static_cast<T *>(place), {to});
 }
 
 //
 // MEMORY RESOURCES
 //
 
-// A resource over a bump or a party's bump, whose handle has to outlive it. Deallocating a chunk
-// does nothing.
-template<class Handle>
-class bump_resource final : public std::pmr::memory_resource {
-public:
-    // Makes a resource over the bump of `from`.
-    explicit bump_resource(Handle *from) noexcept : from_(from) {}
+// A resource serves requests from a handle, which has to outlive it. If the handle refuses a
+// request, the upstream resource serves it, and throws if it can't. Two resources over one handle
+// are equal if their upstream resources are: then one may free what the other allocated, and
+// containers move their elements from one to the other without a copy. A program without RTTI
+// finds a resource equal only to itself.
 
-private:
-    void *do_allocate(std::size_t size, std::size_t align) override {
-        bb_chunk given = bb::allocate(from_, size == 0 ? 1 : size, align);
-        return given.code == BB_OK ? given.place
-                                   : std::pmr::null_memory_resource()->allocate(size, align);
+// As long as a chunk is in use, the handle isn't used for another region.
+
+namespace detail {
+
+// What all resources have: the handle, the upstream resource, and where the handle's memory lies.
+template<class Handle>
+class resource : public std::pmr::memory_resource {
+protected:
+    resource(Handle *from, std::pmr::memory_resource *upstream) noexcept
+        : from_(from), upstream_(upstream) {
+        find();
     }
 
-    void do_deallocate(void *, std::size_t, std::size_t) noexcept override {}
+    // Returns the place of a chunk that the handle has allocated.
+    void *allocated(void *place) noexcept {
+        if (!has(place))
+            find();
+        return place;
+    }
 
-    bool do_is_equal(const std::pmr::memory_resource &other) const noexcept override {
-        return this == &other;
+    // Returns whether a place lies in the handle's memory, if a call could find out where that is:
+    // the handle was not empty then.
+    bool has(const void *place) noexcept {
+        if (length_ == 0)
+            find();
+        return reinterpret_cast<std::uintptr_t>(place) - first_ < length_;
     }
 
     Handle *from_;
+    std::pmr::memory_resource *upstream_;
+
+private:
+    // Finds where the handle's memory lies, unless the handle is empty.
+    void find() noexcept {
+        if (auto of = bb::info(from_)) {
+            first_ = of->start_address;
+            length_ = length(*of);
+        }
+    }
+
+    // Returns how many bytes the region of a bump has.
+    static std::uintptr_t length(const bb_bump_figures &of) noexcept { return of.total_space; }
+
+    // Returns how many bytes the buckets of a pool have.
+    template<class Figures>
+    static std::uintptr_t length(const Figures &of) noexcept {
+        return BB_STRIDE(of.bucket_size, of.max_alignment) * of.number_of_buckets;
+    }
+
+    bool do_is_equal(const std::pmr::memory_resource &other) const noexcept override {
+#ifdef __cpp_rtti
+        const auto *same = dynamic_cast<const resource *>(&other);
+        return same != nullptr && same->from_ == from_ && same->upstream_->is_equal(*upstream_);
+#else
+        return this == &other;
+#endif
+    }
+
+    std::uintptr_t first_ = 0;
+    std::uintptr_t length_ = 0;
+};
+
+}  // namespace detail
+
+// A resource over a bump or a party's bump. Deallocating a chunk of the bump does nothing. A place
+// in the bump's region is never passed upstream, even if the bump has been reset or the party has
+// left.
+template<class Handle>
+class bump_resource final : public detail::resource<Handle> {
+    static_assert(!has_buckets<Handle>, "pool_resource is the one that frees buckets");
+
+public:
+    // Makes a resource over the bump of `from`. Without `upstream` it throws if the bump refuses.
+    explicit bump_resource(Handle *from, std::pmr::memory_resource *upstream =
+                                             std::pmr::null_memory_resource()) noexcept
+        : detail::resource<Handle>(from, upstream) {}
+
+private:
+    void *do_allocate(std::size_t size, std::size_t align) override {
+        bb_chunk given = bb::allocate(this->from_, size == 0 ? 1 : size, align);
+        if (given.code != BB_OK)
+            return this->upstream_->allocate(size, align);
+        return this->allocated(given.place);
+    }
+
+    void do_deallocate(void *place, std::size_t size, std::size_t align) override {
+        if (!this->has(place))
+            this->upstream_->deallocate(place, size, align);
+    }
 };
 
 template<class Handle>
 bump_resource(Handle *) -> bump_resource<Handle>;
 
-// A resource over a pool or a party's pool, whose handle has to outlive it. The upstream resource
-// serves what the pool refuses, and throws if it can't. A place in the pool's buckets is never
-// passed upstream, even if the pool refuses to free it or the party has left.
 template<class Handle>
-class pool_resource final : public std::pmr::memory_resource {
+bump_resource(Handle *, std::pmr::memory_resource *) -> bump_resource<Handle>;
+
+// A resource over a pool or a party's pool. A place in the pool's buckets is never passed upstream,
+// even if the pool refuses to free it or the party has left. Pools with buckets of several sizes
+// are chained: each one is the upstream resource of the one with the next smaller buckets.
+template<class Handle>
+class pool_resource final : public detail::resource<Handle> {
 public:
     // Makes a resource over the pool of `from`. Without `upstream` it throws if the pool refuses.
     explicit pool_resource(Handle *from, std::pmr::memory_resource *upstream =
                                              std::pmr::null_memory_resource()) noexcept
-        : from_(from), upstream_(upstream) {}
+        : detail::resource<Handle>(from, upstream) {}
 
 private:
     void *do_allocate(std::size_t size, std::size_t align) override {
-        bb_chunk given = bb::allocate(from_, size, align);
+        bb_chunk given = bb::allocate(this->from_, size, align);
         if (given.code != BB_OK)
-            return upstream_->allocate(size, align);
-        if (!has(given.place))
-            find_buckets();
-        return given.place;
+            return this->upstream_->allocate(size, align);
+        return this->allocated(given.place);
     }
 
     void do_deallocate(void *place, std::size_t size, std::size_t align) override {
-        if (bb::deallocate(from_, place) != error::ok && !has(place))
-            upstream_->deallocate(place, size, align);
+        if (bb::deallocate(this->from_, place) != error::ok && !this->has(place))
+            this->upstream_->deallocate(place, size, align);
     }
-
-    // Returns whether a place lies in the pool's buckets, if one was allocated.
-    bool has(const void *place) const noexcept {
-        return reinterpret_cast<std::uintptr_t>(place) - first_ < length_;
-    }
-
-    // Finds where the pool's buckets lie.
-    void find_buckets() noexcept {
-        auto of = bb::info(from_);
-        first_ = of->start_address;
-        length_ = BB_STRIDE(of->bucket_size, of->max_alignment) * of->number_of_buckets;
-    }
-
-    bool do_is_equal(const std::pmr::memory_resource &other) const noexcept override {
-        return this == &other;
-    }
-
-    Handle *from_;
-    std::pmr::memory_resource *upstream_;
-    std::uintptr_t first_ = 0;
-    std::uintptr_t length_ = 0;
 };
 
 template<class Handle>

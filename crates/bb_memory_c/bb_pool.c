@@ -21,7 +21,7 @@ enum {
 };
 
 static const char USAGE[] =
-    "usage: bb-pool [--reap [--detached] [--left]] [--watch] FILE\n"
+    "usage: bb-pool [--reap [--detached] [--left]] [--watch] [--json] FILE\n"
     "\n"
     "Shows the shared pool in FILE: its figures, its parties, its full slots, and a map of its\n"
     "buckets. Each party is a letter, A for party 0, in lower case if the party is dead.\n"
@@ -30,7 +30,11 @@ static const char USAGE[] =
     "  --detached  with --reap: also frees what dead parties detached, if it is in no slot\n"
     "  --left      with --reap: the same for parties that have left\n"
     "  --watch     shows the pool every second, until it is interrupted\n"
-    "  --help      shows this text\n"
+    "  --json      prints one line of JSON for each look, with all parties and the full slots, "
+    "and\n"
+    "              one for what --reap frees\n"
+    "  --version   prints the version\n"
+    "  -h, --help  shows this text\n"
     "\n"
     "The status is 0, or 1 if the file can't be opened, or 2 if the arguments are wrong.\n";
 
@@ -148,7 +152,43 @@ static void show_map(bb_pool_file *file, const bb_pool_file_options *options,
         printf("and %u more buckets\n", options->buckets - shown);
 }
 
-static uint32_t show(bb_pool_file *file, const char *path) {
+static void print_parties(const bb_pool_file_options *options, const struct parties *parties) {
+    printf(",\"parties\":[");
+    for (uint32_t party = 0; party < options->parties; party++)
+        printf("%s{\"party\":%u,\"alive\":%s,\"held\":%u,\"detached\":%u}", party > 0 ? "," : "",
+               party, parties->alive[party] ? "true" : "false", parties->held[party],
+               parties->detached[party]);
+    printf("]");
+}
+
+static void print_slots(bb_pool_file *file, const bb_pool_file_options *options) {
+    const char *before = "";
+    printf(",\"slots\":%u,\"full_slots\":[", options->slots);
+    for (uint32_t slot = 0; slot < options->slots; slot++) {
+        const bb_message message = bb_pool_file_look(file, slot);
+        if (message.code != BB_OK)
+            continue;
+        printf("%s{\"slot\":%u,\"bucket\":%u,\"bytes\":%zu}", before, slot, message.number,
+               message.len);
+        before = ",";
+    }
+    printf("]");
+}
+
+// Prints what `show` shows as one line of JSON, but for the map.
+static void print_json(bb_pool_file *file, const bb_pool_file_figures *figures,
+                       const struct parties *parties) {
+    const bb_pool_file_options *options = &figures->options;
+    printf("{\"buckets\":%u,\"bucket_size\":%zu,\"bucket_align\":%zu,\"user_bytes\":%zu",
+           options->buckets, options->bucket_size, options->bucket_align, options->user_bytes);
+    printf(",\"held\":%u,\"lost\":%u,\"detached\":%u,\"wrong\":%u,\"alive\":%u", figures->held,
+           figures->lost, figures->detached, figures->wrong, figures->alive);
+    print_parties(options, parties);
+    print_slots(file, options);
+    printf("}\n");
+}
+
+static uint32_t show(bb_pool_file *file, const char *path, bool as_json) {
     bb_pool_file_figures figures;
     struct parties parties;
     uint32_t code = bb_pool_file_info(file, &figures);
@@ -162,10 +202,14 @@ static uint32_t show(bb_pool_file *file, const char *path) {
         code = BB_MALLOC_REFUSED;
     } else {
         count_buckets(file, options, &parties);
-        show_figures(path, &figures);
-        show_parties(options, &parties);
-        show_slots(file, &figures);
-        show_map(file, options, &parties);
+        if (as_json) {
+            print_json(file, &figures, &parties);
+        } else {
+            show_figures(path, &figures);
+            show_parties(options, &parties);
+            show_slots(file, &figures);
+            show_map(file, options, &parties);
+        }
     }
     free(parties.alive);
     free(parties.held);
@@ -174,11 +218,11 @@ static uint32_t show(bb_pool_file *file, const char *path) {
 }
 
 // Shows the pool every second.
-static uint32_t watch(bb_pool_file *file, const char *path) {
+static uint32_t watch(bb_pool_file *file, const char *path, bool as_json) {
     for (;;) {
-        if (isatty(STDOUT_FILENO))
+        if (!as_json && isatty(STDOUT_FILENO))
             printf("\033[H\033[J");
-        const uint32_t code = show(file, path);
+        const uint32_t code = show(file, path, as_json);
         if (code != BB_OK)
             return code;
         if (fflush(stdout) != 0)
@@ -187,11 +231,11 @@ static uint32_t watch(bb_pool_file *file, const char *path) {
     }
 }
 
-static uint32_t reap(bb_pool_file *file, uint32_t what) {
+static uint32_t reap(bb_pool_file *file, uint32_t what, bool as_json) {
     uint32_t given_back = 0;
     const uint32_t code = bb_pool_file_reap(file, what, &given_back);
     if (code == BB_OK)
-        printf("freed: %u\n", given_back);
+        printf(as_json ? "{\"freed\":%u}\n" : "freed: %u\n", given_back);
     return code;
 }
 
@@ -200,10 +244,15 @@ int main(int argc, char **argv) {
     bool reaps = false;
     uint32_t what = BB_REAP_HELD;
     bool watches = false;
+    bool as_json = false;
     bool is_right = true;
     for (int at = 1; at < argc; at++) {
-        if (strcmp(argv[at], "--help") == 0) {
+        if (strcmp(argv[at], "--help") == 0 || strcmp(argv[at], "-h") == 0) {
             fputs(USAGE, stdout);
+            return 0;
+        }
+        if (strcmp(argv[at], "--version") == 0) {
+            puts("bb-pool " BB_VERSION);
             return 0;
         }
         if (strcmp(argv[at], "--reap") == 0)
@@ -214,6 +263,8 @@ int main(int argc, char **argv) {
             what |= BB_REAP_LEFT;
         else if (strcmp(argv[at], "--watch") == 0)
             watches = true;
+        else if (strcmp(argv[at], "--json") == 0)
+            as_json = true;
         else if (argv[at][0] == '-' || path != NULL)
             is_right = false;
         else
@@ -230,9 +281,9 @@ int main(int argc, char **argv) {
     if (code != BB_OK)
         return fail(path, code);
     if (reaps)
-        code = reap(file, what);
+        code = reap(file, what, as_json);
     if (code == BB_OK)
-        code = watches ? watch(file, path) : show(file, path);
+        code = watches ? watch(file, path, as_json) : show(file, path, as_json);
     if (code != BB_OK)
         return fail(path, code);
     bb_pool_file_close(file);

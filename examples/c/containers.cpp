@@ -7,6 +7,7 @@
 #include <deque>
 #include <list>
 #include <map>
+#include <optional>
 #include <stdexcept>
 #include <string>
 #include <thread>
@@ -60,6 +61,50 @@ void strings_in_a_bump() {
     expect(bump.info()->used_space > 20 * 56, "the bump has them");
 }
 
+// The heap, which counts the chunks that are in use.
+struct counting : std::pmr::memory_resource {
+    int in_use = 0;
+
+    void *do_allocate(std::size_t size, std::size_t align) override {
+        in_use++;
+        return std::pmr::new_delete_resource()->allocate(size, align);
+    }
+
+    void do_deallocate(void *place, std::size_t size, std::size_t align) override {
+        in_use--;
+        std::pmr::new_delete_resource()->deallocate(place, size, align);
+    }
+
+    bool do_is_equal(const std::pmr::memory_resource &other) const noexcept override {
+        return this == &other;
+    }
+};
+
+// A bump serves one request after another, and is reset after each. What it can't serve comes from
+// the heap.
+void requests_in_a_bump() {
+    bb::bump bump;
+    expect(bump.reset() == bb::error::uninitialized, "there is no bump");
+    expect_ok(bump.init(region, 256));
+    counting heap;
+    bb::bump_resource request(bump.get(), &heap);
+    for (int round = 0; round < 10; round++) {
+        {
+            std::pmr::vector<int> few({1, 2, 3}, &request);
+            expect(heap.in_use == 0 && bump.info()->used_space == 3 * sizeof(int), "it has room");
+            std::pmr::vector<int> many(100, round, &request);
+            expect(heap.in_use == 1 && many[99] == round, "the heap serves what is too much");
+        }
+        expect(heap.in_use == 0, "the heap gets back what it gave");
+        expect_ok(bump.reset());
+        expect(bump.info()->used_space == 0, "the bump is empty again");
+    }
+    void *last = request.allocate(8, 8);
+    expect(bump.destroy() == bb::error::ok && heap.in_use == 0, "the bump served it");
+    request.deallocate(last, 8, 8);
+    expect(heap.in_use == 0, "the heap gets no chunk of a bump that is gone");
+}
+
 // Nodes of one size are stored in buckets of a pool. Requests that the pool can't serve go
 // upstream.
 void nodes_in_a_pool() {
@@ -87,6 +132,78 @@ void nodes_in_a_pool() {
         grows.push_back(number);
     expect(grows[999] == 999 && pool.info()->held_buckets == 0,
            "a vector that outgrew its bucket freed it");
+}
+
+// Two resources over one handle are equal, so a list moves its nodes from one to the other.
+void resources_over_one_handle() {
+    bb::pool pool;
+    bb::pool other;
+    expect_ok(pool.init(bucket, bucket, region, 8 * bucket));
+    expect_ok(other.init(bucket, bucket, region + 8 * bucket, 8 * bucket));
+    counting heap;
+    bb::pool_resource one(pool.get());
+    bb::pool_resource same(pool.get());
+    bb::pool_resource with_heap(pool.get(), &heap);
+    bb::pool_resource elsewhere(other.get());
+    expect(one == same && one == bb::pool_resource(one), "the handle is the same");
+    expect(one != with_heap && one != elsewhere, "another upstream or handle is another memory");
+    expect(one != *std::pmr::new_delete_resource(), "the heap is another memory");
+    std::pmr::list<int> from({1, 2, 3}, &one);
+    const int *first = &from.front();
+    std::pmr::list<int> to(&same);
+    to = std::move(from);
+    expect(&to.front() == first && pool.info()->held_buckets == 3, "a node stays where it is");
+    std::pmr::list<int> far(&elsewhere);
+    far = std::move(to);
+    expect(&far.front() != first && far.size() == 3, "a node of another pool is another one");
+
+    bb::shared_pool shared;
+    bb::pool_party party;
+    expect_ok(shared.init(bucket, bucket, region + 16 * bucket, 8 * bucket, 1));
+    expect_ok(shared.join(party));
+    bb::pool_resource gives(party.get(), &heap);
+    bb::pool_resource frees(party.get(), &heap);
+    void *node = gives.allocate(1, 1);
+    party.leave();
+    frees.deallocate(node, 1, 1);
+    expect(gives == frees && heap.in_use == 0, "the heap gets no bucket of a party that left");
+}
+
+// A chain of pools: each request goes to the smallest buckets that are large enough and free, and
+// the heap serves what is too large for all of them. Containers that lie in others use it, too.
+void containers_in_containers() {
+    bb::pool small;
+    bb::pool large;
+    expect_ok(small.init(bucket, bucket, region, 32 * bucket));
+    expect_ok(large.init(8 * bucket, bucket, region + 32 * bucket, 64 * bucket));
+    {
+        counting heap;
+        bb::pool_resource to_large(large.get(), &heap);
+        bb::pool_resource nodes(small.get(), &to_large);
+        using words = std::pmr::list<std::pmr::string>;
+        std::pmr::vector<words> pages(&nodes);
+        pages.reserve(4);
+        expect(large.info()->held_buckets == 1 && small.info()->held_buckets == 0,
+               "four lists don't fit in a small bucket");
+        words &page = pages.emplace_back();
+        page.emplace_back("short");
+        expect(small.info()->held_buckets == 1, "a node has a small bucket");
+        page.emplace_back("a text that has to be longer than a small bucket, which has 64 bytes");
+        expect(small.info()->held_buckets == 2 && large.info()->held_buckets == 2,
+               "and a long text a large one");
+        page.emplace_back(1000, 'x');
+        expect(heap.in_use == 1, "what is too large comes from the heap");
+        expect(page.back().get_allocator().resource() == &nodes, "a text in a list in a vector");
+        while (small.info()->held_buckets < 32)
+            page.emplace_back();
+        page.emplace_back();
+        expect(large.info()->held_buckets == 3, "a full pool passes a request on");
+        pages.clear();
+        expect(small.info()->held_buckets == 0 && large.info()->held_buckets == 1 &&
+                   heap.in_use == 0,
+               "each chunk went back to where it came from");
+    }
+    expect(large.info()->held_buckets == 0, "the vector's, too");
 }
 
 // Keeping the address of a handle is right, since owners and parties don't move.
@@ -133,6 +250,12 @@ struct message {
 
 int message::alive = 0;
 
+// A struct without constructors.
+struct point {
+    int x;
+    double y;
+};
+
 void values_in_a_pool() {
     bb::pool pool;
     expect_ok(pool.init(BB_OF(message), region, sizeof(message)));
@@ -156,6 +279,11 @@ void values_in_a_pool() {
         thrown = true;
     }
     expect(thrown && pool.info()->held_buckets == 0, "a constructor that throws loses no bucket");
+
+    bb::pool points;
+    expect_ok(points.init(BB_OF(point), region + bucket, sizeof(point)));
+    auto made = bb::make<point>(points.get(), 3, 0.5);
+    expect(made && made->x == 3 && made->y == 0.5, "a struct gets its members in their order");
 }
 
 // Threads come and go: each has a party, which leaves when the thread ends, even with buckets that
@@ -231,24 +359,6 @@ void values_in_threads() {
     expect(pool.info()->held_buckets == 0, "each bucket is back");
 }
 
-// The heap, which counts the chunks that are freed.
-struct counting : std::pmr::memory_resource {
-    int returned = 0;
-
-    void *do_allocate(std::size_t size, std::size_t align) override {
-        return std::pmr::new_delete_resource()->allocate(size, align);
-    }
-
-    void do_deallocate(void *place, std::size_t size, std::size_t align) override {
-        returned++;
-        std::pmr::new_delete_resource()->deallocate(place, size, align);
-    }
-
-    bool do_is_equal(const std::pmr::memory_resource &other) const noexcept override {
-        return this == &other;
-    }
-};
-
 // A chunk of the pool is never freed upstream: not if another party holds it, and not if the party
 // has left.
 void places_of_the_pool() {
@@ -269,9 +379,9 @@ void places_of_the_pool() {
     nodes.deallocate(first, 1, 1);
     party.leave();
     nodes.deallocate(last, 1, 1);
-    expect(heap.returned == 0, "upstream gets no bucket");
+    expect(heap.in_use == 1, "upstream gets no bucket");
     nodes.deallocate(large, 2 * bucket, 1);
-    expect(heap.returned == 1 && *value == 7, "upstream gets what it gave");
+    expect(heap.in_use == 0 && *value == 7, "upstream gets what it gave");
 }
 
 // A reader frees a detached bucket without attaching it, and the writer allocates it again.
@@ -296,25 +406,28 @@ void detached_buckets_come_back() {
         }
     });
     for (int round = 1; round <= 100; round++) {
-        bb_chunk given = bb::allocate(writer.get(), sizeof(int), alignof(int));
-        for (; given.code != BB_OK; given = bb::allocate(writer.get(), sizeof(int), alignof(int)))
+        auto value = bb::make<int>(writer.get(), round);
+        for (; !value; value = bb::make<int>(writer.get(), round))
             std::this_thread::yield();
-        ::new (given.place) int(round);
         auto holder = pool.holder(0);
         expect(holder && holder->state == BB_HELD && holder->party == writer.number() &&
                    !pool.holder(1),
                "the writer holds it");
-        expect_ok(bb::detach(writer.get(), given.place, sizeof(int), detached));
+        expect_ok(bb::detach(value, detached));
         sent = round;
     }
     reading.join();
     auto last = bb::make<int>(writer.get(), 7);
-    expect_ok(bb::detach(writer.get(), last.release(), sizeof(int), detached));
+    expect_ok(bb::detach(last, detached));
     bb::detached moved(std::move(detached));
     expect(moved.len() == sizeof(int) && !detached.len(), "a bucket moves with its bb_detached");
     if (auto attached = bb::attach(reader.get(), moved)) {
         expect(*static_cast<int *>(attached.get()) == 7, "it has what was written");
-        expect_ok(bb::detach(reader.get(), attached.release(), sizeof(int), moved));
+        expect(bb::detach(attached, bucket + 1, moved) == bb::error::size_too_large && attached,
+               "a pointer keeps what can't be sent");
+        expect_ok(bb::detach(attached, sizeof(int), moved));
+        expect(!attached && bb::detach(attached, 0, moved) == bb::error::not_held,
+               "an empty pointer sends nothing");
     }
     expect(!bb::attach(reader.get(), detached), "nothing is in an empty one");
     writer.leave();
@@ -324,6 +437,49 @@ void detached_buckets_come_back() {
     expect(pool.holder(0)->state == BB_DETACHED, "it is detached without its parties, too");
     expect_ok(reader.return_detached(moved));
     expect(pool.holder(0)->state == BB_FREE, "it is free");
+}
+
+// A value is sent as it is: it is neither destroyed nor copied on its way, and whoever attaches it
+// destroys it.
+void values_are_sent() {
+    bb::shared_pool pool;
+    expect_ok(pool.init(bucket, bucket, region, 2 * bucket, 2));
+    bb::pool_party writer;
+    bb::pool_party reader;
+    expect_ok(pool.join(writer));
+    expect_ok(pool.join(reader));
+    bb::detached detached;
+    bb::detached full;
+    expect_ok(detached.init());
+    expect_ok(full.init());
+    {
+        auto value = bb::make<message>(writer.get(), 7);
+        expect(bb::detach(value, full) == bb::error::ok && !value, "the writer has sent it");
+        expect(bb::detach(value, detached) == bb::error::not_held, "it can't be sent again");
+        auto other = bb::make<message>(writer.get(), 8);
+        expect(bb::detach(other, full) == bb::error::detached_full && other->number == 8,
+               "what can't be sent stays");
+    }
+    expect(message::alive == 1, "one of the two is on its way");
+    expect(!bb::attach<char>(reader.get(), full) && full.len() == sizeof(message),
+           "it isn't a char");
+    auto got = bb::attach<message>(reader.get(), full);
+    expect(got && got->number == 7 && message::alive == 1, "the reader has it");
+    const std::optional<std::uint32_t> number = bb::detach_number(got);
+    expect(number && !got && !bb::detach_number(got), "the reader sends it by its number");
+    auto back = bb::attach_number<message>(writer.get(), *number, *reader.number());
+    expect(back && back->number == 7, "the writer has it again");
+    back.reset();
+    expect(message::alive == 0 && pool.info()->held_buckets == 0, "and destroys it");
+
+    bb::shared_pool of_one;
+    bb::pool_party only;
+    expect_ok(of_one.init(bucket, bucket, region + 2 * bucket, bucket, 1));
+    expect_ok(of_one.join(only));
+    auto kept = bb::make<message>(only.get(), 9);
+    expect(!bb::detach_number(kept) && kept->number == 9, "nobody could attach it");
+    bb::unique<message, bb_pool_party> never;
+    expect(bb::detach(never, detached) == bb::error::not_held, "a pointer may have no party");
 }
 
 // A writer sends buckets by their numbers. Of two readers that try, exactly one gets each bucket.
@@ -346,8 +502,8 @@ void buckets_go_by_number() {
             for (int round = 1; round <= rounds; round++) {
                 while (sent.load(std::memory_order_relaxed) < round)
                     std::this_thread::yield();
-                if (auto got = bb::attach_number(reader.get(), 0, 2)) {
-                    expect(*static_cast<int *>(got.get()) == round, "it is what the writer wrote");
+                if (auto got = bb::attach_number<int>(reader.get(), 0, 2)) {
+                    expect(*got == round, "it is what the writer wrote");
                     read++;
                 }
                 done.fetch_add(1, std::memory_order_relaxed);
@@ -355,7 +511,7 @@ void buckets_go_by_number() {
         });
     for (int round = 1; round <= rounds; round++) {
         auto value = bb::make<int>(writer.get(), round);
-        expect(value && bb::detach_number(writer.get(), value.release()) == 0u, "it is on its way");
+        expect(bb::detach_number(value) == 0u, "it is on its way");
         sent.store(round, std::memory_order_relaxed);
         while (done.load(std::memory_order_relaxed) != 2 * round)
             std::this_thread::yield();
@@ -363,7 +519,6 @@ void buckets_go_by_number() {
     for (auto &thread : threads)
         thread.join();
     expect(read == rounds, "each bucket went to one reader");
-    expect(!bb::detach_number(writer.get(), region), "a bucket that isn't held stays");
     expect(!bb::attach_number(writer.get(), 0, 2), "a bucket that isn't detached stays");
 }
 
@@ -422,13 +577,17 @@ void words_in_a_shared_bump() {
 
 int main() {
     strings_in_a_bump();
+    requests_in_a_bump();
     nodes_in_a_pool();
+    resources_over_one_handle();
+    containers_in_containers();
     owners_in_a_container();
     values_in_a_pool();
     lists_in_threads();
     values_in_threads();
     places_of_the_pool();
     detached_buckets_come_back();
+    values_are_sent();
     buckets_go_by_number();
     parties_are_forgotten();
     buckets_in_a_cache();

@@ -35,8 +35,8 @@ use core::ptr::NonNull;
 ///
 /// A chunk that `allocate` returns has at least `layout.size()` bytes and begins at a multiple of
 /// `layout.align()`. Its bytes may be read and written through the returned pointer, and are in no
-/// other chunk, until the chunk is freed by an `unsafe` call or the allocator is dropped. Moving
-/// the allocator changes nothing.
+/// other chunk, until the chunk is freed by an `unsafe` call, or by a call that borrows the allocator
+/// mutably, or the allocator is dropped. Moving the allocator changes nothing.
 pub unsafe trait BaseAllocator {
     /// Allocates a chunk of at least `layout.size()` bytes at a multiple of `layout.align()`. Its
     /// bytes have the values that the region had there.

@@ -1,7 +1,7 @@
 //! Values in buckets, for use without `unsafe`.
 use crate::error::{AllocationError, no_such_answer};
 use crate::owned::{Shared, lock};
-use crate::{Pool, PoolAllocator, PoolParty, ffi};
+use crate::{Pool, PoolAllocator, PoolParty, SharedPoolAllocator, ffi};
 use core::alloc::Layout;
 use core::error::Error;
 use core::fmt;
@@ -123,6 +123,37 @@ impl<'pool, T, P: Pool> PoolBox<'pool, T, P> {
         Ok(PoolBox { value: place.cast(), bucket, owned: PhantomData })
     }
 
+    /// Makes a value for a bucket that was allocated before. So no value is made if the pool
+    /// refuses, and a large one needn't be moved into its bucket.
+    ///
+    /// ```
+    /// use bb_memory::{AllocationError, PoolAllocator, PoolBox};
+    /// use core::alloc::Layout;
+    ///
+    /// let pool = PoolAllocator::with_buckets(Layout::new::<[u64; 512]>(), 1)?;
+    /// let zeros = PoolBox::try_new_with(&pool, || [0u64; 512])?;
+    /// assert_eq!(zeros[511], 0);
+    ///
+    /// let refused = PoolBox::<[u64; 512]>::try_new_with(&pool, || unreachable!());
+    /// assert_eq!(refused.unwrap_err(), AllocationError::OutOfMemory);
+    /// # Ok::<(), Box<dyn std::error::Error>>(())
+    /// ```
+    ///
+    /// # Errors
+    ///
+    /// The errors of [`try_new`](Self::try_new).
+    ///
+    /// # Panics
+    ///
+    /// Panics if `make` does. Then the bucket is freed.
+    pub fn try_new_with(pool: &'pool P, make: impl FnOnce() -> T) -> Result<Self, AllocationError> {
+        let place = pool.allocate(Layout::new::<T>())?.cast::<T>();
+        let bucket = Bucket { pool, place: place.cast() };
+        // SAFETY: the chunk has the layout of a `T`, and nobody else uses it.
+        unsafe { place.write(make()) };
+        Ok(PoolBox { value: place, bucket, owned: PhantomData })
+    }
+
     /// Moves the value out, and frees the bucket.
     #[must_use]
     pub fn into_inner(this: Self) -> T {
@@ -131,6 +162,48 @@ impl<'pool, T, P: Pool> PoolBox<'pool, T, P> {
         let (value, bucket) = unsafe { (this.value.read(), ptr::read(&raw const this.bucket)) };
         drop(bucket);
         value
+    }
+}
+
+impl<'pool, T, P: Pool> PoolBox<'pool, [T], P> {
+    /// Allocates a bucket for a slice of `len` values, and makes the value of each index by `make`.
+    ///
+    /// ```
+    /// use bb_memory::{PoolAllocator, PoolBox};
+    /// use core::alloc::Layout;
+    ///
+    /// let pool = PoolAllocator::with_buckets(Layout::from_size_align(1024, 8)?, 16)?;
+    /// let names = PoolBox::<[String]>::try_from_fn(&pool, 3, |at| format!("name {at}"))?;
+    /// assert_eq!(names.len(), 3);
+    /// assert_eq!(names[2], "name 2");
+    /// # Ok::<(), Box<dyn std::error::Error>>(())
+    /// ```
+    ///
+    /// # Errors
+    ///
+    /// `SizeTooLarge` or `AlignmentFailure` if no bucket of the pool has room for the slice,
+    /// `OutOfMemory` if no bucket is free.
+    ///
+    /// # Panics
+    ///
+    /// Panics if `make` does. Then the values that it has made are dropped, and the bucket is
+    /// freed.
+    pub fn try_from_fn(
+        pool: &'pool P,
+        len: usize,
+        mut make: impl FnMut(usize) -> T,
+    ) -> Result<Self, AllocationError> {
+        let layout = Layout::array::<T>(len).map_err(|_| AllocationError::SizeTooLarge)?;
+        let place = pool.allocate(layout)?.cast::<T>();
+        let bucket = Bucket { pool, place: place.cast() };
+        let value = NonNull::slice_from_raw_parts(place, 0);
+        let mut made = PoolBox { value, bucket, owned: PhantomData };
+        for at in 0..len {
+            // SAFETY: the chunk has room for `len` values, and nobody else uses it.
+            unsafe { place.add(at).write(make(at)) };
+            made.value = NonNull::slice_from_raw_parts(place, at + 1);
+        }
+        Ok(made)
     }
 }
 
@@ -271,6 +344,28 @@ impl Drop for Detached<'_> {
 /// ```
 ///
 /// In an `Arc` several threads can read it, and the last one takes it out by `Arc::into_inner`.
+///
+/// A future that is `Send` can have it across an `await`, and [`try_new`](Self::try_new) needs no
+/// party. A [`PoolParty`] can be in such a future, too, but nothing that borrows it across an
+/// `await`.
+///
+/// ```
+/// use bb_memory::{DetachedBox, SharedPoolAllocator};
+/// use core::alloc::Layout;
+///
+/// async fn answer(pool: SharedPoolAllocator<'static>) -> Option<u64> {
+///     let mut number = DetachedBox::try_new(&pool, 41u64).ok()?;
+///     std::future::ready(()).await;
+///     *number += 1;
+///     Some(DetachedBox::into_inner(number))
+/// }
+///
+/// fn spawn(_: impl Future<Output = Option<u64>> + Send + 'static) {}
+///
+/// let pool = SharedPoolAllocator::with_buckets(Layout::new::<u64>(), 16, 1)?;
+/// spawn(answer(pool));
+/// # Ok::<(), Box<dyn std::error::Error>>(())
+/// ```
 #[must_use = "dropping it drops the value"]
 pub struct DetachedBox<'region, T: ?Sized> {
     value: NonNull<T>,
@@ -307,7 +402,24 @@ impl<'region, T: ?Sized> DetachedBox<'region, T> {
     }
 }
 
-impl<T> DetachedBox<'_, T> {
+impl<'region, T> DetachedBox<'region, T> {
+    /// Moves a value into a bucket that no party holds, under the lock that parties take to join.
+    ///
+    /// # Errors
+    ///
+    /// The errors of [`PoolBox::try_new`].
+    pub fn try_new(pool: &SharedPoolAllocator<'region>, value: T) -> Result<Self, TryNewError<T>> {
+        let (place, number, from) = match pool.detached(Layout::new::<T>()) {
+            Ok(detached) => detached,
+            Err(error) => return Err(TryNewError { error, value }),
+        };
+        let bucket = Detached { pool: Arc::clone(&pool.shared), number, from };
+        let place = place.cast::<T>();
+        // SAFETY: the chunk has the layout of a `T`, and nobody else uses it.
+        unsafe { place.write(value) };
+        Ok(DetachedBox { value: place, bucket, owned: PhantomData })
+    }
+
     /// Moves the value out, and frees the bucket.
     #[must_use]
     pub fn into_inner(this: Self) -> T {

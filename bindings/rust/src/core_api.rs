@@ -46,8 +46,8 @@ macro_rules! in_buckets {
 /// moved, and one that shrinks stays in its place.
 macro_rules! in_bump {
     ($name:ident: $allocate:ident) => {
-        // SAFETY: a chunk is the caller's until `BumpAllocator::deallocate` or `reset`, which are
-        // unsafe while it is used.
+        // SAFETY: a chunk is the caller's until `deallocate` or `reset`. They are unsafe while it is
+        // used, or borrow the allocator mutably.
         unsafe impl Allocator for $name<'_> {
             fn allocate(&self, layout: Layout) -> Chunk {
                 if layout.size() == 0 {

@@ -5,13 +5,43 @@ use crate::error::{
     no_such_answer,
 };
 use crate::owned::{Memory, Owned, bucket_number, expect_ok, number_if};
-use crate::{BaseAllocator, ffi};
+use crate::{BaseAllocator, TryNewError, ffi};
 use core::alloc::Layout;
 use core::fmt;
 use core::mem::MaybeUninit;
 use core::ptr::NonNull;
 
 /// Allocates one chunk after another, and frees all of them at once. It refuses size 0.
+///
+/// [`alloc`](Self::alloc) and its relatives need no `unsafe`. What they return borrows the bump, so
+/// all of it is gone before [`reset`](Self::reset):
+///
+/// ```
+/// use bb_memory::BumpAllocator;
+///
+/// let mut region = Box::new_uninit_slice(1024);
+/// let mut bump = BumpAllocator::over(&mut region)?;
+/// for request in 0..100 {
+///     let name = bump.alloc_str("a name of this request")?;
+///     let numbers = bump.alloc_slice_copy(&[request, 2, 3])?;
+///     let sum = bump.alloc(numbers.iter().sum::<usize>())?;
+///     *sum += name.len();
+///     assert_eq!(*sum, request + 27);
+///     bump.reset();
+/// }
+/// # Ok::<(), Box<dyn std::error::Error>>(())
+/// ```
+///
+/// ```compile_fail,E0502
+/// # use bb_memory::BumpAllocator;
+/// # let mut region = Box::new_uninit_slice(1024);
+/// # let mut bump = BumpAllocator::over(&mut region).unwrap();
+/// let number = bump.alloc(7u64).unwrap();
+/// bump.reset();
+/// println!("{number}");
+/// ```
+///
+/// This is a raw chunk:
 ///
 /// ```
 /// use bb_memory::{BaseAllocator, BumpAllocator};
@@ -57,6 +87,72 @@ over_region! {
 figures! {
     BumpAllocator: BumpInfo by bb_bump_info:
     start_address: usize, used_space: usize, free_space: usize, total_space: usize
+}
+
+impl BumpAllocator<'_> {
+    /// Moves a value into the bump. It is never dropped, unless it is moved out again: if it owns
+    /// something outside the bump, such as a `String` does, that leaks.
+    ///
+    /// # Errors
+    ///
+    /// [`OutOfMemory`](AllocationError::OutOfMemory), with the value, if the bump has no room for
+    /// it.
+    #[allow(clippy::mut_from_ref, reason = "no two calls return the same chunk")]
+    pub fn alloc<T>(&self, value: T) -> Result<&mut T, TryNewError<T>> {
+        match self.place_for::<T>(Layout::new::<T>()) {
+            Ok(place) => {
+                // SAFETY: the chunk has the layout of a `T`, and nobody else uses it as long as the
+                // bump is borrowed.
+                Ok(unsafe {
+                    place.write(value);
+                    &mut *place.as_ptr()
+                })
+            }
+            Err(error) => Err(TryNewError { error, value }),
+        }
+    }
+
+    /// Copies a slice into the bump.
+    ///
+    /// # Errors
+    ///
+    /// [`OutOfMemory`](AllocationError::OutOfMemory) if the bump has no room for it.
+    #[allow(clippy::mut_from_ref, reason = "no two calls return the same chunk")]
+    pub fn alloc_slice_copy<T: Copy>(&self, from: &[T]) -> Result<&mut [T], AllocationError> {
+        let place = self.place_for::<T>(Layout::for_value(from))?;
+        // SAFETY: the chunk has the layout of the slice and overlaps nothing, and nobody else uses
+        // it as long as the bump is borrowed.
+        Ok(unsafe {
+            place.copy_from_nonoverlapping(NonNull::from(from).cast(), from.len());
+            NonNull::slice_from_raw_parts(place, from.len()).as_mut()
+        })
+    }
+
+    /// Copies a text into the bump.
+    ///
+    /// # Errors
+    ///
+    /// [`OutOfMemory`](AllocationError::OutOfMemory) if the bump has no room for it.
+    #[allow(clippy::mut_from_ref, reason = "no two calls return the same chunk")]
+    pub fn alloc_str(&self, from: &str) -> Result<&mut str, AllocationError> {
+        let bytes = self.alloc_slice_copy(from.as_bytes())?;
+        // SAFETY: the bytes are those of a text.
+        Ok(unsafe { core::str::from_utf8_unchecked_mut(bytes) })
+    }
+
+    /// Frees all chunks. None of them is borrowed then, and raw chunks must not be used anymore.
+    pub fn reset(&mut self) {
+        // SAFETY: the function is of this kind, and no other call has the handle.
+        expect_ok(unsafe { ffi::bb_bump_deallocate(self.owned.handle()) });
+    }
+
+    /// Returns a place for values of this layout. If they have no bytes, that needs no chunk.
+    fn place_for<T>(&self, layout: Layout) -> Result<NonNull<T>, AllocationError> {
+        if layout.size() == 0 {
+            return Ok(NonNull::dangling());
+        }
+        self.allocate(layout).map(NonNull::cast)
+    }
 }
 
 // SAFETY: the contract of `bb_bump_allocate` is proved, and the region lives as long as the bump.

@@ -147,7 +147,7 @@ figures! {
 /// ```
 #[derive(Clone)]
 pub struct SharedPoolAllocator<'region> {
-    shared: Shared<'region>,
+    pub(crate) shared: Shared<'region>,
     bucket: Layout,
 }
 
@@ -174,6 +174,25 @@ impl<'region> SharedPoolAllocator<'region> {
         // No party has joined yet, so only `malloc` can fail.
         let keeper = Some(keeper.map_err(|_| InitError::MallocRefused)?);
         Ok(SharedPoolAllocator { shared: Arc::new(Mutex::new(Common { keeper, owned })), bucket })
+    }
+
+    /// Allocates a chunk in a bucket that is detached then. Returns the chunk's place, the bucket's
+    /// number, and the number of the party that has detached it: the pool's own.
+    pub(crate) fn detached(
+        &self,
+        layout: Layout,
+    ) -> Result<(NonNull<u8>, u32, u32), AllocationError> {
+        let common = lock(&self.shared);
+        let Some(keeper) = &common.keeper else { no_such_answer(ffi::OK) };
+        // SAFETY: the functions are of this kind, and no other call has the handle.
+        let (place, number, from) = unsafe {
+            let place = keeper.allocate(ffi::bb_pool_party_allocate, layout)?.cast::<u8>();
+            let number = ffi::bb_pool_party_detach_number(keeper.handle(), place.as_ptr().cast());
+            (place, number, ffi::bb_pool_party_number(keeper.handle()))
+        };
+        expect_ok(number.code);
+        expect_ok(from.code);
+        Ok((place, bucket_number(number.number), bucket_number(from.number)))
     }
 
     /// Joins as a party.

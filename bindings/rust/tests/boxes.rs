@@ -4,6 +4,7 @@ use bb_memory::{
     SharedPoolAllocator,
 };
 use std::alloc::Layout;
+use std::future::ready;
 use std::panic::{AssertUnwindSafe, catch_unwind, resume_unwind};
 use std::sync::atomic::{AtomicUsize, Ordering};
 use std::sync::{Arc, mpsc};
@@ -59,6 +60,100 @@ fn a_box_owns_its_value_and_its_bucket() {
     assert_eq!((drops.load(Ordering::Relaxed), pool.held_buckets()), (2, 1));
     assert_eq!(PoolBox::into_inner(second), "second value");
     assert_eq!((pool.held_buckets(), pool.greatest_held()), (0, 2));
+}
+
+#[test]
+fn a_value_is_made_in_its_bucket() {
+    let pool = PoolAllocator::with_buckets(bucket(), 1).unwrap();
+    let drops = AtomicUsize::new(0);
+    let panics = catch_unwind(AssertUnwindSafe(|| {
+        let _ = PoolBox::<u64>::try_new_with(&pool, || resume_unwind(Box::new("no value")));
+    }));
+    assert!(panics.is_err());
+    assert_eq!(pool.held_buckets(), 0);
+    let made = PoolBox::try_new_with(&pool, || counted(&drops)).unwrap();
+    let refused = PoolBox::try_new_with(&pool, || counted(&drops));
+    assert_eq!(refused.err(), Some(AllocationError::OutOfMemory));
+    drop(made);
+    assert_eq!((drops.load(Ordering::Relaxed), pool.held_buckets()), (1, 0));
+    let too_large = PoolBox::try_new_with(&pool, || [0u64; 9]);
+    assert_eq!(too_large.err(), Some(AllocationError::SizeTooLarge));
+}
+
+#[test]
+fn a_slice_has_a_bucket() {
+    let pool = PoolAllocator::with_buckets(bucket(), 2).unwrap();
+    let mut numbers = PoolBox::<[u64]>::try_from_fn(&pool, 8, |at| 10 * at as u64).unwrap();
+    numbers[7] += 1;
+    assert_eq!(*numbers, [0, 10, 20, 30, 40, 50, 60, 71]);
+    let empty = PoolBox::<[u64]>::try_from_fn(&pool, 0, |_| unreachable!()).unwrap();
+    assert_eq!((empty.len(), pool.held_buckets()), (0, 2));
+    let refused = PoolBox::<[u64]>::try_from_fn(&pool, 1, |_| unreachable!());
+    assert_eq!(refused.err(), Some(AllocationError::OutOfMemory));
+    drop(empty);
+    for len in [9, usize::MAX] {
+        let refused = PoolBox::<[u64]>::try_from_fn(&pool, len, |_| unreachable!());
+        assert_eq!(refused.err(), Some(AllocationError::SizeTooLarge));
+    }
+}
+
+#[test]
+fn a_slice_drops_what_was_made() {
+    let pool = PoolAllocator::with_buckets(bucket(), 1).unwrap();
+    let drops = AtomicUsize::new(0);
+    drop(PoolBox::<[Counted]>::try_from_fn(&pool, 3, |_| counted(&drops)).unwrap());
+    assert_eq!((drops.load(Ordering::Relaxed), pool.held_buckets()), (3, 0));
+    let panics = catch_unwind(AssertUnwindSafe(|| {
+        let _ = PoolBox::<[Counted]>::try_from_fn(&pool, 4, |at| {
+            if at == 2 {
+                resume_unwind(Box::new("no third value"));
+            }
+            counted(&drops)
+        });
+    }));
+    assert!(panics.is_err());
+    assert_eq!((drops.load(Ordering::Relaxed), pool.held_buckets()), (5, 0));
+}
+
+#[test]
+fn a_detached_value_needs_no_party() {
+    let pool = shared(2, 1);
+    let party = pool.join().unwrap();
+    let drops = AtomicUsize::new(0);
+    let value = DetachedBox::try_new(&pool, counted(&drops)).unwrap();
+    let text = DetachedBox::try_new(&pool, String::from("a text")).unwrap();
+    let refused = DetachedBox::try_new(&pool, String::from("no bucket")).unwrap_err();
+    assert_eq!((refused.error, refused.value), (AllocationError::OutOfMemory, "no bucket".into()));
+    assert_eq!((pool.info().held_buckets, party.held_buckets()), (2, 0));
+    let value = DetachedBox::attach(value, &party);
+    assert_eq!(party.held_buckets(), 1);
+    drop(value);
+    assert_eq!((drops.load(Ordering::Relaxed), pool.info().held_buckets), (1, 1));
+    assert_eq!(DetachedBox::into_inner(text), "a text");
+    assert_eq!(pool.info().held_buckets, 0);
+    let too_large = DetachedBox::try_new(&pool, [0u64; 9]).unwrap_err();
+    assert_eq!(too_large.error, AllocationError::SizeTooLarge);
+    drop(party);
+    let kept = DetachedBox::try_new(&pool, 7u64).unwrap();
+    drop(pool);
+    assert_eq!(*kept, 7);
+}
+
+/// Takes a future that may go from thread to thread.
+fn runs_in_any_thread(_: impl Future<Output = u64> + Send + 'static) {}
+
+#[test]
+fn a_future_has_a_party_and_a_message() {
+    let pool = shared(2, 2);
+    let party = pool.join().unwrap();
+    runs_in_any_thread(async move {
+        let message = PartyBox::try_new(&party, 41u64).unwrap();
+        let message = PartyBox::detach(message);
+        ready(()).await;
+        let mut message = DetachedBox::attach(message, &party);
+        *message += 1;
+        PartyBox::into_inner(message)
+    });
 }
 
 /// Has a value in a pool over a borrowed region.

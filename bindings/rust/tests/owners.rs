@@ -55,6 +55,43 @@ fn a_bump_allocates_one_chunk_after_another() {
 }
 
 #[test]
+fn a_bump_has_values_until_it_is_reset() {
+    let mut region = Box::new_uninit_slice(100);
+    let mut bump = BumpAllocator::over(&mut region).unwrap();
+    for round in 0..10u8 {
+        let first = bump.alloc(round).unwrap();
+        let text = bump.alloc_str("7 bytes").unwrap();
+        let numbers = bump.alloc_slice_copy(&[1u64, 2, 3]).unwrap();
+        text.make_ascii_uppercase();
+        numbers[1] = u64::from(*first);
+        *first += 1;
+        assert_eq!((*first, &text[..]), (round + 1, "7 BYTES"));
+        assert_eq!(*numbers, [1, u64::from(round), 3]);
+        // The region needn't begin at a multiple of 8.
+        assert!((32..=39).contains(&bump.used_space()));
+        bump.reset();
+        assert_eq!(bump.used_space(), 0);
+    }
+}
+
+#[test]
+fn a_bump_returns_a_value_that_has_no_room() {
+    let mut region = Box::new_uninit_slice(16);
+    let bump = BumpAllocator::over(&mut region).unwrap();
+    let refused = bump.alloc([7u8; 17]).unwrap_err();
+    assert_eq!((refused.error, refused.value), (AllocationError::OutOfMemory, [7; 17]));
+    assert_eq!(bump.alloc_slice_copy(&[7u8; 17]), Err(AllocationError::OutOfMemory));
+    assert_eq!(bump.alloc_str("a text of 17 byte"), Err(AllocationError::OutOfMemory));
+    assert_eq!(bump.used_space(), 0);
+    assert_eq!(bump.alloc_slice_copy(&[7u8; 16]), Ok(&mut [7u8; 16][..]));
+    // What has no bytes needs no room.
+    assert!(bump.alloc(()).is_ok());
+    assert_eq!(bump.alloc_str(""), Ok(&mut *String::new()));
+    let empty: &mut [u64] = bump.alloc_slice_copy(&[]).unwrap();
+    assert!(empty.as_ptr().is_aligned() && bump.free_space() == 0);
+}
+
+#[test]
 fn what_was_written_is_read_through_the_region() {
     let mut region = Region::new();
     let bump = BumpAllocator::over(&mut region.0).unwrap();

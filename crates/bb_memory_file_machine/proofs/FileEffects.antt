@@ -1,6 +1,6 @@
 -- Each effect of a process keeps what another process relies on.
-use Rattle.bb_memory_file_machine.proofs.FileInvariant.{AreExact, IsAtWork, PlaceHas}
-use Rattle.bb_memory_file_machine.specs.FileLaws.{Effect, IsEntered, IsEntry, IsFlag, IsHolder, IsIn, IsInSome, IsLock, IsSlot, attaches, clears, counts, detaches, empties, enters, fills, frees_lock, gives_back, none, receives, sends, takes, takes_lock}
+use Rattle.bb_memory_file_machine.proofs.FileInvariant.{AreExact, PlaceHas}
+use Rattle.bb_memory_file_machine.specs.FileLaws.{Effect, IsFlag, IsHolder, IsInSome, IsLock, IsSlot, attaches, clears, counts, detaches, empties, enters, fills, frees_lock, gives_back, none, receives, sends, takes, takes_lock}
 use Rattle.bb_memory_file_machine.specs.FileMachine.{Clearing, Counting, DetachedBy, Empty, Entry, FileFlag, FileOutcome, FileWords, Flags, Free, HeldBy, In, Message, Nowhere, Place, Posting, Sending, SentTo, Settled, Slot, with_entry, with_flag, with_life, with_lock, with_slot}
 use Rattle.bb_memory_lists.proofs.SliceGets.{slice_get-set_apart, slice_get-set_at}
 use Rattle.std.proofs.Common.{List, None, Option, Some, [], ap, arith, inl, inr, length, refl, suc, sym, zero, ℕ, ◌<◌, ◌∙◌, ◌∷◌, ◌≡◌, ◌≢◌}

@@ -1,7 +1,7 @@
 -- Steps of the machine of a pool in a file, by their kinds.
 use Rattle.bb_memory_file_machine.proofs.FileTests.{clear_there, empty_there, flag_missing, flag_there, free_found, lap_missing, lap_there, less_found, own_there}
 use Rattle.bb_memory_file_machine.specs.FileLaws.{IsEntered, IsEntry, IsFlag, IsHolder, IsIn, IsLife, IsLock, IsSlot}
-use Rattle.bb_memory_file_machine.specs.FileMachine.{Allocate, AttachNumber, Clearing, Count, Counting, Dead, Deallocate, Detach, DetachNumber, DetachedBy, Done, Empty, Entry, FileMove, FileStep, FileWords, Fill, Flags, Free, HeldBy, In, Kill, Leave, Lock, Message, Moves, Next, Nowhere, OnEntry, OnFlag, OnLife, OnLock, OnSlot, Outside, Place, Post, Posting, PutBack, Receives, Recover, Release, Sending, SentTo, Settled, Take, TryAt, Unlock, allocate, attach_number, attaching, clearing, count, deallocate, detach_number, done, done_at, fill, finds_free, finds_less, giving_back, has_clear, is_empty, is_flag, is_nowhere, is_own, kill, lap_of, leave, lock, move_at, move_of, next, post, put_back, put_back_at, recover, refused, release, sending, settle_at, settle_entry, take, unlock, with_entry, with_flag, with_life, with_lock, with_slot}
+use Rattle.bb_memory_file_machine.specs.FileMachine.{Allocate, AttachNumber, Clearing, Count, Counting, Dead, Deallocate, Detach, DetachNumber, DetachedBy, Done, Empty, Entry, FileMove, FileStep, FileWords, Fill, Flags, Free, HeldBy, In, Kill, Leave, Lock, Message, Moves, Next, Nowhere, OnEntry, OnFlag, OnLife, OnLock, OnSlot, Outside, Place, Post, Posting, PutBack, Receives, Recover, Release, Sending, SentTo, Settled, Take, TryAt, Unlock, allocate, attach_number, attaching, clearing, count, deallocate, detach_number, done, done_at, fill, finds_free, finds_less, giving_back, has_clear, is_empty, is_flag, is_own, kill, lap_of, leave, lock, move_at, move_of, next, post, put_back, put_back_at, recover, refused, release, sending, settle_at, settle_entry, take, unlock, with_entry, with_flag, with_life, with_lock, with_slot}
 use Rattle.std.proofs.Common.{None, Option, Some, length, refl, suc, zero, ℕ, ◌+◌, ◌<◌, ◌≡◌, ◌≤◌}
 use Rattle.std.proofs.lemmas.Bool.{cond_both, ltb-false}
 use Rattle.std.specs.Prelude.{nat_lt, slice_get}

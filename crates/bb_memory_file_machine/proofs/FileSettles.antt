@@ -2,7 +2,7 @@
 use Rattle.bb_memory_file_machine.specs.FileLaws.{CanSettle, IsEntry, IsPlace, IsSettling, settled_by}
 use Rattle.bb_memory_file_machine.specs.FileMachine.{Entry, FileMove, FileScene, FileState, FileStep, Flags, Free, HeldBy, In, Moves, Next, Nowhere, Place, SentTo, Settled, change_at, change_by, clearing, file_after, giving_back, is_flag, lap_of, left_by, move_of, next, sending, settle_at, settle_entry, settle_flag}
 use Rattle.bb_memory_lists.proofs.SliceGets.{length-set_at, slice_get-set_same}
-use Rattle.std.proofs.Common.{List, None, Option, Some, ap, arith, length, refl, replicate, subst, suc, sym, zero, ℕ, ◌+◌, ◌<◌, ◌∙◌, ◌≡◌, ◌≤◌}
+use Rattle.std.proofs.Common.{List, None, Option, Some, ap, arith, length, refl, replicate, subst, suc, sym, zero, ℕ, ◌+◌, ◌∙◌, ◌≡◌, ◌≤◌}
 use Rattle.std.proofs.lemmas.Bool.{cond_both, ltb-true}
 use Rattle.std.proofs.lemmas.Option.{same_Some}
 use Rattle.std.specs.Prelude.{nat_lt, slice_get}

@@ -1,9 +1,9 @@
 -- Each effect keeps the words sound.
 use Rattle.bb_memory_file_machine.proofs.FileEffects.{below_end, one_value, set_cases, stays_apart}
 use Rattle.bb_memory_file_machine.proofs.FileInvariant.{Sound}
-use Rattle.bb_memory_file_machine.specs.FileLaws.{Effect, IsEntered, IsEntry, IsFlag, IsHeld, IsHolder, IsIdle, IsIn, IsInSome, IsSlot, attaches, clears, counts, detaches, empties, enters, fills, frees_lock, gives_back, none, receives, sends, takes, takes_lock}
-use Rattle.bb_memory_file_machine.specs.FileMachine.{DetachedBy, Empty, Entry, FileFlag, FileOutcome, FileWords, Free, HeldBy, In, Message, Nowhere, SentTo, Slot, with_entry, with_flag, with_lock, with_slot}
-use Rattle.bb_memory_lists.proofs.SliceGets.{length-set_at, slice_get-set_apart, slice_get-set_at, slice_get-set_same}
+use Rattle.bb_memory_file_machine.specs.FileLaws.{Effect, IsEntry, IsFlag, IsHeld, IsHolder, IsIdle, IsIn, IsInSome, IsSlot, attaches, clears, counts, detaches, empties, enters, fills, frees_lock, gives_back, none, receives, sends, takes, takes_lock}
+use Rattle.bb_memory_file_machine.specs.FileMachine.{DetachedBy, Empty, Entry, FileFlag, FileOutcome, FileWords, Free, HeldBy, In, Message, Nowhere, SentTo, with_entry, with_flag, with_lock, with_slot}
+use Rattle.bb_memory_lists.proofs.SliceGets.{length-set_at, slice_get-set_apart, slice_get-set_at}
 use Rattle.std.proofs.Common.{List, None, Option, Some, [], ap, arith, inl, inr, length, refl, suc, sym, zero, ℕ, ◌<◌, ◌∙◌, ◌∷◌, ◌≡◌, ◌≢◌}
 use Rattle.std.proofs.lemmas.Bool.{cases_eq}
 use Rattle.std.specs.Prelude.{slice_get, slice_set, ◌⊎◌}
@@ -73,14 +73,6 @@ module _ (words : FileWords) (bucket : ℕ) (old flag : FileFlag) (is : IsFlag w
       | inr apart ↦ sound.nowhere at (idle_before at apart now)
     ];
   }
-
--- a bucket in a slot whose flag is this one is held or sent there
-in_slot : (words : FileWords) (bucket slot lap : ℕ) (flag : FileFlag) → Sound words → IsFlag words bucket flag →
-    IsSlot words slot (Message lap bucket) → SaysTaken flag slot lap
-in_slot words bucket slot lap flag sound is has = elim (sound.taken bucket slot lap has) [
-  | inl held ↦ inl (held.0, one_value words.flags bucket flag (HeldBy held.0) is held.1)
-  | inr sent ↦ inr (one_value words.flags bucket flag (SentTo slot lap) is sent)
-]
 
 -- a bucket whose entry says that it is in no slot is in none
 pub not_in_slot : (words : FileWords) (bucket : ℕ) → Sound words → IsEntry words bucket Nowhere → ¬ IsInSome words bucket

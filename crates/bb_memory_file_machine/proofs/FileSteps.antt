@@ -3,14 +3,14 @@ use Rattle.bb_memory_file_machine.proofs.FileEffects.{below_end, exact_rests, on
 use Rattle.bb_memory_file_machine.proofs.FileInvariant.{AreExact, Holds, IsAtWork, IsGiven, PlaceHas, Sound}
 use Rattle.bb_memory_file_machine.proofs.FileKinds.{Kind, all_flags, allocates, attaches, clears, counts, counts_again, detaches, dies, empties, fills, gives, gives_up, is_unheld, joins, kind_of, leaves, locks, posts, puts_back, receives, recovers, refuses, releases, sends, settles, settles_entry, settles_sent, unlocks, unlocks_first}
 use Rattle.bb_memory_file_machine.proofs.FileSound.{entry_there, not_in_slot, one_slot, sound_after, there_below}
-use Rattle.bb_memory_file_machine.specs.FileLaws.{Effect, IsEntered, IsEntry, IsFlag, IsHolder, IsIn, IsInSome, IsLock, IsPlace, IsSlot}
+use Rattle.bb_memory_file_machine.specs.FileLaws.{Effect, IsEntered, IsEntry, IsFlag, IsHolder, IsIn, IsInSome}
 use Rattle.bb_memory_file_machine.specs.FileLaws as laws
-use Rattle.bb_memory_file_machine.specs.FileMachine.{Clearing, Counting, Dead, DetachedBy, Dies, Empty, Entry, FileFlag, FileMove, FileScene, FileState, FileStep, FileWords, Flags, Free, HeldBy, In, Message, Moves, Nowhere, Outside, Place, Posting, Refused, Sending, SentTo, Settled, Slot, change_at, file_after, file_step, left_by, move_at, opening_state, process_of, with_entry, with_flag, with_life, with_lock, with_slot}
+use Rattle.bb_memory_file_machine.specs.FileMachine.{DetachedBy, Dies, Empty, Entry, FileFlag, FileMove, FileScene, FileState, FileStep, FileWords, Flags, Free, HeldBy, In, Message, Moves, Nowhere, Outside, Place, Posting, Refused, SentTo, Settled, change_at, file_after, file_step, left_by, move_at, opening_state, process_of, with_entry, with_flag}
 use Rattle.bb_memory_lists.proofs.SliceGets.{slice_get-replicated, slice_get-set_apart, slice_get-set_at, slice_get-set_same}
-use Rattle.std.proofs.Common.{List, None, Option, Some, [], ap, arith, inl, inr, length, refl, subst, sym, zero, ℕ, ◌+◌, ◌<◌, ◌∙◌, ◌∷◌, ◌≡◌, ◌≢◌}
+use Rattle.std.proofs.Common.{List, None, Option, Some, [], ap, arith, inl, inr, refl, subst, sym, zero, ℕ, ◌+◌, ◌<◌, ◌∙◌, ◌∷◌, ◌≡◌, ◌≢◌}
 use Rattle.std.proofs.lemmas.Bool.{cases_eq}
 use Rattle.std.proofs.lemmas.List.{length-replicate}
-use Rattle.std.specs.Prelude.{replicate, slice_get, slice_set, ◌⊎◌}
+use Rattle.std.specs.Prelude.{replicate, slice_get, ◌⊎◌}
 
 -- EFFECTS OF STEPS
 

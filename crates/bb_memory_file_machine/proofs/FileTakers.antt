@@ -5,12 +5,12 @@ use Rattle.bb_memory_file_machine.proofs.FileKinds.{Kind, all_flags, counts, die
 use Rattle.bb_memory_file_machine.proofs.FileSound.{one_slot}
 use Rattle.bb_memory_file_machine.proofs.FileSteps.{effect_of, holds_always, holds_step}
 use Rattle.bb_memory_file_machine.proofs.FileTests.{flag_missing, flag_there}
-use Rattle.bb_memory_file_machine.specs.FileLaws.{Effect, HasTaken, IsFlag, IsHeld, IsHolder, IsIn, IsLock, IsPlace, IsSlot, StaysIn, after_fill}
+use Rattle.bb_memory_file_machine.specs.FileLaws.{Effect, HasTaken, IsFlag, IsHolder, IsIn, IsLock, IsPlace, IsSlot, StaysIn, after_fill}
 use Rattle.bb_memory_file_machine.specs.FileLaws as laws
 use Rattle.bb_memory_file_machine.specs.FileMachine.{Counting, Dead, DetachedBy, Done, Empty, FileChange, FileFlag, FileMove, FileOutcome, FileScene, FileState, FileStep, FileWords, Fill, Flags, Free, HeldBy, Message, OnSlot, Outside, Place, Posting, Receives, Sending, SentTo, change_at, change_by, file_after, file_step, is_flag, left_by, move_at, outcomes_of, process_of}
 use Rattle.bb_memory_lists.proofs.ListEntries.{contains-behind, contains-first}
 use Rattle.bb_memory_lists.proofs.SliceGets.{slice_get-set_same}
-use Rattle.std.proofs.Common.{List, None, Option, Some, [], ap, arith, inl, inr, refl, subst, sym, ℕ, ◌+◌, ◌<◌, ◌∙◌, ◌∷◌, ◌≡◌, ◌≢◌, ◌≤◌}
+use Rattle.std.proofs.Common.{List, None, Option, Some, [], ap, arith, inl, inr, refl, subst, sym, ℕ, ◌+◌, ◌∙◌, ◌∷◌, ◌≡◌, ◌≢◌, ◌≤◌}
 use Rattle.std.proofs.lemmas.Bool.{cases_Bool}
 use Rattle.std.specs.Prelude.{slice_get, slice_set, ◌⊎◌}
 

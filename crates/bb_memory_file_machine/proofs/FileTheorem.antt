@@ -1,6 +1,6 @@
 -- Consequences of the invariant that holds for every state.
 use Rattle.bb_memory_file_machine.proofs.FileEffects.{below_end, one_value, other_number, rests, same_process, set_cases, stays_apart}
-use Rattle.bb_memory_file_machine.proofs.FileInvariant.{Holds, IsAtWork, PlaceHas}
+use Rattle.bb_memory_file_machine.proofs.FileInvariant.{Holds, PlaceHas}
 use Rattle.bb_memory_file_machine.proofs.FileKinds.{Kind, allocates, attaches, detaches, empties, fills, gives, kind_of, puts_back, receives, recovers, sends, settles, settles_sent}
 use Rattle.bb_memory_file_machine.proofs.FileSound.{there_below}
 use Rattle.bb_memory_file_machine.proofs.FileSteps.{effect_of, holds_always, holds_at_opening, holds_step}
@@ -8,7 +8,7 @@ use Rattle.bb_memory_file_machine.specs.FileLaws.{AreSettled, CanCount, Effect, 
 use Rattle.bb_memory_file_machine.specs.FileLaws as laws
 use Rattle.bb_memory_file_machine.specs.FileMachine.{Clearing, Counting, DetachNumber, DetachedBy, Done, Empty, Entry, FileChange, FileFlag, FileMove, FileOutcome, FileScene, FileState, FileStep, FileWords, Flags, Free, HeldBy, Message, Outside, Place, Posting, Receives, Refused, Sending, SentTo, Settled, change_at, file_after, file_step, left_by, move_at, opening_state, process_of, with_flag}
 use Rattle.bb_memory_lists.proofs.SliceGets.{length-set_at, slice_get-set_apart, slice_get-set_same}
-use Rattle.std.proofs.Common.{List, None, Option, Some, [], ap, arith, inl, inr, length, refl, suc, sym, zero, ℕ, ◌+◌, ◌<◌, ◌∙◌, ◌∷◌, ◌≡◌, ◌≢◌, ◌≤◌}
+use Rattle.std.proofs.Common.{List, None, Option, Some, [], ap, arith, inl, inr, length, refl, sym, ℕ, ◌+◌, ◌<◌, ◌∙◌, ◌∷◌, ◌≡◌, ◌≢◌, ◌≤◌}
 use Rattle.std.proofs.lemmas.Bool.{cases_eq, lt-ltb}
 use Rattle.std.proofs.lemmas.List.{length-replicate}
 use Rattle.std.proofs.lemmas.Option.{same_Some}

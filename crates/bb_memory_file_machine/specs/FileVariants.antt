@@ -14,7 +14,7 @@ abbrev pub changes_slot : FileOutcome → Bool
 changes_slot (OnSlot slot) = true
 changes_slot outcome = false
 
--- this move if the process may begin a call by the number, and the number holds the bucket
+-- the move, if the process may begin a call by the number, and the number holds the bucket
 abbrev pub by_holder : FileWords → ℕ → Place → ℕ → ℕ → FileMove → Option FileMove
 by_holder words process place party bucket move =
     if may_call words process place party then (if is_flag words bucket (HeldBy party) then Some move else None) else None

@@ -851,7 +851,7 @@ static bool duel_post(uint32_t most) {
     if (!posted)
         make_unstepped(other, DEALLOCATE, others);
     if (taken || make(other, TAKE, 0, 0)) {
-        make_unstepped(other, DONE, 0);
+        make(other, DONE, 0, 0);
         make_unstepped(other, DEALLOCATE, posted ? others : bucket);
     }
     return ended;

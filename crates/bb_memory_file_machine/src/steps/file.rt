@@ -11,7 +11,7 @@ ghost use Rattle.std.specs.Prelude.{List, ℕ, ◌<◌, ◌↔◌, ◌≡◌, �
 
 use bb_memory_pool_machine::steps::PoolStep;
 
-/// The flag of a bucket: who may touch the bucket, or where it is sent.
+/// The flag of a bucket: who may touch the bucket, or to which slot it is sent.
 #[derive(Debug, Clone, Copy, PartialEq, Eq)]
 pub enum FileFlag {
     /// Nobody holds the bucket.
@@ -34,7 +34,7 @@ pub enum Entry {
     In { slot: u32, length: u32 },
 }
 
-/// The word of a slot. Its lap is another one each time that the slot is emptied.
+/// The word of a slot, with a lap that whoever empties the slot writes anew.
 #[derive(Debug, Clone, Copy, PartialEq, Eq)]
 pub enum Slot {
     /// No message is in the slot.
