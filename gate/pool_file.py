@@ -5,8 +5,8 @@ shared library, and `cases` also under the compiler's checkers. So does `bb-pool
 are almost pools. There are also mutants of bb_pool_file.c. Each has to be refused by the program
 that its file names:
 
-    # function: bb_pool_file_take
-    # refused by: kills pause 31
+    # function: bb_pool_file_look
+    # refused by: kills pause 499
     file: bb_pool_file.c
     old: if (load_slot(file, slot) == word)
     new: if (word != 0)

@@ -6,7 +6,7 @@ ghost use Rattle.bb_memory_c_calls.specs.declared.code.TheConstants.{UNINITIALIZ
 ghost use Rattle.std.specs.Prelude.{IfOk, IfSome, None, Some, ◌≡◌};
 
 use crate::handle::{DetachedHandle, Handle, PoolPartyHandle};
-use crate::shared_pool::{JoinedPool, entry, note};
+use crate::shared_pool::{JoinedPool, note};
 use bb_memory_c_calls::answer::{Answer, Figure};
 use bb_memory_c_calls::{call, code};
 use bb_memory_shared_pools::shared_pool::{DetachedBucket, by_number};
@@ -109,12 +109,10 @@ impl JoinedPool {
 
     /// Has the party no longer count the bucket of this number as in use, unless the bucket's flag says that the party holds it. If
     /// only parties write the flags, it says so, and nothing changes.
-    #[tactic(auto, unfolding(bb_memory_shared_pools::specs::SharedPoolCaching::IsOut))]
     fn forget_sent(&mut self, number: u32)
         ensures { self.new ≡ self.old }
     {
-        let is_in_use = entry(&self.in_use, number) == Some(true);
-        if number >= self.pool.number_of_buckets() || !is_in_use {
+        if number >= self.pool.number_of_buckets() || !self.is_out(number) {
             return;
         }
         if !self.party.is_held(&*self.pool, number) {
@@ -250,7 +248,7 @@ pub extern "C" fn bb_pool_party_attach_number(
 /// takes no memory, and waits for nothing.
 #[unsafe(no_mangle)]
 pub extern "C" fn party_forget_sent(handle: &mut PoolPartyHandle, number: u32)
-    ensures { handle.new.value ≡ handle.old.value }
+    ensures { Answers handle.old.value handle.new.value (Unit {0}) (λ party after. after ≡ party) }
 {
     if let Some(joined) = handle.made_mut() {
         joined.forget_sent(number);

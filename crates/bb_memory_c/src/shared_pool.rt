@@ -69,7 +69,7 @@ fn room_for(most: u32, buckets: u32) -> usize
 }
 
 /// Returns the entry of the bucket of this number, if there is one.
-pub(crate) fn entry(in_use: &[bool], number: u32) -> Option<bool>
+fn entry(in_use: &[bool], number: u32) -> Option<bool>
     ensures { result ≡ slice_get in_use.now number }
 {
     in_use.get(number as usize).copied()
@@ -182,7 +182,7 @@ impl JoinedPool {
     }
 
     /// Returns whether the party has the bucket of this number in use. If the party caches no bucket, this loads the bucket's flag.
-    fn is_out(&mut self, number: u32) -> bool
+    pub(crate) fn is_out(&mut self, number: u32) -> bool
         requires { number < (geometry_of self.old).buckets }
         ensures value { IsTrue result ↔ IsOut self.old number }
         ensures unchanged { self.new ≡ self.old }
