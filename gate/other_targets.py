@@ -161,7 +161,7 @@ class OtherTarget:
             raise Failed(f"{self.target.name}: the archive has {', '.join(found)}")
 
     def run_models(self, *flags: str) -> None:
-        """Compares the library with each model, and tests memory.c, kit.c and kit_program.c."""
+        """Compares the library with each model, and tests the C files around it."""
         archive = self.prefix / "lib/libbb_memory.a"
         for source in sorted((self.crate / "tests/models").glob("*.c")):
             program = self.work / source.stem
@@ -172,6 +172,10 @@ class OtherTarget:
             source = self.crate / f"tests/{name}.c"
             self.compile(["-std=c99", *FLAGS, *flags, "-o", program, source])
             self.run(program)
+        program = self.work / "exported"
+        source = self.crate / "tests/exported.c"
+        self.compile(["-std=c99", *FLAGS, *flags, "-o", program, source, archive])
+        self.run(program)
 
     def run_examples(self) -> None:
         """Builds and runs the examples, over both libraries."""

@@ -96,7 +96,7 @@ PLACES = (
         re.compile(r"\b(Atomic\w*|Ordering|Table\w*|Play|Split|Join|Arc(?:::\w+)?)\b"),
         {
             POOL + "rule": {"TableRule": 1},
-            POOL + "flags": {"Table": 2, "Play": 13, "Split": 2, "Join": 2},
+            POOL + "flags": {"Table": 2, "Play": 14, "Split": 2, "Join": 2},
             POOL + "stand_in": {"Table": 2, "TableRule": 1, "Play": 1},
             BUMP + "/rule": {"TableRule": 1},
             BUMP + "/position": {"Table": 2, "Play": 4, "Split": 1, "Join": 1},
@@ -118,7 +118,7 @@ PLACES = (
                 "of_words": 1,
                 "split_seat": 2,
                 "join_seat": 2,
-                "compare_exchange": 3,
+                "compare_exchange": 4,
                 "load": 4,
                 "load_new_seat": 1,
                 "store": 5,
@@ -144,7 +144,7 @@ PLACES = (
         "probes, meets, or reads a word in no log",
         SHARED,
         re.compile(
-            r"(?:\.|::)(try_flag|try_at|probe|attach_number|meet|meet_rest"
+            r"(?:\.|::)(try_flag|try_at|probe|attach_number|return_number|meet|meet_rest"
             r"|load_for_meeting|found|holder|is_held|is_held_by|held_at|is_out"
             r"|is_detached_when_met|have_detached|meet_detached|has_detached"
             r"|count_out|count_taken|held_buckets)\b"
@@ -154,8 +154,8 @@ PLACES = (
             POOL + "buckets": {"try_flag": 1, "meet": 1, "meet_rest": 1, "meet_detached": 1},
             POOL + "next_fit": {"try_at": 1, "probe": 1},
             POOL + "by_number": {"found": 1, "is_held": 1, "is_held_by": 1, "count_taken": 1},
-            POOL + "caching": {"attach_number": 1, "is_held_by": 1, "meet": 1},
-            POOL + "detached": {"attach_number": 1},
+            POOL + "caching": {"attach_number": 1, "return_number": 1, "is_held_by": 1, "meet": 1},
+            POOL + "detached": {"attach_number": 1, "return_number": 1},
             POOL
             + "meeting": {
                 "load_for_meeting": 1,
@@ -165,7 +165,7 @@ PLACES = (
             BUMP: {"meet": 1, "meet_rest": 1},
             BUMP + "/position": {"load_for_meeting": 1},
             BUMP + "/meeting": {"load_for_meeting": 1},
-            C + "detached": {"attach_number": 2, "held_at": 2, "is_held": 1},
+            C + "detached": {"attach_number": 2, "return_number": 3, "held_at": 2, "is_held": 1},
             C
             + "shared_pool": {
                 "holder": 1,
@@ -197,6 +197,7 @@ PLACES = (
             BUMP: {"for": 1, "..": 1},
             BUMP + "/meeting": {"for": 2, "..": 2, "while": 1},
             BUMP + "/request": {"loop": 1},
+            C + "detached": {"for": 2, "iter_mut": 1},
             C + "shared_pool": {"for": 3, "..": 5, "|": 1},
             C_CALLS + "call": {"for": 2, "iter_mut": 1},
             C_CALLS + "handle": {"|": 1},

@@ -475,10 +475,41 @@ inline std::size_t take_many(bb_pool_party *from, void **slots, std::size_t coun
     return bb_pool_party_take_many(from, slots, count).number;
 }
 
+// Allocates up to `count` whole buckets, and stores their places from `slots` on. Returns how many
+// were allocated.
+inline std::size_t take_many(bb_pool *from, void **slots, std::size_t count) {
+    return bb_pool_take_many(from, slots, count).number;
+}
+
+// Frees the buckets at these places, up to the first one that is refused. Returns how many were
+// freed.
+inline std::size_t deallocate_many(bb_pool *to, void *const *places, std::size_t count) {
+    return bb_pool_deallocate_many(to, places, count).number;
+}
+
 // Frees the buckets at these places, up to the first one that is refused. Returns how many were
 // freed.
 inline std::size_t deallocate_many(bb_pool_party *to, void *const *places, std::size_t count) {
     return bb_pool_party_deallocate_many(to, places, count).number;
+}
+
+// Frees the bucket with this number if party `from` has detached it by its number.
+inline error return_number(bb_pool_party *to, std::uint32_t number, std::uint32_t from) {
+    return static_cast<error>(bb_pool_party_return_number(to, number, from));
+}
+
+// Frees the buckets with these numbers, which party `from` has detached, up to the first one that
+// is refused. Returns how many were freed.
+inline std::size_t return_many(bb_pool_party *to, const std::uint32_t *numbers, std::size_t count,
+                               std::uint32_t from) {
+    return bb_pool_party_return_many(to, numbers, count, from).number;
+}
+
+// Allocates up to `count` whole buckets, detaches them, and stores their numbers from `numbers` on.
+// Returns how many were allocated: none if the pool has no other party.
+inline std::size_t take_many_detached(bb_pool_party *from, std::uint32_t *numbers,
+                                      std::size_t count) {
+    return bb_pool_party_take_many_detached(from, numbers, count).number;
 }
 
 //

@@ -168,6 +168,8 @@ functions! {
     bb_pool_allocate(usize, usize) -> Chunk;
     bb_pool_take() -> Chunk;
     bb_pool_deallocate(*const c_void) -> u32;
+    bb_pool_take_many(*mut c_void, usize) -> Number;
+    bb_pool_deallocate_many(*const c_void, usize) -> Number;
     bb_pool_holds(*const c_void) -> Number;
     bb_pool_info(*mut PoolFigures) -> u32;
     bb_pool_place_at(u32) -> Chunk;
@@ -209,4 +211,7 @@ functions! {
     bb_pool_party_return_detached(*mut Handle) -> u32;
     bb_pool_party_detach_number(*const c_void) -> Number;
     bb_pool_party_attach_number(u32, u32) -> Chunk;
+    bb_pool_party_return_number(u32, u32) -> u32;
+    bb_pool_party_return_many(*const u32, usize, u32) -> Number;
+    bb_pool_party_take_many_detached(*mut u32, usize) -> Number;
 }

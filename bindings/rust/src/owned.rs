@@ -9,6 +9,7 @@ use core::marker::PhantomData;
 use core::mem::MaybeUninit;
 use core::ops::Deref;
 use core::ptr::NonNull;
+use core::slice;
 use std::alloc;
 use std::sync::{Arc, Mutex, MutexGuard, PoisonError};
 
@@ -100,6 +101,24 @@ impl Owned<'_> {
     pub fn at(&self, place: usize) -> NonNull<u8> {
         let place = self.start.as_ptr().with_addr(place);
         NonNull::new(place).unwrap_or_else(|| no_such_answer(ffi::OK))
+    }
+
+    /// Returns slots in which the library wrote places.
+    ///
+    /// # Safety
+    ///
+    /// A place of the region was written into each slot, as a number.
+    pub unsafe fn filled<'slots>(
+        &self,
+        slots: &'slots mut [MaybeUninit<NonNull<u8>>],
+    ) -> &'slots mut [NonNull<u8>] {
+        for slot in slots.iter_mut() {
+            // SAFETY: as the caller says.
+            let place = unsafe { slot.as_ptr().cast::<usize>().read() };
+            slot.write(self.at(place));
+        }
+        // SAFETY: these slots have just been written.
+        unsafe { slice::from_raw_parts_mut(slots.as_mut_ptr().cast(), slots.len()) }
     }
 
     /// Returns the place of a chunk, through the pointer by which the region was passed, or the

@@ -339,6 +339,37 @@ impl PoolAllocator<'_> {
         self.all_figures().info
     }
 
+    /// Allocates whole buckets, as repeated calls of [`take`](Pool::take) would, until each slot
+    /// has the place of one or none is free. Returns the slots that were filled.
+    pub fn take_many<'slots>(
+        &self,
+        slots: &'slots mut [MaybeUninit<NonNull<u8>>],
+    ) -> &'slots mut [NonNull<u8>] {
+        let (first, len) = (slots.as_mut_ptr(), slots.len());
+        // SAFETY: the function is of this kind, no other call has the handle, and it writes places
+        // into the slots.
+        let taken = unsafe { ffi::bb_pool_take_many(self.owned.handle(), first.cast(), len) };
+        let taken = number_if(ffi::OK, taken).unwrap_or(0);
+        // SAFETY: a place was written into each of these slots, as a number.
+        unsafe { self.owned.filled(&mut slots[..taken]) }
+    }
+
+    /// Frees the buckets at these places, as repeated calls of
+    /// [`try_deallocate`](Pool::try_deallocate) would, up to the first one that fails. Returns how
+    /// many were freed.
+    ///
+    /// # Safety
+    ///
+    /// Nothing reads or writes their bytes from now on.
+    #[must_use = "fewer buckets may be freed than there are places"]
+    pub unsafe fn try_deallocate_many(&self, places: &[NonNull<u8>]) -> usize {
+        let (first, len) = (places.as_ptr().cast(), places.len());
+        // SAFETY: the function is of this kind, no other call has the handle, and there are that
+        // many places.
+        let count = unsafe { ffi::bb_pool_deallocate_many(self.owned.handle(), first, len) };
+        number_if(ffi::OK, count).unwrap_or(0)
+    }
+
     /// Returns the greatest number of buckets that have been held at one time.
     #[must_use]
     pub fn greatest_held(&self) -> usize {

@@ -170,8 +170,8 @@ pub enum PoolFileError {
     Damaged,
     /// The file isn't regular, or others than those whom `mode` lets may write it.
     Unsafe,
-    /// The file is unfinished, or from before the machine's last boot. No options say how to make it
-    /// again, or another process has locked it.
+    /// The file is unfinished, or from before the machine's last boot. No options say how to make
+    /// it again, or another process has locked it.
     Stale,
     /// Every party is in use.
     NoParty,
@@ -313,7 +313,7 @@ impl PoolFile {
     ///     let file = PoolFile::open("/dev/shm/orders", options)?;
     ///     let bytes = file.user()?;
     ///     assert!(bytes.len() >= size_of::<AtomicU64>());
-    ///     // SAFETY: the bytes are at a multiple of 128, and every process uses these as one atomic.
+    ///     // SAFETY: the bytes are at a multiple of 128, and each process uses these as an atomic.
     ///     let orders = unsafe { &*bytes.as_ptr().cast::<AtomicU64>() };
     ///     Ok(orders.fetch_add(1, Ordering::Relaxed))
     /// }

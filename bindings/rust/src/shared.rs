@@ -13,7 +13,6 @@ use core::alloc::Layout;
 use core::fmt;
 use core::mem::MaybeUninit;
 use core::ptr::NonNull;
-use core::slice;
 use std::sync::{Arc, Mutex};
 
 static BUMP_PARTIES: Joining = Joining {
@@ -449,13 +448,8 @@ impl<'region> PoolParty<'region> {
         // into the slots.
         let taken = unsafe { ffi::bb_pool_party_take_many(self.owned.handle(), first.cast(), len) };
         let taken = number_if(ffi::OK, taken).unwrap_or(0);
-        for slot in &mut slots[..taken] {
-            // SAFETY: a place was written here, as a number.
-            let place = unsafe { slot.as_ptr().cast::<usize>().read() };
-            slot.write(self.owned.at(place));
-        }
-        // SAFETY: these slots have just been written.
-        unsafe { slice::from_raw_parts_mut(first.cast(), taken) }
+        // SAFETY: a place was written into each of these slots, as a number.
+        unsafe { self.owned.filled(&mut slots[..taken]) }
     }
 
     /// Frees the buckets at these places, as repeated calls of
@@ -595,6 +589,68 @@ impl<'region> PoolParty<'region> {
         let answer = unsafe { ffi::bb_pool_party_attach_number(self.owned.handle(), number, from) };
         let place = self.owned.place(answer).map_err(AttachError::of)?;
         Ok(NonNull::slice_from_raw_parts(place, self.bucket.size()))
+    }
+
+    /// Frees the bucket with this number if party `from` has detached it by
+    /// [`detach_number`](PoolParty::detach_number), without attaching it. Any party may free it.
+    /// The bucket isn't cached.
+    ///
+    /// # Errors
+    ///
+    /// Each variant of [`AttachError`] says when it is returned. Nothing changes.
+    ///
+    /// # Safety
+    ///
+    /// The bucket isn't used from now on. It isn't in a [`DetachedBox`](crate::DetachedBox), whose
+    /// bucket is detached by its number, too.
+    pub unsafe fn return_number(&self, number: u32, from: u32) -> Result<(), AttachError> {
+        // SAFETY: the function is of this kind, and no other call has the handle.
+        let code = unsafe { ffi::bb_pool_party_return_number(self.owned.handle(), number, from) };
+        AttachError::unless_ok(code)
+    }
+
+    /// Frees the buckets with these numbers, as repeated calls of
+    /// [`return_number`](PoolParty::return_number) would, up to the first one that fails. Returns
+    /// how many were freed.
+    ///
+    /// # Safety
+    ///
+    /// As for [`return_number`](PoolParty::return_number), for each bucket.
+    #[must_use = "fewer buckets may be freed than there are numbers"]
+    pub unsafe fn return_many(&self, numbers: &[u32], from: u32) -> usize {
+        let (first, len) = (numbers.as_ptr(), numbers.len());
+        // SAFETY: the function is of this kind, no other call has the handle, and there are that
+        // many numbers.
+        let count =
+            unsafe { ffi::bb_pool_party_return_many(self.owned.handle(), first, len, from) };
+        number_if(ffi::OK, count).unwrap_or(0)
+    }
+
+    /// Allocates whole buckets and detaches each of them by its number, until each slot has the
+    /// number of one or none is free. Returns the slots that were filled.
+    /// [`place_at`](Pool::place_at) returns where such a bucket begins.
+    ///
+    /// ```
+    /// use bb_memory::{Pool, SharedPoolAllocator};
+    /// use core::alloc::Layout;
+    ///
+    /// let pool = SharedPoolAllocator::with_buckets(Layout::new::<u64>(), 16, 2)?;
+    /// let (sender, receiver) = (pool.join()?, pool.join()?);
+    /// let mut slots = [0; 8];
+    /// let numbers = sender.take_many_detached(&mut slots);
+    /// assert_eq!(numbers.len(), 8);
+    /// // Nobody uses the buckets.
+    /// assert_eq!(unsafe { receiver.return_many(numbers, sender.number()) }, 8);
+    /// # Ok::<(), Box<dyn std::error::Error>>(())
+    /// ```
+    pub fn take_many_detached<'slots>(&self, slots: &'slots mut [u32]) -> &'slots mut [u32] {
+        let (first, len) = (slots.as_mut_ptr(), slots.len());
+        // SAFETY: the function is of this kind, no other call has the handle, and it writes numbers
+        // into the slots.
+        let taken =
+            unsafe { ffi::bb_pool_party_take_many_detached(self.owned.handle(), first, len) };
+        let taken = number_if(ffi::OK, taken).unwrap_or(0);
+        &mut slots[..taken]
     }
 
     /// Frees each bucket that this party holds, cached or not. The party stays joined.

@@ -335,6 +335,27 @@ fn a_party_takes_and_returns_many_as_one_by_one() {
 }
 
 #[test]
+fn any_party_frees_what_was_taken_detached() {
+    let pool = SharedPoolAllocator::with_buckets(bucket(), 4, 2).unwrap();
+    let (sender, receiver) = (pool.join().unwrap(), pool.join().unwrap());
+    let mut slots = [u32::MAX; 6];
+    assert_eq!(sender.take_many_detached(&mut slots).len(), 4);
+    let numbers = [slots[0], slots[1], slots[2], slots[3]];
+    assert_eq!(slots[4..], [u32::MAX; 2]);
+    assert!(receiver.take_many_detached(&mut slots).is_empty() && sender.held_buckets() == 0);
+    // SAFETY: nobody uses the buckets, and none is in a `DetachedBox`.
+    unsafe {
+        assert_eq!(receiver.return_many(&numbers, receiver.number()), 0);
+        assert_eq!(receiver.return_number(4, sender.number()), Err(AttachError::NotABucket));
+        assert_eq!(receiver.return_number(numbers[0], sender.number()), Ok(()));
+        let again = receiver.return_number(numbers[0], sender.number());
+        assert_eq!(again, Err(AttachError::NotHeld));
+        assert_eq!(receiver.return_many(&numbers[1..], sender.number()), 3);
+    }
+    assert_eq!(receiver.take_many_detached(&mut slots).len(), 4);
+}
+
+#[test]
 fn a_party_takes_what_it_cached_and_gives_it_back_when_it_ends() {
     let pool = SharedPoolAllocator::with_buckets(bucket(), 2, 2).unwrap();
     let (one, other) = (pool.join().unwrap(), pool.join().unwrap());

@@ -1,6 +1,6 @@
 -- A shared pool, its parties, and detached buckets that go from party to party, in handles: what C gets from their calls.
 use Rattle.bb_memory_c_calls.specs.Answers.{answer_of, figure_of, no_figure, refused, shown_flag}
-use Rattle.bb_memory_c_calls.specs.Calls.{Answers, AreKnown, Cutting, HasRoom, IsOneOf, IsThere, MayBeShared, Parties, Sharing, count_unjoined, with_party}
+use Rattle.bb_memory_c_calls.specs.Calls.{Answers, AreKnown, AtEach, Cutting, HasRoom, IsOneOf, IsThere, MayBeShared, Parties, Sharing, count_unjoined, with_party}
 use Rattle.bb_memory_c_calls.specs.declared.answer.Answer.{Answer}
 use Rattle.bb_memory_c_calls.specs.declared.answer.Figure.{Figure}
 use Rattle.bb_memory_c_calls.specs.declared.answer.Holder.{Holder}
@@ -10,15 +10,16 @@ use Rattle.bb_memory_index_set.specs.IndexSets.{Has}
 use Rattle.bb_memory_pool_machine.specs.PoolLogs.{MayBeFound}
 use Rattle.bb_memory_pool_machine.specs.declared.steps.pool.Flag.{Flag}
 use Rattle.bb_memory_shared_pools.specs.SharedPool.{AreFresh, PoolParty, SharedPool, TakenBucket, attach_entry, chunk_of, detach_entry, return_detached_entry, taken_bucket, with_entries}
-use Rattle.bb_memory_shared_pools.specs.SharedPoolCaching.{AttachesCaching, CachingParty, IsOut, MissesCaching, ReturnsCaching, ServesCaching}
+use Rattle.bb_memory_shared_pools.specs.SharedPoolCaching.{AttachesCaching, CachingParty, IsOut, MissesCaching, ReturnsCaching, ReturnsFromCaching, ServesCaching}
 use Rattle.bb_memory_shared_pools.specs.SharedPoolCaching as caching
 use Rattle.bb_memory_shared_pools.specs.SharedPoolLeaving.{GivesAllBack}
 use Rattle.bb_memory_shared_pools.specs.SharedPoolMeetings.{MetDetached, MetUndetached}
 use Rattle.bb_memory_traits.specs.Chunk.{Chunk, IsInside, Region, first_place}
 use Rattle.bb_memory_traits.specs.PoolObject.{IsCut, PoolGeometry, bucket_place}
 use Rattle.bb_memory_traits.specs.declared.allocator.AllocationError.{AllocationError}
+use Rattle.bb_memory_traits.specs.declared.allocator.AllocationError.TheVariants.{OutOfMemory}
 use Rattle.bb_memory_traits.specs.declared.layout.Layout.{Layout}
-use Rattle.std.specs.Prelude.{All, Bool, Err, IfErr, IfOk, IfSome, List, MatchOption, None, Ok, OnErr, Option, Result, Some, [], count_by, length, min, slice_get, swap, ℕ, ◌-◌, ◌<◌, ◌↔◌, ◌≡◌, ◌≢◌, ◌≤◌}
+use Rattle.std.specs.Prelude.{All, Bool, Err, IfErr, IfOk, IfSome, List, MatchOption, None, Ok, OnErr, Option, Result, Some, [], count_by, drop, length, min, slice_get, swap, take, ℕ, ◌-◌, ◌<◌, ◌↔◌, ◌≡◌, ◌≢◌, ◌≤◌}
 use Rattle.std.specs.Result.{result_map_both}
 
 -- a shared pool, and its parties that haven't joined
@@ -296,6 +297,49 @@ pub record TellsAttachNumber (party : CachingParty) (number from : ℕ) (told : 
       → (told ≡ refused not_held) × MissesCaching party number from after
   pub attached : told.code ≡ ok → (number < (geometry_of party).buckets) × AttachesCaching party number from after
       × (told ≡ answer_of (Ok (chunk_of (taken_bucket party.party.allocator number (geometry_of party).bucket.size))))
+
+-- A party is to give back the bucket of this number, if `from` has detached it by number. If the party's exchange lost, the
+-- party's log has the miss. If no bucket has this number, nothing changes.
+pub record TellsReturnNumber (party : CachingParty) (number from code : ℕ) (after : CachingParty) : Type 0 where
+  pub past : (geometry_of party).buckets ≤ number → (code ≡ not_a_bucket) × (after ≡ party)
+  pub lost : number < (geometry_of party).buckets → code ≢ ok → (code ≡ not_held) × MissesCaching party number from after
+  pub returned : code ≡ ok → (number < (geometry_of party).buckets) × ReturnsFromCaching party number from after
+
+-- The buckets of the first `count` numbers are given back, one after another, as by that many single calls. If numbers are left
+-- over, the call for the next one was refused.
+pub record ReturnsMany (party : CachingParty) (numbers : List ℕ) (from count : ℕ) (after : CachingParty) : Type 0 where
+  pub last : CachingParty
+  pub returned : AtEach (λ made number next. TellsReturnNumber made number from ok next) party (take count numbers) last
+  pub at_most : count ≤ length numbers
+  pub all : count ≡ length numbers → after ≡ last
+  pub stopped : IfSome (slice_get numbers count) (λ number. (code : ℕ) × (code ≢ ok)
+      × TellsReturnNumber last number from code after)
+
+-- the party took the whole bucket of this number, and then detached it
+abbrev pub TakesDetached : CachingParty → ℕ → CachingParty → Type 0
+TakesDetached party number after = (taken : CachingParty) × (bucket : TakenBucket)
+    × ServesCaching party (geometry_of party).bucket (Ok bucket) taken × (number ≡ bucket.number)
+    × (after ≡ record taken { party = with_entries taken.party (detach_entry taken.party.number bucket.number) })
+
+-- the party's request for a whole bucket was refused
+abbrev pub RefusesTaking : CachingParty → CachingParty → Type 0
+RefusesTaking party after = ServesCaching party (geometry_of party).bucket (Err OutOfMemory) after
+
+-- Whole buckets are taken and detached, one after another, and their numbers are in the first `count` places of the array. If
+-- places are left over, the next taking was refused.
+pub record TakesManyDetached (party after : CachingParty) (before numbers : List ℕ) (count : ℕ) : Type 0 where
+  pub last : CachingParty
+  pub taken : AtEach TakesDetached party (take count numbers) last
+  pub at_most : count ≤ length before
+  pub others : drop count numbers ≡ drop count before
+  pub all : count ≡ length before → after ≡ last
+  pub refused : count < length before → RefusesTaking last after
+
+-- A party is to take and detach buckets, and C gets how many. If the pool has no other party, nothing changes.
+pub record TellsTakesDetached (party : CachingParty) (before : List ℕ) (told : Figure) (after : CachingParty) (numbers : List ℕ)
+    : Type 0 where
+  pub one_party : ¬ HasOthers party → (told ≡ no_figure one_party) × (after ≡ party) × (numbers ≡ before)
+  pub taken : HasOthers party → (told ≡ figure_of told.number) × TakesManyDetached party after before numbers told.number
 
 -- ATTACHING
 

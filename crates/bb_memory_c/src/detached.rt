@@ -1,9 +1,9 @@
 //! Detached buckets, which go from one party of a shared pool to another: in handles, or only by their numbers.
-ghost use Rattle.bb_memory_c.specs.SharedPools.{Detached, KnowsInside, TakesInside, TellsAttach, TellsAttachNumber, TellsDetach, TellsDetachNumber, TellsLen, TellsReturnDetached, start_of};
-ghost use Rattle.bb_memory_c_calls.specs.Answers.{no_figure, refused};
+ghost use Rattle.bb_memory_c.specs.SharedPools.{Detached, HasOthers, KnowsInside, RefusesTaking, ReturnsMany, TakesDetached, TakesInside, TakesManyDetached, TellsAttach, TellsAttachNumber, TellsDetach, TellsDetachNumber, TellsLen, TellsReturnDetached, TellsReturnNumber, TellsTakesDetached, start_of};
+ghost use Rattle.bb_memory_c_calls.specs.Answers.{figure_of, no_figure, refused};
 ghost use Rattle.bb_memory_c_calls.specs.Calls.{Answers, AnswersFree, AnswersMake, AnswersOfBoth, IfBoth};
 ghost use Rattle.bb_memory_c_calls.specs.declared.code.TheConstants.{UNINITIALIZED as uninitialized};
-ghost use Rattle.std.specs.Prelude.{IfOk, IfSome, None, Some, ◌≡◌};
+ghost use Rattle.std.specs.Prelude.{IfNone, IfOk, IfSome, None, Some, ◌≡◌};
 
 use crate::handle::{DetachedHandle, Handle, PoolPartyHandle};
 use crate::shared_pool::{JoinedPool, note};
@@ -118,6 +118,74 @@ impl JoinedPool {
         if !self.party.is_held(&*self.pool, number) {
             note(&mut self.in_use, number, false);
         }
+    }
+
+    /// Gives back the bucket of this number, if the party of number `from` has detached it by its number.
+    fn return_number(&mut self, number: u32, from: u32) -> u32
+        ensures { TellsReturnNumber self.old number from result self.new }
+    {
+        if number >= self.pool.number_of_buckets() {
+            return code::NOT_A_BUCKET;
+        }
+        if self.party.return_number(&*self.pool, number, from) {
+            code::OK
+        } else {
+            code::NOT_HELD
+        }
+    }
+
+    /// Gives back the buckets of these numbers, one after another, up to the first one that is refused. Returns how many were
+    /// given back.
+    fn return_each(&mut self, numbers: &[u32], from: u32) -> usize
+        ensures { ReturnsMany self.old numbers.now from result self.new }
+    {
+        let mut returned = 0;
+        for number in numbers {
+            if self.return_number(*number, from) != code::OK {
+                return returned;
+            }
+            returned += 1;
+        }
+        returned
+    }
+
+    /// Takes a whole bucket and detaches it. Returns its number, or `None` if no bucket was found.
+    fn take_detached(&mut self) -> Option<u32>
+        requires others { HasOthers self.old }
+        ensures taken { IfSome result (λ number. TakesDetached self.old number self.new) }
+        ensures refused { IfNone result (RefusesTaking self.old self.new) }
+    {
+        match self.party.take(&*self.pool) {
+            Ok(bucket) => Some(self.party.detach_number(&*self.pool, bucket)),
+            Err(_) => None,
+        }
+    }
+
+    /// Takes whole buckets and detaches them, one after another, until each slot has the number of one or none can be taken.
+    /// Returns how many were taken.
+    fn take_each_detached(&mut self, numbers: &mut [u32]) -> usize
+        requires others { HasOthers self.old }
+        ensures { TakesManyDetached self.old self.new numbers.old numbers.new result }
+    {
+        let mut taken = 0;
+        for slot in numbers.iter_mut() {
+            let Some(number) = self.take_detached() else {
+                return taken;
+            };
+            *slot = number;
+            taken += 1;
+        }
+        taken
+    }
+
+    /// Takes whole buckets and detaches them, at most one for each slot, and writes their numbers into the first slots.
+    fn take_many_detached(&mut self, numbers: &mut [u32]) -> Figure
+        ensures { TellsTakesDetached self.old numbers.old result self.new numbers.new }
+    {
+        if self.pool.number_of_parties() < 2 {
+            return Figure::refusal(code::ONE_PARTY);
+        }
+        Figure::of(self.take_each_detached(numbers))
     }
 
     /// Attaches the bucket that is in `detached`, which has none then.
@@ -252,6 +320,60 @@ pub extern "C" fn party_forget_sent(handle: &mut PoolPartyHandle, number: u32)
 {
     if let Some(joined) = handle.made_mut() {
         joined.forget_sent(number);
+    }
+}
+
+/// Frees the bucket of this number, if the party of number `from` has detached it by its number. The call makes one exchange of
+/// the bucket's flag, from "detached by `from`" to free. If the exchange loses, it returns `BB_NOT_HELD`, and if no bucket has
+/// the number, `BB_NOT_A_BUCKET`. The call takes no memory, and waits for nothing.
+#[unsafe(no_mangle)]
+pub extern "C" fn bb_pool_party_return_number(
+    handle: &mut PoolPartyHandle,
+    number: u32,
+    from: u32,
+) -> u32
+    ensures { Answers handle.old.value handle.new.value (result ≡ uninitialized)
+        (λ party after. TellsReturnNumber party number from result after) }
+{
+    match handle.made_mut() {
+        Some(joined) => joined.return_number(number, from),
+        None => code::UNINITIALIZED,
+    }
+}
+
+/// Frees the buckets of these numbers, as that many calls of `bb_pool_party_return_number` do, up to the first one that is
+/// refused. Returns how many it freed.
+#[unsafe(no_mangle)]
+pub extern "C" fn bb_pool_party_return_many(
+    handle: &mut PoolPartyHandle,
+    numbers: &[u32],
+    from: u32,
+) -> Figure
+    ensures { Answers handle.old.value handle.new.value (result ≡ no_figure uninitialized)
+        (λ party after. (result ≡ figure_of result.number)
+        × ReturnsMany party numbers.now from result.number after) }
+{
+    match handle.made_mut() {
+        Some(joined) => Figure::of(joined.return_each(numbers, from)),
+        None => Figure::refusal(code::UNINITIALIZED),
+    }
+}
+
+/// Takes whole buckets and detaches each of them by its number, as that many calls of `bb_pool_party_take` and
+/// `bb_pool_party_detach_number` do, until each slot has a bucket's number or no bucket is found. Returns how many buckets it
+/// took. Their numbers are in the first slots.
+#[unsafe(no_mangle)]
+pub extern "C" fn bb_pool_party_take_many_detached(
+    handle: &mut PoolPartyHandle,
+    numbers: &mut [u32],
+) -> Figure
+    ensures { Answers handle.old.value handle.new.value
+        ((result ≡ no_figure uninitialized) × (numbers.new ≡ numbers.old))
+        (λ party after. TellsTakesDetached party numbers.old result after numbers.new) }
+{
+    match handle.made_mut() {
+        Some(joined) => joined.take_many_detached(numbers),
+        None => Figure::refusal(code::UNINITIALIZED),
     }
 }
 

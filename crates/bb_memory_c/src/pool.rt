@@ -1,5 +1,5 @@
 //! A pool in a handle.
-ghost use Rattle.bb_memory_c_calls.specs.Calls.{AnswersFree, AnswersInfo, AnswersNumber, AnswersPlace, AnswersPoolMake, AnswersRequest, AnswersReturn, AnswersTake, AnswersWhether};
+ghost use Rattle.bb_memory_c_calls.specs.Calls.{AnswersFree, AnswersInfo, AnswersNumber, AnswersPlace, AnswersPoolMake, AnswersRequest, AnswersReturn, AnswersReturns, AnswersTake, AnswersTakings, AnswersWhether};
 ghost use Rattle.bb_memory_c_calls.specs.OneOwner.{PoolAllocates, ShowsPool, cutting_pool};
 ghost use Rattle.bb_memory_owned.specs.Pool.{FreesBucket, HoldsPlace};
 ghost use Rattle.bb_memory_traits.specs.Chunk.{region_at};
@@ -64,6 +64,16 @@ pub extern "C" fn bb_pool_take(handle: &mut PoolHandle) -> Answer
     call::take(handle)
 }
 
+/// Takes whole buckets, as that many calls of `bb_pool_take` do, until each slot has a bucket's place or a call is refused.
+/// Returns how many buckets it took. Their places are in the first slots.
+#[unsafe(no_mangle)]
+pub extern "C" fn bb_pool_take_many(handle: &mut PoolHandle, slots: &mut [usize]) -> Figure
+    ensures { AnswersTakings handle.old.value handle.new.value slots.old slots.new result
+        (λ pool. PoolAllocates pool pool.pool.geometry.bucket) }
+{
+    call::take_many(handle, slots)
+}
+
 /// Takes back the bucket at this place. If no held bucket begins there, it returns `BB_NOT_HELD`, and nothing changes.
 #[unsafe(no_mangle)]
 pub extern "C" fn bb_pool_deallocate(handle: &mut PoolHandle, place: usize) -> u32
@@ -71,6 +81,16 @@ pub extern "C" fn bb_pool_deallocate(handle: &mut PoolHandle, place: usize) -> u
         (λ pool. HoldsPlace pool.pool place) (λ pool after. FreesBucket pool place after) }
 {
     call::give_back(handle, place)
+}
+
+/// Takes back the buckets at these places, as that many calls of `bb_pool_deallocate` do, up to the first one that is refused.
+/// Returns how many it took back.
+#[unsafe(no_mangle)]
+pub extern "C" fn bb_pool_deallocate_many(handle: &mut PoolHandle, places: &[usize]) -> Figure
+    ensures { AnswersReturns handle.old.value handle.new.value places.now result
+        (λ pool place. HoldsPlace pool.pool place) FreesBucket }
+{
+    call::give_back_many(handle, places)
 }
 
 /// Returns 1 if a held bucket begins at this place, otherwise 0.

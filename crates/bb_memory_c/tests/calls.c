@@ -1056,6 +1056,35 @@ static void run_many(void) {
     EXPECT(bb_shared_pool_destroy(&pool) == BB_OK);
 }
 
+// The same of a pool with one owner.
+static void run_many_of_one_owner(void) {
+    bb_pool pool = BB_EMPTY;
+    size_t slots[4] = {1, 2, 3, 4};
+    EXPECT(has_none(bb_pool_take_many(&pool, slots, 4), BB_UNINITIALIZED));
+    EXPECT(slots[0] == 1);
+    EXPECT(has_none(bb_pool_deallocate_many(&pool, slots, 4), BB_UNINITIALIZED));
+    EXPECT(bb_pool_init(&pool, 64, 8, 4096, 64 * 3) == BB_OK);
+    requests = 0;
+    EXPECT(is(bb_pool_take_many(&pool, slots, 2), 2));
+    EXPECT(slots[2] == 3);
+    EXPECT(is(bb_pool_holds(&pool, slots[0]), 1));
+    EXPECT(is(bb_pool_holds(&pool, slots[1]), 1));
+    EXPECT(is(bb_pool_take_many(&pool, slots + 2, 2), 1));
+    EXPECT(slots[3] == 4);
+    EXPECT(slots[0] + slots[1] + slots[2] == 3 * (4096 + 64));
+    EXPECT(is(bb_pool_take_many(&pool, slots + 3, 1), 0));
+    EXPECT(is(bb_pool_take_many(&pool, NULL, 0), 0));
+    EXPECT(is(bb_pool_deallocate_many(&pool, NULL, 0), 0));
+    const size_t back[4] = {slots[2], slots[0], slots[2], slots[1]};
+    EXPECT(is(bb_pool_deallocate_many(&pool, back, 4), 2));
+    EXPECT(is(bb_pool_holds(&pool, slots[1]), 1));
+    EXPECT(is(bb_pool_deallocate_many(&pool, back, 1), 0));
+    EXPECT(is(bb_pool_deallocate_many(&pool, slots + 1, 1), 1));
+    EXPECT(is(bb_pool_take_many(&pool, slots, 4), 3));
+    EXPECT(requests == 0);
+    EXPECT(bb_pool_destroy(&pool) == BB_OK);
+}
+
 // A party of another pool or bump, and a bucket of another pool, are refused with a code, and don't
 // change.
 static void run_others(void) {
@@ -1380,6 +1409,95 @@ static void run_stop_and_start(void) {
     EXPECT(bb_shared_pool_leave(&pool, &party) == BB_OK);
     EXPECT(bb_shared_pool_destroy(&pool) == BB_OK);
     EXPECT(bb_detached_destroy(&slot) == BB_OK);
+}
+
+// Any party frees what another has detached by its number, by the sender's number. A pool's buckets
+// are allocated detached, several in one call, and freed in one call by another party.
+static void run_many_by_number(void) {
+    bb_shared_pool pool = BB_EMPTY;
+    bb_pool_party sender = BB_EMPTY;
+    bb_pool_party receiver = BB_EMPTY;
+    bb_detached detached = BB_EMPTY;
+    uint32_t numbers[5] = {11, 12, 13, 14, 15};
+    EXPECT(bb_pool_party_return_number(&receiver, 0, 0) == BB_UNINITIALIZED);
+    EXPECT(has_none(bb_pool_party_return_many(&receiver, numbers, 5, 0), BB_UNINITIALIZED));
+    EXPECT(has_none(bb_pool_party_take_many_detached(&sender, numbers, 5), BB_UNINITIALIZED));
+    EXPECT(numbers[0] == 11);
+    EXPECT(bb_shared_pool_init(&pool, 64, 8, 4096, 64 * 4, 8) == BB_OK);
+    EXPECT(bb_shared_pool_join_number(&pool, 3, &sender) == BB_OK);
+    EXPECT(bb_shared_pool_join_number(&pool, 0, &receiver) == BB_OK);
+    EXPECT(bb_detached_init(&detached) == BB_OK);
+    requests = 0;
+
+    // One bucket. Only its sender's number frees it, once.
+    size_t place = bb_pool_party_take(&sender).place;
+    uint32_t bucket = (uint32_t)bb_pool_party_number_at(&sender, place).number;
+    EXPECT(bb_pool_party_return_number(&receiver, bucket, 3) == BB_NOT_HELD);
+    EXPECT(is(bb_pool_party_detach_number(&sender, place), bucket));
+    EXPECT(bb_pool_party_return_number(&receiver, 4, 3) == BB_NOT_A_BUCKET);
+    EXPECT(bb_pool_party_return_number(&receiver, UINT32_MAX, 3) == BB_NOT_A_BUCKET);
+    EXPECT(bb_pool_party_return_number(&receiver, bucket, 0) == BB_NOT_HELD);
+    EXPECT(bb_pool_party_return_number(&receiver, bucket, UINT32_MAX) == BB_NOT_HELD);
+    EXPECT(bb_pool_party_return_number(&receiver, (bucket + 1) % 4, 3) == BB_NOT_HELD);
+    EXPECT(says(&pool, bucket, BB_DETACHED, 3));
+    EXPECT(bb_pool_party_return_number(&receiver, bucket, 3) == BB_OK);
+    EXPECT(says(&pool, bucket, BB_FREE, 0));
+    EXPECT(bb_pool_party_return_number(&receiver, bucket, 3) == BB_NOT_HELD);
+
+    // No number frees a bucket that is in a `bb_detached`. A sender may free what it detached.
+    place = bb_pool_party_take(&sender).place;
+    bucket = (uint32_t)bb_pool_party_number_at(&sender, place).number;
+    EXPECT(bb_pool_party_detach(&sender, place, 64, &detached) == BB_OK);
+    EXPECT(bb_pool_party_return_number(&receiver, bucket, 3) == BB_NOT_HELD);
+    EXPECT(given(bb_pool_party_attach(&sender, &detached), place));
+    EXPECT(is(bb_pool_party_detach_number(&sender, place), bucket));
+    EXPECT(bb_pool_party_return_number(&sender, bucket, 3) == BB_OK);
+
+    // Several. Slots after the taken ones are unchanged.
+    EXPECT(is(bb_pool_party_take_many_detached(&sender, numbers, 3), 3));
+    EXPECT(numbers[3] == 14);
+    for (size_t at = 0; at < 3; at++)
+        EXPECT(says(&pool, numbers[at], BB_DETACHED, 3));
+    EXPECT(same(of_pool_party(&sender).held_buckets, 0));
+    EXPECT(is(bb_pool_party_take_many_detached(&sender, numbers + 3, 2), 1));
+    EXPECT(numbers[4] == 15);
+    EXPECT(numbers[0] + numbers[1] + numbers[2] + numbers[3] == 0 + 1 + 2 + 3);
+    EXPECT(is(bb_pool_party_take_many_detached(&receiver, numbers + 4, 1), 0));
+    EXPECT(is(bb_pool_party_take_many_detached(&sender, NULL, 0), 0));
+    EXPECT(is(bb_pool_party_return_many(&receiver, NULL, 0, 3), 0));
+    EXPECT(is(bb_pool_party_return_many(&receiver, numbers, 4, 0), 0));
+    const uint32_t back[4] = {numbers[2], numbers[0], numbers[2], numbers[1]};
+    EXPECT(is(bb_pool_party_return_many(&receiver, back, 4, 3), 2));
+    EXPECT(says(&pool, numbers[0], BB_FREE, 0));
+    EXPECT(says(&pool, numbers[1], BB_DETACHED, 3));
+    EXPECT(given(bb_pool_party_attach_number(&receiver, numbers[1], 3), 4096 + 64 * numbers[1]));
+    EXPECT(bb_pool_party_deallocate(&receiver, 4096 + 64 * numbers[1]) == BB_OK);
+    EXPECT(is(bb_pool_party_return_many(&receiver, numbers + 3, 1, 3), 1));
+    EXPECT(requests == 0);
+
+    // A party that caches gets its cached buckets first, and a freed one isn't cached.
+    EXPECT(bb_pool_party_cache(&sender, 2) == BB_OK);
+    place = bb_pool_party_take(&sender).place;
+    bucket = (uint32_t)bb_pool_party_number_at(&sender, place).number;
+    EXPECT(bb_pool_party_deallocate(&sender, place) == BB_OK);
+    EXPECT(is(bb_pool_party_take_many_detached(&sender, numbers, 1), 1));
+    EXPECT(numbers[0] == bucket);
+    EXPECT(says(&pool, bucket, BB_DETACHED, 3));
+    EXPECT(bb_pool_party_return_number(&sender, bucket, 3) == BB_OK);
+    EXPECT(says(&pool, bucket, BB_FREE, 0));
+    EXPECT(bb_shared_pool_leave(&pool, &sender) == BB_OK);
+    EXPECT(bb_shared_pool_leave(&pool, &receiver) == BB_OK);
+    EXPECT(bb_shared_pool_destroy(&pool) == BB_OK);
+    EXPECT(bb_detached_destroy(&detached) == BB_OK);
+
+    // In a pool of one party nothing is detached.
+    EXPECT(bb_shared_pool_init(&pool, 64, 8, 4096, 64, 1) == BB_OK);
+    EXPECT(bb_shared_pool_join(&pool, &sender) == BB_OK);
+    EXPECT(has_none(bb_pool_party_take_many_detached(&sender, numbers, 1), BB_ONE_PARTY));
+    EXPECT(numbers[0] == bucket);
+    EXPECT(bb_pool_party_return_number(&sender, 0, 0) == BB_NOT_HELD);
+    EXPECT(bb_shared_pool_leave(&pool, &sender) == BB_OK);
+    EXPECT(bb_shared_pool_destroy(&pool) == BB_OK);
 }
 
 // A bucket goes to another party by its number. If several errors apply, the first one is returned.
@@ -1739,6 +1857,7 @@ int main(void) {
     run_caching();
     run_in_use();
     run_many();
+    run_many_of_one_owner();
     run_others();
     run_nested();
     run_detached();
@@ -1747,6 +1866,7 @@ int main(void) {
     run_destroy();
     run_stop_and_start();
     run_by_number();
+    run_many_by_number();
     run_join_number();
     run_join_number_refused();
     run_attach_at_once();

@@ -35,6 +35,35 @@ mark_at scene state rule bucket below =
 
 -- ONE STEP
 
+-- the rule after an operation of a party whose seat stands only for that party, with which the party's log becomes `longer`
+pub lengthened : (scene : PoolScene) (state : State ℕ SeatView) (rule : WordsAndLogsAgree scene state) (seat party : ℕ)
+    (log longer : PoolLog) (words : List ℕ) (marks : List Flag) →
+    get_elem? state.views seat ≡ some (alone scene party log) →
+    LogsAgree scene (flags_in marks) (slice_set rule.logs party longer) →
+    words ≡ words_of marks → ((b : ℕ) → HasToken rule.marks b → HasToken marks b) →
+    WordsAndLogsAgree scene
+    record { words = words; homes = state.homes; views = set state.views seat (alone scene party longer) }
+lengthened scene state rule seat party log longer words marks at agree are keep = record {
+  marks = marks;
+  logs = slice_set rule.logs party longer;
+  agree = agree;
+  words = are;
+  one_a_party = length-set_at rule.logs party longer ∙ rule.one_a_party;
+  seated = seated_step scene.parties rule.logs state.views seat scene party log longer rule.seated at;
+  detached = detached_kept rule.marks marks state.views seat (alone scene party log) (alone scene party longer) refl refl at
+      rule.detached keep;
+}
+
+-- the effect of such an operation: the longer log is interleaved with others'
+pub told_longer : (scene : PoolScene) (flags : List Flag) (logs : List PoolLog) (party : ℕ) (log longer : PoolLog) →
+    HasLog logs party log → LogsAgree scene flags (slice_set logs party longer) →
+    IsSeatOf scene party longer (alone scene party longer, [])
+told_longer scene flags logs party log longer at agree = record {
+  is = refl;
+  interleaved = interleaved_log scene flags (slice_set logs party longer) party longer agree
+      (slice_get-set_same logs party longer log at);
+}
+
 -- the rule after a step of a party whose seat stands only for that party
 pub entered : (scene : PoolScene) (state : State ℕ SeatView) (rule : WordsAndLogsAgree scene state) (seat party : ℕ)
     (log : PoolLog) (entry : PoolEntry) (words : List ℕ) (marks : List Flag) →
@@ -44,27 +73,13 @@ pub entered : (scene : PoolScene) (state : State ℕ SeatView) (rule : WordsAndL
     WordsAndLogsAgree scene
     record { words = words; homes = state.homes; views = set state.views seat (alone scene party (log ++ entry ∷ [])) }
 entered scene state rule seat party log entry words marks at agree are keep =
-    let longer : PoolLog = log ++ entry ∷ [] in
-    record {
-      marks = marks;
-      logs = with_entry rule.logs party log entry;
-      agree = agree;
-      words = are;
-      one_a_party = length-set_at rule.logs party longer ∙ rule.one_a_party;
-      seated = seated_step scene.parties rule.logs state.views seat scene party log longer rule.seated at;
-      detached = detached_kept rule.marks marks state.views seat (alone scene party log) (alone scene party longer) refl refl at
-          rule.detached keep;
-    }
+    lengthened scene state rule seat party log (log ++ entry ∷ []) words marks at agree are keep
 
 -- the effect of such a step: the log is longer, and interleaved with others'
 pub told : (scene : PoolScene) (flags : List Flag) (logs : List PoolLog) (party : ℕ) (log : PoolLog) (entry : PoolEntry) →
     HasLog logs party log → LogsAgree scene flags (with_entry logs party log entry) →
     IsSeatOf scene party (log ++ entry ∷ []) (alone scene party (log ++ entry ∷ []), [])
-told scene flags logs party log entry at agree = record {
-  is = refl;
-  interleaved = interleaved_log scene flags (with_entry logs party log entry) party (log ++ entry ∷ []) agree
-      (slice_get-set_same logs party (log ++ entry ∷ []) log at);
-}
+told scene flags logs party log entry at agree = told_longer scene flags logs party log (log ++ entry ∷ []) at agree
 
 -- STEPS AT A FLAG
 

@@ -111,3 +111,8 @@ pub idle_after_one : (log : PoolLog) (entry : PoolEntry) → pass_in log ≡ Non
     pass_in (log ++ entry ∷ []) ≡ None
 idle_after_one log entry idle is =
     pass-append None log (entry ∷ []) ∙ ap (λ (pass : Option ℕ). pass_after pass entry.outcome) idle ∙ is
+
+-- so do steps after which the party would be idle again
+pub idle_after_steps : (log steps : PoolLog) → pass_in log ≡ None → pass_in steps ≡ None → pass_in (log ++ steps) ≡ None
+idle_after_steps log steps idle is =
+    pass-append None log steps ∙ ap (λ (pass : Option ℕ). pass_through pass steps) idle ∙ is

@@ -112,6 +112,11 @@ miss_from_entry party bucket from = entry_of (AttachFrom party bucket from) (Mis
 abbrev pub token_entry : ℕ → ℕ → ℕ → PoolLog
 token_entry party bucket from = entry_of (FindToken party bucket from) (Misses bucket) ∷ []
 
+-- the two steps of one exchange that gives back a bucket that the party `from` has detached: the party attaches the bucket from
+-- `from`, and gives it back
+abbrev pub return_from_entries : ℕ → ℕ → ℕ → PoolLog
+return_from_entries party bucket from = attach_from_entry party bucket from ++ return_entry party bucket
+
 -- a step that gives back a detached bucket
 abbrev pub return_detached_entry : ℕ → ℕ → PoolLog
 return_detached_entry party bucket = entry_of (GiveBackDetached party bucket) (Gives bucket) ∷ []
@@ -279,5 +284,16 @@ pub record HasReturned (pool : SharedPool) (old : PoolParty) (detached : TakenBu
   pub party : new.allocator ≡ pool
   pub is_party : IsSameParty old new
   pub not_held : ¬ IsHeldAfter old.log detached.number
+  pub others_kept : (other : ℕ) → IsHeldAfter old.log other → IsHeldAfter new.log other
+  pub others : (other : ℕ) → IsHeldAfter new.log other → IsHeldAfter old.log other
+
+-- The party has given back the bucket of this number, which the party `from` had detached, as its log says: the machine allows
+-- the first of the two steps only if the bucket is detached by `from`. The party didn't hold the bucket, and holds what it held
+-- before.
+pub record HasReturnedFrom (pool : SharedPool) (old : PoolParty) (number from : ℕ) (new : PoolParty) : Type 0 where
+  pub logged : new ≡ with_entries old (return_from_entries old.number number from)
+  pub party : new.allocator ≡ pool
+  pub is_party : IsSameParty old new
+  pub not_held : ¬ IsHeldAfter old.log number
   pub others_kept : (other : ℕ) → IsHeldAfter old.log other → IsHeldAfter new.log other
   pub others : (other : ℕ) → IsHeldAfter new.log other → IsHeldAfter old.log other

@@ -1,6 +1,6 @@
 -- Parties of a shared pool that cache buckets: which buckets they cache for their next requests, and which are in use.
 use Rattle.bb_memory_pool_machine.specs.PoolLogs.{IsHeldAfter, PoolLog}
-use Rattle.bb_memory_shared_pools.specs.SharedPool.{HasAttachedFrom, HasMissedFrom, PoolParty, Serves, ServesAlone, TakenBucket, attach_from_entry, return_entry, taken_bucket, with_entries}
+use Rattle.bb_memory_shared_pools.specs.SharedPool.{HasAttachedFrom, HasMissedFrom, HasReturnedFrom, PoolParty, Serves, ServesAlone, TakenBucket, attach_from_entry, return_entry, return_from_entries, taken_bucket, with_entries}
 use Rattle.bb_memory_shared_pools.specs.SharedPoolNextFit.{MayTakeFrom, hint_of}
 use Rattle.bb_memory_traits.specs.PoolObject.{IsWithin}
 use Rattle.bb_memory_traits.specs.declared.allocator.AllocationError.{AllocationError}
@@ -84,8 +84,16 @@ pub record AttachesCaching (old : CachingParty) (number from : ℕ) (new : Cachi
   pub others_kept : (other : ℕ) → IsOut old other → IsOut new other
   pub others : (other : ℕ) → other ≢ number → IsOut new other → IsOut old other
 
--- The party has missed the bucket of this number, which it tried to attach from the party `from`, as its log says. The same
--- buckets are in use as before.
+-- The party has given back the bucket of this number, which the party `from` had detached, as its log says. The bucket isn't
+-- cached, and wasn't in use. The same buckets are in use as before.
+pub record ReturnsFromCaching (old : CachingParty) (number from : ℕ) (new : CachingParty) : Type 0 where
+  pub logged : new ≡ record old { party = with_entries old.party (return_from_entries old.party.number number from) }
+  pub party : HasReturnedFrom old.party.allocator old.party number from new.party
+  pub not_out : ¬ IsOut old number
+  pub out : (bucket : ℕ) → IsOut old bucket ↔ IsOut new bucket
+
+-- The party has missed the bucket of this number, which it tried to attach or to give back, from the party `from`, as its log
+-- says. The same buckets are in use as before.
 pub record MissesCaching (old : CachingParty) (number from : ℕ) (new : CachingParty) : Type 0 where
   pub unchanged : new ≡ record old { party = new.party }
   pub party : HasMissedFrom old.party.allocator old.party number from new.party

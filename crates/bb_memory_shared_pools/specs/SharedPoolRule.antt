@@ -10,7 +10,7 @@ use Rattle.bb_memory_pool_machine.specs.declared.steps.pool.PoolOutcome.TheVaria
 use Rattle.bb_memory_pool_machine.specs.declared.steps.pool.PoolStep.TheVariants.{Try}
 use Rattle.bb_memory_seats.specs.Seats.{AreSeated, HaveLogs, IsAt, Numbered, View, alone, alone_with, carrying, fresh_from, number_of, numbered, standing_for, times_detached, times_in, view_log}
 use Rattle.bb_memory_shared_pools.specs.FlagWords.{HasToken, as_word, bucket_of, flag_in, flags_in, sender_in, words_for, words_of}
-use Rattle.bb_memory_shared_pools.specs.SharedPool.{AreAllHeldAfter, IsMissFrom, IsSharedScene, PoolParty, SharedPool, attach_entry, attach_from_entry, detach_entry, return_detached_entry, return_entry, scene_at, taking_pass}
+use Rattle.bb_memory_shared_pools.specs.SharedPool.{AreAllHeldAfter, IsMissFrom, IsSharedScene, PoolParty, SharedPool, attach_entry, attach_from_entry, detach_entry, return_detached_entry, return_entry, return_from_entries, scene_at, taking_pass}
 use Rattle.bb_memory_shared_pools.specs.SharedPoolNextFit.{hint_in, miss_at, misses, probed, taking_at, taking_search}
 use Rattle.bb_memory_shared_pools.specs.declared.shared_pool.party.Hint.{Hint}
 use Rattle.bb_memory_traits.specs.Chunk.{IsRegion, region_at}
@@ -258,11 +258,11 @@ pub record AfterMissFrom (scene : PoolScene) (number : ℕ) (log : PoolLog) (buc
   pub miss : IsMissFrom number bucket from step
   pub ended : AfterCall scene number log step new
 
--- An idle party's exchange from the word "detached by `from`" to its own, which found this word. If it found that word, the party
--- attached the bucket from `from`. Otherwise it missed the bucket.
-abbrev pub AfterNumber : ℕ → PoolScene → ℕ → PoolLog → ℕ → ℕ → Me ℕ SeatView → Type 0
-AfterNumber from scene number log bucket found new =
-    (found ≡ as_word (DetachedBy from) → AfterGain scene number log (attach_from_entry number bucket from) bucket new)
+-- An idle party's exchange from the word "detached by `from`" to another, which found this word. If it found that word, the
+-- party's log has the entries of `won`. Otherwise the party missed the bucket.
+abbrev pub AfterNumber : (ℕ → ℕ → ℕ → PoolLog) → ℕ → PoolScene → ℕ → PoolLog → ℕ → ℕ → Me ℕ SeatView → Type 0
+AfterNumber won from scene number log bucket found new =
+    (found ≡ as_word (DetachedBy from) → AfterGain scene number log (won number bucket from) bucket new)
     × (found ≢ as_word (DetachedBy from) → AfterMissFrom scene number log bucket from new)
 
 -- The effect of a step at a flag, by scene, party, log, bucket, the word that was found, and the seat afterwards.
@@ -302,9 +302,13 @@ detaches step old found new = AfterDetach old.0.scene (number_of old.0) (view_lo
 abbrev pub detaches_number : Step ℕ → Me ℕ SeatView → ℕ → Me ℕ SeatView → Type 0
 detaches_number step old found new = AfterDetachSplit old.0.scene (number_of old.0) (view_log old.0) (bucket_of step.word) new
 
--- an exchange by an idle party of the word of a bucket that is detached without a token
+-- an exchange by an idle party of the word of a bucket that is detached without a token, for the party's own
 abbrev pub attaches_number : Step ℕ → Me ℕ SeatView → ℕ → Me ℕ SeatView → Type 0
-attaches_number step old = effect_of (AfterNumber (sender_in step.first)) old (bucket_of step.word)
+attaches_number step old = effect_of (AfterNumber attach_from_entry (sender_in step.first)) old (bucket_of step.word)
+
+-- an exchange by an idle party of the word of a bucket that is detached without a token, for that of a free one
+abbrev pub returns_number : Step ℕ → Me ℕ SeatView → ℕ → Me ℕ SeatView → Type 0
+returns_number step old = effect_of (AfterNumber return_from_entries (sender_in step.first)) old (bucket_of step.word)
 
 -- a store by an idle party, which attaches the bucket that is detached at its seat
 abbrev pub attaches : Step ℕ → Me ℕ SeatView → ℕ → Me ℕ SeatView → Type 0

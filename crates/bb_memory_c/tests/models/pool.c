@@ -105,6 +105,52 @@ static void deallocate(void) {
     count_held--;
 }
 
+static void take_many(void) {
+    size_t slots[8];
+    uint32_t count = below(6);
+    memset(slots, 0xa5, sizeof slots);
+    bb_number taken = bb_pool_take_many(&pool, count == 0 ? NULL : slots, count);
+    size_t took = 0;
+    if (made) {
+        EXPECT(is_code(taken.code, BB_OK) && taken.number <= count);
+        took = taken.number;
+        for (size_t at = 0; at < took; at++) {
+            bb_chunk chunk = {BB_OK, slots[at]};
+            expect_any(chunk);
+        }
+        if (took < count) {
+            bb_chunk none = {BB_OUT_OF_MEMORY, 0};
+            expect_any(none);
+        }
+    } else {
+        EXPECT(has_none(taken, BB_UNINITIALIZED));
+    }
+    for (size_t at = took; at < 8; at++)
+        EXPECT(slots[at] == (size_t)0xa5a5a5a5a5a5a5a5);
+}
+
+static void deallocate_many(void) {
+    size_t places[4];
+    uint32_t count = below(5);
+    size_t expected = 0;
+    for (uint32_t at = 0; at < 4; at++)
+        places[at] = made ? some_place(&of) : edge();
+    bb_number returned = bb_pool_deallocate_many(&pool, count == 0 ? NULL : places, count);
+    if (!made) {
+        EXPECT(has_none(returned, BB_UNINITIALIZED));
+        return;
+    }
+    while (expected < count) {
+        int64_t number = number_at(&of, places[expected]);
+        if (number < 0 || !held[number])
+            break;
+        held[number] = false;
+        count_held--;
+        expected++;
+    }
+    EXPECT(is_number(returned, expected));
+}
+
 static void ask(void) {
     size_t place = made ? some_place(&of) : edge();
     uint32_t number = below(4) == 0 ? (uint32_t)edge() : below(MOST);
@@ -149,6 +195,10 @@ static void a_round(void) {
     case 6: init(); break;
     case 7:
     case 8: ask(); break;
+    case 9:
+    case 10: take_many(); break;
+    case 11:
+    case 12: deallocate_many(); break;
     default:
         if (below(2) == 0)
             allocate();

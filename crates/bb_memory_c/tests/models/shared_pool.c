@@ -614,6 +614,76 @@ static void attach_number(uint32_t handle) {
     }
 }
 
+// Frees a bucket in the model, if party `from` has detached it by its number. Returns the code.
+static uint32_t take_back_number(a_pool *pool, uint32_t number, uint32_t from) {
+    if (number >= pool->of.count)
+        return BB_NOT_A_BUCKET;
+    if (pool->bucket[number].state != BY_NUMBER || pool->bucket[number].party != from)
+        return BB_NOT_HELD;
+    pool->bucket[number].state = FREE;
+    return BB_OK;
+}
+
+static void return_number(uint32_t handle) {
+    a_pool *pool = pool_of_party(handle);
+    uint32_t number = below(8) == 0 ? (uint32_t)edge() : below(MOST);
+    uint32_t from = below(16) == 0 ? (uint32_t)edge() : below(MOST_PARTIES);
+    uint32_t code = bb_pool_party_return_number(&parties[handle], number, from);
+    if (pool == NULL)
+        EXPECT(is_code(code, BB_UNINITIALIZED));
+    else
+        EXPECT(is_code(code, take_back_number(pool, number, from)));
+}
+
+static void return_many(uint32_t handle) {
+    a_pool *pool = pool_of_party(handle);
+    uint32_t numbers[4];
+    uint32_t count = below(5);
+    uint32_t from = below(MOST_PARTIES);
+    for (uint32_t at = 0; at < 4; at++)
+        numbers[at] = below(16) == 0 ? (uint32_t)edge() : below(MOST);
+    bb_number returned =
+        bb_pool_party_return_many(&parties[handle], count == 0 ? NULL : numbers, count, from);
+    if (pool == NULL) {
+        EXPECT(has_none(returned, BB_UNINITIALIZED));
+        return;
+    }
+    size_t expected = 0;
+    while (expected < count && take_back_number(pool, numbers[expected], from) == BB_OK)
+        expected++;
+    EXPECT(is_number(returned, expected));
+}
+
+static void take_many_detached(uint32_t handle) {
+    a_pool *pool = pool_of_party(handle);
+    uint32_t numbers[MOST];
+    uint32_t count = below(6);
+    memset(numbers, 0xa5, sizeof numbers);
+    bb_number taken =
+        bb_pool_party_take_many_detached(&parties[handle], count == 0 ? NULL : numbers, count);
+    size_t took = 0;
+    if (pool == NULL) {
+        EXPECT(has_none(taken, BB_UNINITIALIZED));
+    } else if (pool->parties == 1) {
+        EXPECT(has_none(taken, BB_ONE_PARTY));
+    } else {
+        EXPECT(is_code(taken.code, BB_OK) && taken.number <= count);
+        took = taken.number;
+        for (size_t at = 0; at < took; at++) {
+            EXPECT(numbers[at] < pool->of.count);
+            bb_chunk chunk = {BB_OK, (size_t)(pool->of.first + pool->of.stride * numbers[at])};
+            EXPECT(expect_any(handle, chunk));
+            pool->bucket[numbers[at]].state = BY_NUMBER;
+        }
+        if (took < count) {
+            bb_chunk none = {BB_OUT_OF_MEMORY, 0};
+            EXPECT(!expect_any(handle, none));
+        }
+    }
+    for (size_t at = took; at < MOST; at++)
+        EXPECT(numbers[at] == 0xa5a5a5a5);
+}
+
 static void a_round(void) {
     uint32_t pool = below(POOLS);
     uint32_t party = below(PARTIES);
@@ -660,6 +730,11 @@ static void a_round(void) {
     case 29:
     case 30:
     case 31: attach_number(party); break;
+    case 32:
+    case 33: return_number(party); break;
+    case 34: return_many(party); break;
+    case 35:
+    case 36: take_many_detached(party); break;
     default:
         if (below(2) == 0)
             allocate(party);

@@ -1,7 +1,7 @@
 //! Parties that cache the buckets that they gave back last: a layer over the shared pools.
 ghost use Rattle.bb_memory_pool_machine.specs.PoolLogs.{IsHeldAfter};
 ghost use Rattle.bb_memory_shared_pools.specs.SharedPool.{HasAttached, HasDetached, HasReturned, IsSameParty, attach_entry, detach_entry, return_detached_entry, with_entries};
-ghost use Rattle.bb_memory_shared_pools.specs.SharedPoolCaching.{AreCached, AttachesCaching, IsOut, MissesCaching, ReturnsCaching, ServesCaching, returns_of};
+ghost use Rattle.bb_memory_shared_pools.specs.SharedPoolCaching.{AreCached, AttachesCaching, IsOut, MissesCaching, ReturnsCaching, ReturnsFromCaching, ServesCaching, returns_of};
 ghost use Rattle.bb_memory_shared_pools.specs.SharedPoolLeaving.{GivesAllBack};
 ghost use Rattle.bb_memory_shared_pools.specs.SharedPoolMeetings.{AreBothOf, AreInterleaved};
 ghost use Rattle.std.specs.Prelude.{Contains, IfErr, IfOk, IsFalse, IsTrue, Ok, [], length, true, vec_capacity, ℕ, ◌<◌, ◌↔◌, ◌≡◌, ◌≢◌, ◌≤◌};
@@ -299,6 +299,24 @@ impl CachingParty {
         ensures lost { IsFalse result → MissesCaching self.old number from self.new }
     {
         pool.attach_number(&mut self.party, number, from)
+    }
+
+    /// Gives back the bucket of this number to the pool if the party of number `from` has detached it by `detach_number`, and
+    /// returns whether that succeeded, as [`SharedPoolAllocator::return_number`](super::SharedPoolAllocator::return_number)
+    /// does. The bucket isn't cached. A loss changes only the log, which has the miss. The party has to be this pool's.
+    #[tactic(auto, unfolding(crate::specs::SharedPoolCaching::IsOut))]
+    pub fn return_number<const CAPPED: usize, const MOST: usize>(
+        &mut self,
+        pool: &SharedBucketPool<CAPPED, MOST>,
+        number: u32,
+        from: u32,
+    ) -> bool
+        requires party { self.old.party.allocator ≡ pool.now }
+        requires below { number < pool.now.scene.geometry.buckets }
+        ensures won { IsTrue result → ReturnsFromCaching self.old number from self.new }
+        ensures lost { IsFalse result → MissesCaching self.old number from self.new }
+    {
+        pool.return_number(&mut self.party, number, from)
     }
 
     /// Gives back a detached bucket to the pool by one store, as

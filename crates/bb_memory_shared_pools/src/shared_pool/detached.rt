@@ -1,5 +1,5 @@
 //! Buckets in transit from one party of a shared pool to another.
-ghost use Rattle.bb_memory_shared_pools.specs.SharedPool.{AreOf, HasAttached, HasAttachedFrom, HasDetached, HasMissedFrom, HasReturned, MayDetach};
+ghost use Rattle.bb_memory_shared_pools.specs.SharedPool.{AreOf, HasAttached, HasAttachedFrom, HasDetached, HasMissedFrom, HasReturned, HasReturnedFrom, MayDetach};
 ghost use Rattle.std.specs.Prelude.{IsFalse, IsTrue, ◌<◌, ◌≡◌, ◌≤◌};
 
 use super::bucket::Bucket;
@@ -139,5 +139,24 @@ impl<const CAPPED: usize, const MOST: usize> SharedBucketPool<CAPPED, MOST> {
     {
         self.flags
             .attach_number(party.number, &mut party.seat, number, from)
+    }
+
+    /// Gives back the bucket of this number if the party of number `from` has detached it by `detach_number`, by one exchange of
+    /// its flag, and returns whether that succeeded. Any party may call it, `from` itself too. The log has the exchange as the
+    /// two steps that it takes the place of, an attach from `from` and a return, with no step of another party between them. If
+    /// the exchange loses, it changes nothing, and the log has the miss, as after `attach_number`.
+    ///
+    /// The party has to be this pool's. `from` may be any number.
+    pub fn return_number(&self, party: &mut PoolParty, number: u32, from: u32) -> bool
+        requires party { party.old.allocator ≡ self.now }
+        requires below { number < self.now.scene.geometry.buckets }
+        ensures won { IsTrue result → HasReturnedFrom self.now party.old number from party.new }
+        ensures lost { IsFalse result → HasMissedFrom self.now party.old number from party.new }
+    {
+        let is_free = self.flags.return_number(&mut party.seat, number, from);
+        if is_free {
+            party.hint.follow_return(number);
+        }
+        is_free
     }
 }

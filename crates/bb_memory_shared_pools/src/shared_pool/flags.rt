@@ -2,6 +2,7 @@
 //!
 //! - `try_flag`, `try_at`, `probe`, `give_back`, `detach_number` and `attach_number` make one logged step each, by the seat of
 //!   the party whose step it is. That party's log then ends with the step and what it found.
+//! - `return_number` makes one exchange, which the log has as two steps if it wins: an attach and a return.
 //! - So do `detach`, `attach` and `return_detached`. Each of these three also loads one more word, for the seat of the detached
 //!   bucket.
 //! - `split_first`, `merge`, `load_for_meeting`, `meet`, `is_held`, `is_detached_when_met` and `found` only load words, and are
@@ -13,7 +14,7 @@ ghost use Rattle.bb_memory_pool_machine.specs.declared.steps.pool.Flag.{Flag};
 ghost use Rattle.bb_memory_pool_machine.specs.declared.steps.pool.Flag.TheVariants.{DetachedBy, HeldBy};
 ghost use Rattle.bb_memory_seats.specs.Seats.{IsSplit, MayMerge, Stays, alone_with, both_of, number_of, view_log};
 ghost use Rattle.bb_memory_shared_pools.specs.FlagWords.{as_word, flag_in, with_token, word_of};
-ghost use Rattle.bb_memory_shared_pools.specs.SharedPool.{attach_entry, attach_from_entry, return_detached_entry};
+ghost use Rattle.bb_memory_shared_pools.specs.SharedPool.{attach_entry, attach_from_entry, return_detached_entry, return_from_entries};
 ghost use Rattle.bb_memory_shared_pools.specs.SharedPoolRule.{AfterDetachSplit, AfterGain, AfterMeeting, AfterMeetingLoad, AfterMissFrom, AfterProbe, AfterReturn, AfterTryLoss, AfterTryWin, FoundDetached, FoundOther, IsDetachedAt, IsHeldAt, IsIdleAt, IsSeatAt, StandsAt, all_parties};
 ghost use Rattle.bb_memory_traits.specs.Chunk.{IsRegion};
 ghost use Rattle.bb_memory_traits.specs.PoolObject.{IsPoolGeometry};
@@ -182,6 +183,15 @@ impl Play<u8, View> for AttachesNumber {
     ghost use Rattle.bb_memory_shared_pools.specs.SharedPoolRule.{attaches_number};
 
     ghost then = { attaches_number };
+}
+
+/// An exchange by an idle party from detached by some party without a token to free.
+struct ReturnsNumber;
+
+impl Play<u8, View> for ReturnsNumber {
+    ghost use Rattle.bb_memory_shared_pools.specs.SharedPoolRule.{returns_number};
+
+    ghost then = { returns_number };
 }
 
 /// A store by a party at whose seat the bucket is detached, which attaches it.
@@ -499,6 +509,24 @@ impl Flags {
         let word = word_of(bucket);
         let found = shared.compare_exchange::<AttachesNumber>(seat, word, sent, held_by(party));
         found == sent
+    }
+
+    /// Exchanges the flag of `bucket` from detached by `from`, without a token, to free, by an idle party. Returns whether that
+    /// gave the bucket back.
+    pub(super) fn return_number(&self, seat: &mut Seat<u8, View>, bucket: u32, from: u32) -> bool
+        requires seat { IsIdleAt self.now seat.old.table_id seat.old.me }
+        requires below { bucket < self.now.scene.geometry.buckets }
+        ensures { Stays seat.old.table_id seat.new.table_id (MatchBool result
+            (AfterGain self.now.scene (number_of seat.old.me.0) (view_log seat.old.me.0)
+            (return_from_entries (number_of seat.old.me.0) bucket from) bucket seat.new.me)
+            (AfterMissFrom self.now.scene (number_of seat.old.me.0) (view_log seat.old.me.0)
+            bucket from seat.new.me)) }
+    {
+        let shared = &self.table.shared;
+        let expected = detached_by(from);
+        let word = word_of(bucket);
+        let flag = shared.compare_exchange::<ReturnsNumber>(seat, word, expected, FREE);
+        flag == expected
     }
 
     /// Moves a guest's parties to this seat, before its own.
