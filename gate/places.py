@@ -165,7 +165,14 @@ PLACES = (
             BUMP: {"meet": 1, "meet_rest": 1},
             BUMP + "/position": {"load_for_meeting": 1},
             BUMP + "/meeting": {"load_for_meeting": 1},
-            C + "detached": {"attach_number": 2, "return_number": 3, "held_at": 2, "is_held": 1},
+            C
+            + "detached": {
+                "attach_number": 2,
+                "return_number": 3,
+                "held_at": 2,
+                "is_held": 1,
+                "is_out": 1,
+            },
             C
             + "shared_pool": {
                 "holder": 1,
