@@ -9,8 +9,10 @@
 //         killed anywhere.
 //     trace duels FOLDER STRIDE
 //         A post is stopped after each instruction, and another process takes the message, or posts
-//         to the slot. A take of a message, and a reap with detached buckets, are stopped after each
-//         STRIDE-th instruction, and another process takes the bucket and sends it elsewhere.
+//         to the slot. A process is killed after each instruction from the first change in a post or
+//         a `done` on, and reaped. A take of a message, and a reap with detached buckets, are
+//         stopped after each STRIDE-th instruction, and another process takes the bucket and sends it
+//         elsewhere.
 //
 // The lines, in which P is a process, K a party's number, B a bucket, S a slot and L a length:
 //
@@ -857,9 +859,37 @@ static bool duel_post(uint32_t most) {
     return ended;
 }
 
+// Kills a process that many instructions after the first change in its post, or in its `done`. The
+// first process reaps it, and the second one takes the message, if the slot has it. Returns whether
+// the call had ended before.
+static bool duel_settle(enum call call, uint32_t most) {
+    struct process *one = &living[0];
+    struct process *other = &living[1];
+    struct process *killed = &living[2];
+    const struct turn part = {LONGEST_TURN, most};
+    start_joined(killed);
+    const uint32_t bucket = allocate(killed);
+    if (call == DONE) {
+        make(killed, POST, 0, bucket);
+        make(killed, TAKE, 0, 0);
+    }
+    order(killed, call, 0, bucket);
+    go(killed, part);
+    const bool ended = !killed->is_in_call;
+    end_killed(killed);
+    make(one, REAP, 0, 0);
+    if (make(other, TAKE, 0, 0) && make(other, DONE, 0, 0))
+        make_unstepped(other, DEALLOCATE, bucket);
+    return ended;
+}
+
 static void run_duels(uint32_t stride) {
     start_joined(&living[0]);
     start_joined(&living[1]);
+    for (uint32_t most = 0; !duel_settle(POST, most) && most < LONGEST_TURN; most++)
+        ;
+    for (uint32_t most = 0; !duel_settle(DONE, most) && most < LONGEST_TURN; most++)
+        ;
     for (uint32_t most = 1; !duel_post(most) && most < LONGEST_TURN; most++)
         ;
     for (int by_slot = 0; by_slot < 2; by_slot++) {
