@@ -11,7 +11,28 @@
 #include <sys/wait.h>
 #include <unistd.h>
 
+#include "bb_memory.hpp"
+
 #include "bb_pool_file.hpp"
+
+namespace {
+
+// Whether C++ has no memory left.
+bool is_out_of_memory = false;
+
+}  // namespace
+
+void *operator new(std::size_t size, const std::nothrow_t &) noexcept {
+    return is_out_of_memory ? nullptr : std::malloc(size);
+}
+
+void operator delete(void *place) noexcept {
+    std::free(place);
+}
+
+void operator delete(void *place, std::size_t) noexcept {
+    std::free(place);
+}
 
 namespace {
 
@@ -287,6 +308,21 @@ void run_in_any_order(const char *path) {
     EXPECT(!is_mapped(path));
 }
 
+// If memory runs out, neither an open file nor a party is left.
+void run_out_of_memory(const char *path) {
+    bb::pool_file file;
+    bb::pool_file_party party;
+    is_out_of_memory = true;
+    EXPECT(file.open(path) == BB_MALLOC_REFUSED && file.get() == nullptr && !is_mapped(path));
+    is_out_of_memory = false;
+    EXPECT(file.open(path) == BB_OK);
+    is_out_of_memory = true;
+    EXPECT(party.join(file) == BB_MALLOC_REFUSED && party.get() == nullptr);
+    EXPECT(file.info()->alive == 0);
+    is_out_of_memory = false;
+    EXPECT(party.join(file) == BB_OK && file.info()->alive == 1);
+}
+
 // A party that outlives `main`, as a static object does, leaves all the same.
 void run_exit(const char *path) {
     const pid_t child = fork();
@@ -371,6 +407,7 @@ int main(int argc, char **argv) {
     run_watches(argv[1]);
     run_unjoined(argv[1]);
     run_in_any_order(argv[1]);
+    run_out_of_memory(argv[1]);
     run_exit(argv[1]);
     EXPECT(unlink(argv[1]) == 0);
     puts("owners: files, watches, parties, buckets and messages give back what they have");
