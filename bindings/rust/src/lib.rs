@@ -24,7 +24,7 @@ pub use owned::use_memory;
 pub use owners::{BumpAllocator, OneChunkAllocator, PoolAllocator};
 pub use pool_file::{
     Bucket, FileHolder, Message, PartyId, PoolFile, PoolFileError, PoolFileInfo, PoolFileOptions,
-    PoolFileParty, PostError, Reap, Seen, Watch,
+    PoolFileParty, PostError, Reap, SeenMessage, Watch,
 };
 pub use shared::{
     BumpParty, DetachedBucket, Holder, PoolParty, SharedBumpAllocator, SharedPoolAllocator,

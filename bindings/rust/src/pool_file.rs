@@ -173,11 +173,11 @@ pub enum FileHolder {
     SentTo(u32),
 }
 
-/// What a slot has: [`PoolFile::look`] returns it. The bytes of the message are not there, since
-/// other processes may write them at any time.
+/// A message that is in a slot, as [`PoolFile::look`] finds it. It doesn't have the message's bytes,
+/// since whoever takes the message may write them.
 #[non_exhaustive]
 #[derive(Clone, Copy, Debug, PartialEq, Eq)]
-pub struct Seen {
+pub struct SeenMessage {
     /// The number of the message's bucket.
     pub number: u32,
     /// The length of the message in bytes.
@@ -430,7 +430,7 @@ impl PoolFile {
 
     /// Returns the number of a party with the life that the party has now, to ask by
     /// [`is_alive`](PoolFile::is_alive) whether any process has the party.
-    pub fn party(&self, number: u32) -> Result<PartyId, PoolFileError> {
+    pub fn party_id(&self, number: u32) -> Result<PartyId, PoolFileError> {
         // SAFETY: the file is open.
         let life = unsafe { bb_pool_file_life(self.file.as_ptr(), number) };
         PoolFileError::unless_ok(life.code)?;
@@ -459,14 +459,14 @@ impl PoolFile {
 
     /// Returns what is in the slot, without taking it: a party may have taken the message already,
     /// and not be done with it. Returns `None` if the slot is empty.
-    pub fn look(&self, slot: u32) -> Result<Option<Seen>, PoolFileError> {
+    pub fn look(&self, slot: u32) -> Result<Option<SeenMessage>, PoolFileError> {
         // SAFETY: the file is open.
         let seen = unsafe { bb_pool_file_look(self.file.as_ptr(), slot) };
         if seen.code == DETACHED_EMPTY {
             return Ok(None);
         }
         PoolFileError::unless_ok(seen.code)?;
-        Ok(Some(Seen { number: seen.number, len: seen.len }))
+        Ok(Some(SeenMessage { number: seen.number, len: seen.len }))
     }
 
     /// Waits until a message can be taken from the slot (with `None`, from any slot). Returns

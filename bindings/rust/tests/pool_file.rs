@@ -1,7 +1,7 @@
 //! Pools in files: threads and processes, and processes that are killed.
 use bb_memory::{
     Bucket, FileHolder, Message, PartyId, PoolFile, PoolFileError, PoolFileOptions, PoolFileParty,
-    PostError, Reap, Seen,
+    PostError, Reap, SeenMessage,
 };
 use core::ffi::{c_int, c_short, c_ulong};
 use std::env;
@@ -167,7 +167,7 @@ fn anybody_sees_where_a_bucket_is() {
     // Each message has another lap.
     for _ in 0..3 {
         sender.post(3, b"seen").unwrap();
-        let Seen { number, len, .. } = other.look(3).unwrap().unwrap();
+        let SeenMessage { number, len, .. } = other.look(3).unwrap().unwrap();
         assert_eq!(len, 4);
         let sent = Some(FileHolder::SentTo(3));
         assert_eq!((file.holder(number).unwrap(), other.holder(number).unwrap()), (sent, sent));
@@ -187,12 +187,12 @@ fn anybody_sees_where_a_bucket_is() {
     assert_eq!(other.holder(number).unwrap(), Some(by_sender));
     drop(bucket);
     // Only the number is known: does any process have the party?
-    let id = other.party(sender.id().number).unwrap();
+    let id = other.party_id(sender.id().number).unwrap();
     assert_eq!(id, sender.id());
     assert!(other.is_alive(id).unwrap());
     drop(sender);
-    assert!(!other.is_alive(other.party(id.number).unwrap()).unwrap());
-    assert!(matches!(other.party(OPTIONS.parties), Err(PoolFileError::NoParty)));
+    assert!(!other.is_alive(other.party_id(id.number).unwrap()).unwrap());
+    assert!(matches!(other.party_id(OPTIONS.parties), Err(PoolFileError::NoParty)));
 }
 
 #[test]

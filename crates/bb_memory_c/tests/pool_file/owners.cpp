@@ -323,6 +323,24 @@ void run_out_of_memory(const char *path) {
     EXPECT(party.join(file) == BB_OK && file.info()->alive == 1);
 }
 
+// Of two buckets that are 24 bytes apart, one is at a multiple of 16.
+void run_unaligned(const char *path) {
+    struct alignas(16) wide {
+        char text[16];
+    };
+
+    bb::pool_file file;
+    bb::pool_file_party party;
+    EXPECT(file.open(path, {24, 8, 2, 1, 2, 0, 0}) == BB_OK && party.join(file) == BB_OK);
+    const char text[16] = "sixteen bytes..";
+    EXPECT(party.post(0, text) == BB_OK && party.post(1, text) == BB_OK);
+    const bb::pool_file_message first = party.take(0);
+    const bb::pool_file_message second = party.take(1);
+    EXPECT((first.as<wide>() == nullptr) != (second.as<wide>() == nullptr));
+    EXPECT(std::strcmp(*first.as<char[16]>(), text) == 0);
+    EXPECT(std::strcmp(*second.as<char[16]>(), text) == 0);
+}
+
 // A party that outlives `main`, as a static object does, leaves all the same.
 void run_exit(const char *path) {
     const pid_t child = fork();
@@ -409,6 +427,8 @@ int main(int argc, char **argv) {
     run_in_any_order(argv[1]);
     run_out_of_memory(argv[1]);
     run_exit(argv[1]);
+    EXPECT(unlink(argv[1]) == 0);
+    run_unaligned(argv[1]);
     EXPECT(unlink(argv[1]) == 0);
     puts("owners: files, watches, parties, buckets and messages give back what they have");
     return 0;
