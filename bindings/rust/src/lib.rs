@@ -23,8 +23,8 @@ pub use ffi::{BumpInfo, OneChunkInfo, PoolInfo};
 pub use owned::use_memory;
 pub use owners::{BumpAllocator, OneChunkAllocator, PoolAllocator};
 pub use pool_file::{
-    Message, PartyId, PoolFile, PoolFileError, PoolFileInfo, PoolFileOptions, PoolFileParty, Reap,
-    Watch,
+    Bucket, FileHolder, Message, PartyId, PoolFile, PoolFileError, PoolFileInfo, PoolFileOptions,
+    PoolFileParty, PostError, Reap, SeenMessage, Watch,
 };
 pub use shared::{
     BumpParty, DetachedBucket, Holder, PoolParty, SharedBumpAllocator, SharedPoolAllocator,

@@ -1,11 +1,13 @@
 //! A pool in a file, over `bb_pool_file.h`. Its rules hold here, and types enforce those that they
 //! can.
+use crate::error::no_such_answer;
 use crate::ffi::{self, Chunk, Number};
 use core::cell::Cell;
 use core::ffi::{c_char, c_int, c_void};
 use core::fmt;
 use core::marker::PhantomData;
-use core::ops::Deref;
+use core::mem;
+use core::ops::{Deref, DerefMut};
 use core::ptr::{self, NonNull};
 use core::slice;
 use core::sync::atomic::AtomicU8;
@@ -16,6 +18,7 @@ use std::io;
 use std::os::fd::{AsFd, AsRawFd, BorrowedFd, FromRawFd, OwnedFd, RawFd};
 use std::os::unix::ffi::OsStrExt;
 use std::path::Path;
+use std::sync::OnceLock;
 
 // The codes of the header that no other call returns.
 const DETACHED_EMPTY: u32 = 21;
@@ -76,11 +79,15 @@ unsafe extern "C" {
     fn bb_pool_file_watch(file: *mut File, fd: *mut c_int) -> u32;
     fn bb_pool_file_arm(file: *mut File, fd: c_int, slot: u32) -> u32;
     fn bb_pool_file_detach(file: *mut File, party: *mut FileParty, place: *const c_void) -> Number;
+    fn bb_pool_file_attach(file: *mut File, party: *mut FileParty, number: u32) -> Chunk;
     fn bb_pool_file_reap(file: *mut File, what: u32, freed: *mut u32) -> u32;
     fn bb_pool_file_life(file: *mut File, party: u32) -> Number;
     fn bb_pool_file_is_alive(file: *mut File, party: u32, life: u64) -> Number;
     fn bb_pool_file_info(file: *mut File, to: *mut PoolFileInfo) -> u32;
+    fn bb_pool_file_holder(file: *mut File, number: u32, to: *mut ffi::Holder) -> u32;
+    fn bb_pool_file_look(file: *mut File, slot: u32) -> Taken;
     fn bb_file_party_allocate(party: *mut FileParty, size: usize, align: usize) -> Chunk;
+    fn bb_file_party_take(party: *mut FileParty) -> Chunk;
     fn bb_file_party_deallocate(party: *mut FileParty, place: *const c_void) -> u32;
     fn bb_file_party_number(party: *mut FileParty) -> Number;
 }
@@ -152,6 +159,31 @@ pub struct PartyId {
     pub life: u64,
 }
 
+/// The holder of a bucket of a file. A party is named by its [number](PartyId::number).
+#[non_exhaustive]
+#[derive(Clone, Copy, Debug, PartialEq, Eq)]
+pub enum FileHolder {
+    /// No party holds the bucket.
+    Free,
+    /// The party with this number holds the bucket.
+    HeldBy(u32),
+    /// The party with this number has detached the bucket.
+    DetachedBy(u32),
+    /// The bucket has a message in the slot with this number, which nobody has taken.
+    SentTo(u32),
+}
+
+/// A message that is in a slot, as [`PoolFile::look`] finds it. It doesn't have the message's bytes,
+/// since whoever takes the message may write them.
+#[non_exhaustive]
+#[derive(Clone, Copy, Debug, PartialEq, Eq)]
+pub struct SeenMessage {
+    /// The number of the message's bucket.
+    pub number: u32,
+    /// The length of the message in bytes.
+    pub len: usize,
+}
+
 /// The reason why a call with a pool in a file was refused.
 #[non_exhaustive]
 #[derive(Debug)]
@@ -188,6 +220,10 @@ pub enum PoolFileError {
     /// The bucket is still in a slot. Safe code never gets this error: the bucket of a [`Message`]
     /// is freed only after [`done`](Message::done), and isn't posted.
     NotDone,
+    /// No bucket has the number.
+    NotABucket,
+    /// The bucket isn't detached by its number: it is free, a party holds it, or it is in a slot.
+    NotDetached,
 }
 
 impl PoolFileError {
@@ -208,7 +244,7 @@ impl PoolFileError {
             FILE_UNSAFE => PoolFileError::Unsafe,
             FILE_STALE => PoolFileError::Stale,
             FILE_NOT_DONE => PoolFileError::NotDone,
-            _ => crate::error::no_such_answer(code),
+            _ => no_such_answer(code),
         }
     }
 
@@ -235,11 +271,42 @@ impl fmt::Display for PoolFileError {
             PoolFileError::SlotFull => "the slot is full",
             PoolFileError::WrongSlot => "the slot names no bucket",
             PoolFileError::NotDone => "the bucket is still in a slot",
+            PoolFileError::NotABucket => "no bucket has the number",
+            PoolFileError::NotDetached => "the bucket is not detached by its number",
         })
     }
 }
 
 impl Error for PoolFileError {}
+
+/// The reason why a bucket wasn't posted, and the bucket. By `?` it becomes a [`PoolFileError`], and
+/// the bucket is freed.
+pub struct PostError<'a> {
+    /// The reason.
+    pub error: PoolFileError,
+    /// The bucket, for another try.
+    pub bucket: Bucket<'a>,
+}
+
+impl fmt::Debug for PostError<'_> {
+    fn fmt(&self, f: &mut fmt::Formatter<'_>) -> fmt::Result {
+        f.debug_struct("PostError").field("error", &self.error).finish_non_exhaustive()
+    }
+}
+
+impl fmt::Display for PostError<'_> {
+    fn fmt(&self, f: &mut fmt::Formatter<'_>) -> fmt::Result {
+        self.error.fmt(f)
+    }
+}
+
+impl Error for PostError<'_> {}
+
+impl From<PostError<'_>> for PoolFileError {
+    fn from(refused: PostError<'_>) -> PoolFileError {
+        refused.error
+    }
+}
 
 /// Stands for any slot in a wait or a watch.
 const ANY_SLOT: u32 = u32::MAX;
@@ -251,6 +318,8 @@ const ANY_SLOT: u32 = u32::MAX;
 /// the promises of safe Rust. A forked child must not use what its parent has opened.
 pub struct PoolFile {
     file: NonNull<File>,
+    /// The figures that the file was made with, once a call has needed them.
+    options: OnceLock<PoolFileOptions>,
 }
 
 // SAFETY: the header lets all calls but `close` run at once, and `close` comes when this is
@@ -297,7 +366,8 @@ impl PoolFile {
 
     fn opened(code: u32, file: *mut File) -> Result<PoolFile, PoolFileError> {
         PoolFileError::unless_ok(code)?;
-        Ok(PoolFile { file: NonNull::new(file).expect("an opened file") })
+        let file = NonNull::new(file).expect("an opened file");
+        Ok(PoolFile { file, options: OnceLock::new() })
     }
 
     /// Returns the bytes that the file has for the program itself, as many as
@@ -319,7 +389,7 @@ impl PoolFile {
     /// }
     /// ```
     pub fn user(&self) -> Result<&[AtomicU8], PoolFileError> {
-        let len = self.info()?.options.user_bytes;
+        let len = self.options()?.user_bytes;
         // SAFETY: the file is open.
         let place = unsafe { bb_pool_file_user(self.file.as_ptr()) };
         // SAFETY: the file has that many bytes there as long as it is open, and no call uses them.
@@ -356,6 +426,47 @@ impl PoolFile {
         // SAFETY: the file is open.
         let alive = unsafe { bb_pool_file_is_alive(self.file.as_ptr(), id.number, id.life) };
         PoolFileError::unless_ok(alive.code).map(|()| alive.number == 1)
+    }
+
+    /// Returns the number of a party with the life that the party has now, to ask by
+    /// [`is_alive`](PoolFile::is_alive) whether any process has the party.
+    pub fn party_id(&self, number: u32) -> Result<PartyId, PoolFileError> {
+        // SAFETY: the file is open.
+        let life = unsafe { bb_pool_file_life(self.file.as_ptr(), number) };
+        PoolFileError::unless_ok(life.code)?;
+        Ok(PartyId { number, life: life.number as u64 })
+    }
+
+    /// Returns who holds the bucket with this number, or `None` if no bucket has the number.
+    pub fn holder(&self, number: u32) -> Result<Option<FileHolder>, PoolFileError> {
+        let options = self.options()?;
+        let mut found = ffi::Holder::default();
+        // SAFETY: the file is open.
+        let code = unsafe { bb_pool_file_holder(self.file.as_ptr(), number, &mut found) };
+        if code == ffi::NOT_A_BUCKET {
+            return Ok(None);
+        }
+        PoolFileError::unless_ok(code)?;
+        Ok(Some(match found.state {
+            ffi::Holder::FREE => FileHolder::Free,
+            ffi::Holder::HELD => FileHolder::HeldBy(found.party),
+            _ if found.party < options.parties || options.slots == 0 => {
+                FileHolder::DetachedBy(found.party)
+            }
+            _ => FileHolder::SentTo((found.party - options.parties) % options.slots),
+        }))
+    }
+
+    /// Returns what is in the slot, without taking it: a party may have taken the message already,
+    /// and not be done with it. Returns `None` if the slot is empty.
+    pub fn look(&self, slot: u32) -> Result<Option<SeenMessage>, PoolFileError> {
+        // SAFETY: the file is open.
+        let seen = unsafe { bb_pool_file_look(self.file.as_ptr(), slot) };
+        if seen.code == DETACHED_EMPTY {
+            return Ok(None);
+        }
+        PoolFileError::unless_ok(seen.code)?;
+        Ok(Some(SeenMessage { number: seen.number, len: seen.len }))
     }
 
     /// Waits until a message can be taken from the slot (with `None`, from any slot). Returns
@@ -406,6 +517,15 @@ impl PoolFile {
         // SAFETY: the file is open.
         PoolFileError::unless_ok(unsafe { bb_pool_file_info(self.file.as_ptr(), &mut info) })?;
         Ok(info)
+    }
+
+    /// Returns the figures that the file was made with. They never change.
+    fn options(&self) -> Result<&PoolFileOptions, PoolFileError> {
+        if let Some(options) = self.options.get() {
+            return Ok(options);
+        }
+        let options = self.info()?.options;
+        Ok(self.options.get_or_init(|| options))
     }
 }
 
@@ -500,6 +620,39 @@ impl PoolFileParty<'_> {
         PoolFileError::unless_ok(code)
     }
 
+    /// Allocates a whole bucket, to build a message in it: [`Bucket`] has an example.
+    ///
+    /// # Errors
+    ///
+    /// [`NoBucket`](PoolFileError::NoBucket) if no bucket is free.
+    pub fn bucket(&self) -> Result<Bucket<'_>, PoolFileError> {
+        let size = self.file.options()?.bucket_size;
+        // SAFETY: the party has joined.
+        let chunk = unsafe { bb_file_party_take(self.party.as_ptr()) };
+        PoolFileError::unless_ok(chunk.code)?;
+        Ok(Bucket { party: self, bytes: bytes_at(chunk.place, size) })
+    }
+
+    /// Attaches the bucket with this number, which a party of any process has
+    /// [detached](Bucket::detach). However many parties call this, at most one gets the bucket.
+    ///
+    /// # Errors
+    ///
+    /// [`NotABucket`](PoolFileError::NotABucket) if no bucket has the number,
+    /// [`NotDetached`](PoolFileError::NotDetached) if the bucket isn't detached by its number.
+    pub fn attach(&self, number: u32) -> Result<Bucket<'_>, PoolFileError> {
+        let size = self.file.options()?.bucket_size;
+        let (file, party) = (self.file.file.as_ptr(), self.party.as_ptr());
+        // SAFETY: the party has joined.
+        let chunk = unsafe { bb_pool_file_attach(file, party, number) };
+        match chunk.code {
+            ffi::OK => Ok(Bucket { party: self, bytes: bytes_at(chunk.place, size) }),
+            ffi::NOT_A_BUCKET => Err(PoolFileError::NotABucket),
+            ffi::NOT_HELD => Err(PoolFileError::NotDetached),
+            code => Err(PoolFileError::of(code)),
+        }
+    }
+
     /// Takes the message in the slot. Returns `None` if the slot is empty, or if another party has
     /// the message.
     pub fn take(&self, slot: u32) -> Result<Option<Message<'_>>, PoolFileError> {
@@ -510,8 +663,7 @@ impl PoolFileParty<'_> {
             ffi::OK => Ok(Some(Message {
                 party: self,
                 slot,
-                place: NonNull::new(taken.place.cast()).expect("a bucket's place"),
-                len: taken.len,
+                bytes: bytes_at(taken.place, taken.len),
                 is_done: false,
             })),
             DETACHED_EMPTY | ffi::NOT_HELD => Ok(None),
@@ -520,9 +672,15 @@ impl PoolFileParty<'_> {
     }
 }
 
+/// Returns the bytes of the chunk of this length at this place.
+fn bytes_at(place: *mut c_void, len: usize) -> NonNull<[u8]> {
+    let place = NonNull::new(place.cast()).expect("a bucket's place");
+    NonNull::slice_from_raw_parts(place, len)
+}
+
 impl Drop for PoolFileParty<'_> {
     fn drop(&mut self) {
-        // SAFETY: the party has joined, and messages borrow it.
+        // SAFETY: the party has joined, and messages and buckets borrow it.
         unsafe { bb_pool_file_leave(self.file.file.as_ptr(), self.party.as_ptr()) };
     }
 }
@@ -532,8 +690,7 @@ impl Drop for PoolFileParty<'_> {
 pub struct Message<'a> {
     party: &'a PoolFileParty<'a>,
     slot: u32,
-    place: NonNull<u8>,
-    len: usize,
+    bytes: NonNull<[u8]>,
     is_done: bool,
 }
 
@@ -554,20 +711,20 @@ impl Deref for Message<'_> {
 
     fn deref(&self) -> &[u8] {
         // SAFETY: the bucket is this party's until the message is dropped.
-        unsafe { slice::from_raw_parts(self.place.as_ptr(), self.len) }
+        unsafe { self.bytes.as_ref() }
     }
 }
 
 impl fmt::Debug for Message<'_> {
     fn fmt(&self, f: &mut fmt::Formatter<'_>) -> fmt::Result {
-        f.debug_struct("Message").field("slot", &self.slot).field("len", &self.len).finish()
+        f.debug_struct("Message").field("slot", &self.slot).field("len", &self.len()).finish()
     }
 }
 
 impl Drop for Message<'_> {
     fn drop(&mut self) {
         let (file, party) = (self.party.file.file.as_ptr(), self.party.party.as_ptr());
-        let place = self.place.as_ptr().cast::<c_void>();
+        let place = self.bytes.as_ptr().cast::<c_void>();
         // SAFETY: the party holds the bucket.
         unsafe {
             if self.is_done {
@@ -576,5 +733,121 @@ impl Drop for Message<'_> {
                 bb_pool_file_detach(file, party, place);
             }
         }
+    }
+}
+
+/// A bucket that a party holds, to build a message in it. So no byte is copied between processes:
+/// the sender writes the message into the bucket, and the receiver reads it there. When it is
+/// dropped, the bucket is freed, unless it was posted or detached.
+///
+/// The bytes are those of the whole bucket, at a multiple of the bucket's alignment. At first they
+/// are what was there before.
+///
+/// ```
+/// use bb_memory::{PoolFile, PoolFileError, PoolFileOptions};
+///
+/// # let path = std::env::temp_dir().join(format!("bb-rust-doc-{}", std::process::id()));
+/// let options = PoolFileOptions {
+///     bucket_size: 64,
+///     bucket_align: 8,
+///     buckets: 16,
+///     parties: 4,
+///     slots: 2,
+///     ..PoolFileOptions::default()
+/// };
+/// let file = PoolFile::open(&path, &options)?;
+/// let (sender, receiver) = (file.join()?, file.join()?);
+///
+/// // In a slot.
+/// let mut bucket = sender.bucket()?;
+/// bucket[..5].copy_from_slice(b"hello");
+/// bucket.post(0, 5)?;
+/// let mut message = receiver.take(0)?.unwrap();
+/// assert_eq!(*message, *b"hello");
+/// message.done();
+///
+/// // By its number, which goes through any channel.
+/// let mut bucket = sender.bucket()?;
+/// bucket[0] = 7;
+/// let number = bucket.detach();
+/// let bucket = receiver.attach(number)?;
+/// assert_eq!(bucket[0], 7);
+/// assert!(matches!(sender.attach(number), Err(PoolFileError::NotDetached)));
+/// # std::fs::remove_file(path).unwrap();
+/// # Ok::<(), PoolFileError>(())
+/// ```
+#[must_use = "dropping it frees the bucket"]
+pub struct Bucket<'a> {
+    party: &'a PoolFileParty<'a>,
+    bytes: NonNull<[u8]>,
+}
+
+impl<'a> Bucket<'a> {
+    /// Posts the bucket into the slot, with its first `len` bytes as the message. Once this returns,
+    /// the message is sent, even if this process is killed.
+    ///
+    /// # Errors
+    ///
+    /// [`InvalidArgument`](PoolFileError::InvalidArgument) if there is no such slot,
+    /// [`SizeTooLarge`](PoolFileError::SizeTooLarge) if `len` is greater than the bucket's size or
+    /// than `u32::MAX`, [`SlotFull`](PoolFileError::SlotFull) if the slot is full. The error has the
+    /// bucket.
+    pub fn post(self, slot: u32, len: usize) -> Result<(), PostError<'a>> {
+        let (file, party) = (self.party.file.file.as_ptr(), self.party.party.as_ptr());
+        // SAFETY: the party has joined.
+        let code = unsafe { bb_pool_file_post(file, party, slot, self.place(), len) };
+        if code != ffi::OK {
+            return Err(PostError { error: PoolFileError::of(code), bucket: self });
+        }
+        mem::forget(self);
+        Ok(())
+    }
+
+    /// Detaches the bucket, and returns its number, by which a party of any process
+    /// [attaches](PoolFileParty::attach) it. If nobody does, the bucket stays detached until a
+    /// [`reap`](PoolFile::reap) frees it.
+    #[must_use = "without its number, the bucket stays detached"]
+    pub fn detach(self) -> u32 {
+        let (file, party) = (self.party.file.file.as_ptr(), self.party.party.as_ptr());
+        // SAFETY: the party holds the bucket.
+        let number = unsafe { bb_pool_file_detach(file, party, self.place()) };
+        if number.code != ffi::OK {
+            no_such_answer(number.code);
+        }
+        mem::forget(self);
+        number.number as u32
+    }
+
+    fn place(&self) -> *const c_void {
+        self.bytes.as_ptr().cast()
+    }
+}
+
+impl Deref for Bucket<'_> {
+    type Target = [u8];
+
+    fn deref(&self) -> &[u8] {
+        // SAFETY: the bucket is this party's until it is posted, detached or dropped.
+        unsafe { self.bytes.as_ref() }
+    }
+}
+
+impl DerefMut for Bucket<'_> {
+    fn deref_mut(&mut self) -> &mut [u8] {
+        // SAFETY: as above, and the party has no other reference to its bytes.
+        unsafe { self.bytes.as_mut() }
+    }
+}
+
+impl fmt::Debug for Bucket<'_> {
+    fn fmt(&self, f: &mut fmt::Formatter<'_>) -> fmt::Result {
+        f.debug_struct("Bucket").field("len", &self.len()).finish_non_exhaustive()
+    }
+}
+
+impl Drop for Bucket<'_> {
+    fn drop(&mut self) {
+        // SAFETY: the party holds the bucket.
+        unsafe { bb_file_party_deallocate(self.party.party.as_ptr(), self.place()) };
     }
 }

@@ -1,5 +1,8 @@
 //! Pools in files: threads and processes, and processes that are killed.
-use bb_memory::{Message, PartyId, PoolFile, PoolFileError, PoolFileOptions, PoolFileParty, Reap};
+use bb_memory::{
+    Bucket, FileHolder, Message, PartyId, PoolFile, PoolFileError, PoolFileOptions, PoolFileParty,
+    PostError, Reap, SeenMessage,
+};
 use core::ffi::{c_int, c_short, c_ulong};
 use std::env;
 use std::fs;
@@ -80,6 +83,116 @@ fn a_party_that_leaves_puts_back_the_messages_that_it_isnt_done_with() {
     let info = file.info().unwrap();
     assert_eq!((info.held, info.detached, info.full_slots), (0, 1, 1));
     assert_eq!(&*sender.take(0).unwrap().unwrap(), b"undone");
+}
+
+#[test]
+fn a_message_is_built_and_read_in_one_bucket() {
+    let path = Scratch::new("bucket");
+    let file = PoolFile::open(&path.0, &OPTIONS).unwrap();
+    let (sender, receiver) = (file.join().unwrap(), file.join().unwrap());
+    let mut bucket: Bucket = sender.bucket().unwrap();
+    assert_eq!((bucket.len(), bucket.as_ptr() as usize % 8), (64, 0));
+    bucket[..5].copy_from_slice(b"hello");
+    bucket[63] = 9;
+    let place = bucket.as_ptr();
+    let PostError { error, bucket } = bucket.post(4, 5).unwrap_err();
+    assert!(matches!(error, PoolFileError::InvalidArgument));
+    let PostError { error, bucket } = bucket.post(0, 65).unwrap_err();
+    assert!(matches!(error, PoolFileError::SizeTooLarge));
+    sender.post(1, b"full").unwrap();
+    let PostError { error, bucket } = bucket.post(1, 5).unwrap_err();
+    assert!(matches!(error, PoolFileError::SlotFull));
+    assert_eq!((&bucket[..5], bucket[63], bucket.as_ptr()), (&b"hello"[..], 9, place));
+    bucket.post(0, 5).unwrap();
+    let mut message = receiver.take(0).unwrap().unwrap();
+    assert_eq!((&*message, message.as_ptr()), (&b"hello"[..], place));
+    message.done();
+    drop(message);
+    receiver.take(1).unwrap().unwrap().done();
+    // A bucket that is neither posted nor detached is freed.
+    drop(sender.bucket().unwrap());
+    let refused = || -> Result<(), PoolFileError> { Ok(sender.bucket()?.post(4, 5)?) };
+    assert!(matches!(refused(), Err(PoolFileError::InvalidArgument)));
+    assert_eq!(file.info().unwrap().held, 0);
+    let all: Vec<Bucket> = (0..20).map(|_| receiver.bucket().unwrap()).collect();
+    assert!(matches!(sender.bucket(), Err(PoolFileError::NoBucket)));
+    drop(all);
+    mem::forget(receiver.bucket().unwrap());
+    assert_eq!(file.info().unwrap().held, 1);
+    drop(receiver);
+    assert_eq!(file.info().unwrap().held, 0);
+}
+
+#[test]
+fn one_party_gets_the_bucket_of_a_number() {
+    let path = Scratch::new("number");
+    let file = PoolFile::open(&path.0, &OPTIONS).unwrap();
+    let other = PoolFile::open_existing(&path.0).unwrap();
+    let (sender, receiver) = (file.join().unwrap(), other.join().unwrap());
+    let mut bucket = sender.bucket().unwrap();
+    bucket.copy_from_slice(&[7; 64]);
+    let number = bucket.detach();
+    assert_eq!(file.info().unwrap().detached, 1);
+    let bucket = receiver.attach(number).unwrap();
+    assert_eq!(*bucket, [7; 64]);
+    assert!(matches!(sender.attach(number), Err(PoolFileError::NotDetached)));
+    assert!(matches!(sender.attach(20), Err(PoolFileError::NotABucket)));
+    drop(bucket);
+    assert!(matches!(sender.attach(number), Err(PoolFileError::NotDetached)));
+    // The number of a message in a slot attaches nothing.
+    sender.post(0, b"in a slot").unwrap();
+    let seen = file.look(0).unwrap().unwrap();
+    assert!(matches!(receiver.attach(seen.number), Err(PoolFileError::NotDetached)));
+    receiver.take(0).unwrap().unwrap().done();
+    // What a party had detached that has left is freed by a reap.
+    let number = receiver.bucket().unwrap().detach();
+    drop(receiver);
+    assert_eq!(file.reap(Reap::Dead).unwrap(), 0);
+    assert_eq!(file.reap(Reap::Left).unwrap(), 1);
+    assert!(matches!(sender.attach(number), Err(PoolFileError::NotDetached)));
+    assert_eq!(file.info().unwrap().detached, 0);
+}
+
+#[test]
+fn anybody_sees_where_a_bucket_is() {
+    let path = Scratch::new("holder");
+    let file = PoolFile::open(&path.0, &OPTIONS).unwrap();
+    let other = PoolFile::open_existing(&path.0).unwrap();
+    let (sender, receiver) = (file.join().unwrap(), other.join().unwrap());
+    let by_sender = FileHolder::HeldBy(sender.id().number);
+    let by_receiver = FileHolder::HeldBy(receiver.id().number);
+    assert_ne!(by_sender, by_receiver);
+    assert_eq!((other.look(3).unwrap(), other.holder(20).unwrap()), (None, None));
+    assert!(matches!(other.look(4), Err(PoolFileError::InvalidArgument)));
+    // Each message has another lap.
+    for _ in 0..3 {
+        sender.post(3, b"seen").unwrap();
+        let SeenMessage { number, len, .. } = other.look(3).unwrap().unwrap();
+        assert_eq!(len, 4);
+        let sent = Some(FileHolder::SentTo(3));
+        assert_eq!((file.holder(number).unwrap(), other.holder(number).unwrap()), (sent, sent));
+        let mut message = receiver.take(3).unwrap().unwrap();
+        assert_eq!(file.holder(number).unwrap(), Some(by_receiver));
+        assert_eq!(file.look(3).unwrap().unwrap().len, 4);
+        message.done();
+        assert_eq!(file.look(3).unwrap(), None);
+        assert_eq!(file.holder(number).unwrap(), Some(by_receiver));
+        drop(message);
+        assert_eq!(file.holder(number).unwrap(), Some(FileHolder::Free));
+    }
+    let number = sender.bucket().unwrap().detach();
+    let by = FileHolder::DetachedBy(sender.id().number);
+    assert_eq!(other.holder(number).unwrap(), Some(by));
+    let bucket = sender.attach(number).unwrap();
+    assert_eq!(other.holder(number).unwrap(), Some(by_sender));
+    drop(bucket);
+    // Only the number is known: does any process have the party?
+    let id = other.party_id(sender.id().number).unwrap();
+    assert_eq!(id, sender.id());
+    assert!(other.is_alive(id).unwrap());
+    drop(sender);
+    assert!(!other.is_alive(other.party_id(id.number).unwrap()).unwrap());
+    assert!(matches!(other.party_id(OPTIONS.parties), Err(PoolFileError::NoParty)));
 }
 
 #[test]
@@ -216,6 +329,17 @@ fn an_event_loop_takes_every_message() {
     assert!(is_readable(&watch, 0));
 }
 
+/// Posts the message in the slot: a copy of it, or in an odd slot the bucket in which it is built.
+fn send(party: &PoolFileParty, slot: u32) -> Result<(), PoolFileError> {
+    let text = b"from a sender";
+    if slot % 2 == 0 {
+        return party.post(slot, text);
+    }
+    let mut bucket = party.bucket()?;
+    bucket[..text.len()].copy_from_slice(text);
+    Ok(bucket.post(slot, text.len())?)
+}
+
 /// Sends until it is killed, if this is the program that a test started for it.
 #[test]
 fn sender() {
@@ -224,7 +348,7 @@ fn sender() {
     let party = file.join().unwrap();
     loop {
         for slot in 0..OPTIONS.slots {
-            match party.post(slot, b"from a sender") {
+            match send(&party, slot) {
                 Ok(()) | Err(PoolFileError::SlotFull | PoolFileError::NoBucket) => {}
                 Err(error) => panic!("{error}"),
             }

@@ -1,11 +1,13 @@
 // Tests that a program may have files that report to AddressSanitizer and files that don't. This
-// file is compiled twice: as it is, and with SILENT, which includes bb_pool_file.h. `mixed FILE` uses
-// a pool of its own in each form; the silent form also has a pool in FILE, which it removes.
+// file is compiled twice: as it is, and with SILENT, which reports nothing. `mixed FILE` uses a pool
+// of its own in each form; the form that reports also has a pool in FILE, which it removes.
 #ifdef SILENT
-#include "bb_pool_file.h"
-#else
-#include "bb_memory.h"
+#define BB_NO_SANITIZE
 #endif
+
+#include "bb_memory.h"
+
+#include "bb_pool_file.h"
 
 #include <stdio.h>
 #include <stdlib.h>
@@ -13,7 +15,7 @@
 #include <sys/wait.h>
 #include <unistd.h>
 
-int run_silent(const char *path);
+void run_silent(void);
 
 static uint64_t region[BB_BYTES_FOR(64, 8, 4) / 8];
 
@@ -41,6 +43,16 @@ static void use_pool(void) {
 
 #ifdef SILENT
 
+void run_silent(void) {
+    use_pool();
+}
+
+#else
+
+#ifndef BB_MEMORY_SANITIZE_H
+#error "this file has to report to a checker"
+#endif
+
 // Posts a message from another process.
 static void post(const char *path) {
     int status;
@@ -61,13 +73,12 @@ static void post(const char *path) {
 }
 
 // The message is in a bucket that this process has freed.
-int run_silent(const char *path) {
+static void run_file(const char *path) {
     const bb_pool_file_options options = {
         .bucket_size = 64, .bucket_align = 8, .buckets = 4, .parties = 2, .slots = 1, .mode = 0};
     bb_pool_file *file;
     bb_file_party *party;
     void *places[4];
-    use_pool();
     EXPECT(bb_pool_file_open(&file, path, &options) == BB_OK);
     EXPECT(bb_pool_file_join(file, &party) == BB_OK);
     EXPECT(bb_file_party_take_many(party, places, 4).number == 4);
@@ -80,19 +91,13 @@ int run_silent(const char *path) {
     EXPECT(message.code == BB_OK && strcmp(message.place, "hello") == 0);
     EXPECT(bb_pool_file_done(file, party, 0) == BB_OK);
     EXPECT(bb_pool_file_close(file) == BB_OK && unlink(path) == 0);
-    return 0;
 }
-
-#else
-
-#ifndef BB_MEMORY_SANITIZE_H
-#error "this file has to report to a checker"
-#endif
 
 int main(int argc, char **argv) {
     EXPECT(argc == 2);
     use_pool();
-    EXPECT(run_silent(argv[1]) == 0);
+    run_silent();
+    run_file(argv[1]);
     use_pool();
     puts("mixed: files that report to a checker, and files that don't, are in one program");
     return 0;

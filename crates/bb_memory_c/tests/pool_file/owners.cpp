@@ -1,22 +1,54 @@
-// `owners FILE` tests that objects of C++ give back what they own when they end, that messages and
-// buckets are values, and that waits, watches and reaps are those of the file.
+// `owners FILE` tests that objects of C++ give back what they own when they end, in any order, that
+// messages and buckets are values, and that waits, watches and reaps are those of the file.
 #include <atomic>
 #include <cstdint>
 #include <cstdio>
 #include <cstdlib>
 #include <cstring>
 #include <fcntl.h>
+#include <new>
 #include <poll.h>
 #include <sys/wait.h>
 #include <unistd.h>
 
+#include "bb_memory.hpp"
+
 #include "bb_pool_file.hpp"
+
+namespace {
+
+// Whether C++ has no memory left.
+bool is_out_of_memory = false;
+
+}  // namespace
+
+void *operator new(std::size_t size, const std::nothrow_t &) noexcept {
+    return is_out_of_memory ? nullptr : std::malloc(size);
+}
+
+void operator delete(void *place) noexcept {
+    std::free(place);
+}
+
+void operator delete(void *place, std::size_t) noexcept {
+    std::free(place);
+}
 
 namespace {
 
 struct order {
     int number;
     double price;
+};
+
+// A value that has more bytes than the file's buckets.
+struct large_order {
+    order many[5];
+};
+
+// A value for which the file's buckets are not aligned.
+struct alignas(16) aligned_order {
+    order one;
 };
 
 // What the processes of this host share.
@@ -171,17 +203,164 @@ void run_buckets(const bb::pool_file &file, bb::pool_file_party &sender,
         EXPECT(sender.attach(20).code() == BB_NOT_A_BUCKET && file.info()->held == 1);
     }
     EXPECT(file.info()->held == 0 && file.info()->detached == 0);
-    EXPECT(sender.post(0, 5) == BB_OK);
     {
-        // The bucket of a message that the party isn't done with.
-        const bb_message taken = bb_pool_file_take(file.get(), receiver.get(), 0);
-        bb::pool_file_bucket undone(file.get(), receiver.get(), {taken.code, taken.place});
-        EXPECT(undone && undone.post(1, taken.len) == BB_FILE_NOT_DONE && undone);
-        EXPECT(undone.detach() == taken.number && !undone);
-        EXPECT(sender.attach(taken.number).code() == BB_NOT_HELD);
+        bb::pool_file_bucket built = sender.bucket();
+        new (built.data()) order{9, 4.5};
+        EXPECT(built.post<large_order>(0) == BB_SIZE_TOO_LARGE && built);
+        EXPECT(built.post<order>(0) == BB_OK && !built && built.post<order>(1) == BB_NOT_HELD);
+        bb::pool_file_message message = receiver.take(0);
+        EXPECT(message.as<order>()->number == 9 && message.as<order>()->price == 4.5);
+        EXPECT(message.done() == BB_OK);
     }
-    EXPECT(file.info()->held == 0 && file.info()->full_slots == 1);
-    EXPECT(receiver.take(0).done() == BB_OK && file.info()->full_slots == 0);
+    EXPECT(file.info()->held == 0 && file.info()->full_slots == 0);
+}
+
+// A party that hasn't joined, or is moved, has a code for each call.
+void run_unjoined(const char *path) {
+    bb::pool_file_party party;
+    EXPECT(party.get() == nullptr && party.post(0, 5) == BB_UNINITIALIZED);
+    EXPECT(party.take(0).code() == BB_UNINITIALIZED && party.take(0).done() == BB_UNINITIALIZED);
+    EXPECT(party.take(0).data() == nullptr && party.take(0).as<order>() == nullptr);
+    EXPECT(party.bucket().code() == BB_UNINITIALIZED && party.bucket().data() == nullptr);
+    EXPECT(party.bucket().post(0, 1) == BB_UNINITIALIZED && !party.bucket().detach());
+    EXPECT(party.attach(0).code() == BB_UNINITIALIZED);
+    party.leave();
+    bb::pool_file file;
+    EXPECT(file.open(path) == BB_OK && party.join(file) == BB_OK);
+    bb::pool_file_party moved = std::move(party);
+    EXPECT(party.take(0).code() == BB_UNINITIALIZED && party.bucket().code() == BB_UNINITIALIZED);
+    bb::pool_file_party &same = moved;
+    moved = std::move(same);
+    EXPECT(moved.post(0, 5) == BB_OK && moved.take(0).done() == BB_OK);
+    moved.leave();
+    EXPECT(moved.take(0).code() == BB_UNINITIALIZED && moved.join(file) == BB_OK);
+}
+
+// Returns whether this process has mapped the file.
+bool is_mapped(const char *path) {
+    FILE *maps = fopen("/proc/self/maps", "r");
+    EXPECT(maps != nullptr);
+    char line[4096];
+    bool found = false;
+    while (fgets(line, sizeof line, maps) != nullptr)
+        found = found || std::strstr(line, path) != nullptr;
+    fclose(maps);
+    return found;
+}
+
+// Whatever uses a file keeps it open.
+void run_in_any_order(const char *path) {
+    {
+        bb::pool_file_party party;
+        bb::pool_file_watch watch;
+        {
+            bb::pool_file file;
+            EXPECT(file.open(path) == BB_OK && party.join(file) == BB_OK);
+            EXPECT(watch.open(file) == BB_OK && file.close() == BB_OK && file.get() == nullptr);
+            EXPECT(file.open(path) == BB_OK && file.info()->alive == 1);
+        }
+        EXPECT(party.post(0, order{7, 1.5}) == BB_OK);
+        EXPECT(party.take(0).as<order>()->number == 7 && watch.arm(0) == BB_OK);
+        party.leave();
+        EXPECT(watch.arm(0) == BB_OK && is_mapped(path));
+    }
+    EXPECT(!is_mapped(path));
+    bb::pool_file file;
+    EXPECT(file.open(path) == BB_OK && file.info()->alive == 0 && file.info()->full_slots == 1);
+    {
+        // A message and a bucket whose party is gone before them.
+        bb::pool_file_party first;
+        EXPECT(first.join(file) == BB_OK);
+        bb::pool_file_message message = first.take(0);
+        bb::pool_file_bucket bucket = first.bucket();
+        EXPECT(message && bucket && file.info()->held == 2);
+        bb::pool_file_message done = [&] {
+            bb::pool_file_party gone = std::move(first);
+            EXPECT(gone.post(1, order{8, 2.5}) == BB_OK);
+            bb::pool_file_message taken = gone.take(1);
+            EXPECT(taken.done() == BB_OK);
+            return taken;
+        }();
+        EXPECT(file.info()->held == 0 && file.info()->full_slots == 1);
+        EXPECT(!message && message.code() == BB_NOT_HELD && message.done() == BB_NOT_HELD);
+        EXPECT(message.data() == nullptr && message.size() == 0 && done.data() == nullptr);
+        EXPECT(bucket.code() == BB_NOT_HELD && bucket.data() == nullptr);
+        EXPECT(bucket.post(1, 1) == BB_NOT_HELD && !bucket.detach());
+        // The next party has the same number, and keeps what it holds when they end.
+        bb::pool_file_party second;
+        EXPECT(second.join(file) == BB_OK && file.close() == BB_OK);
+        void *places[20];
+        EXPECT(bb_file_party_take_many(second.get(), places, 20).number == 19);
+        message = second.take(0);
+        EXPECT(message.as<order>()->number == 7);
+        bucket = second.bucket();
+        done = second.take(1);
+        EXPECT(bucket.code() == BB_OUT_OF_MEMORY && done.code() == BB_DETACHED_EMPTY);
+        EXPECT(bb_file_party_holds(second.get(), places[18]).number == 1);
+        // What the party has given back isn't freed again by whoever had it.
+        EXPECT(second.give_all_back() == BB_OK && message.code() == BB_NOT_HELD);
+        EXPECT(bb_file_party_take_many(second.get(), places, 20).number == 19);
+        message = second.take(0);
+        bucket = second.bucket();
+        EXPECT(bb_file_party_holds(second.get(), places[18]).number == 1 && message);
+        EXPECT(message.done() == BB_OK && is_mapped(path));
+    }
+    EXPECT(!is_mapped(path));
+}
+
+// If memory runs out, neither an open file nor a party is left.
+void run_out_of_memory(const char *path) {
+    bb::pool_file file;
+    bb::pool_file_party party;
+    is_out_of_memory = true;
+    EXPECT(file.open(path) == BB_MALLOC_REFUSED && file.get() == nullptr && !is_mapped(path));
+    is_out_of_memory = false;
+    EXPECT(file.open(path) == BB_OK);
+    is_out_of_memory = true;
+    EXPECT(party.join(file) == BB_MALLOC_REFUSED && party.get() == nullptr);
+    EXPECT(file.info()->alive == 0);
+    is_out_of_memory = false;
+    EXPECT(party.join(file) == BB_OK && file.info()->alive == 1);
+}
+
+// Of two buckets that are 24 bytes apart, one is at a multiple of 16.
+void run_unaligned(const char *path) {
+    struct alignas(16) wide {
+        char text[16];
+    };
+
+    bb::pool_file file;
+    bb::pool_file_party party;
+    EXPECT(file.open(path, {24, 8, 2, 1, 2, 0, 0}) == BB_OK && party.join(file) == BB_OK);
+    const char text[16] = "sixteen bytes..";
+    EXPECT(party.post(0, text) == BB_OK && party.post(1, text) == BB_OK);
+    const bb::pool_file_message first = party.take(0);
+    const bb::pool_file_message second = party.take(1);
+    EXPECT((first.as<wide>() == nullptr) != (second.as<wide>() == nullptr));
+    EXPECT(std::strcmp(*first.as<char[16]>(), text) == 0);
+    EXPECT(std::strcmp(*second.as<char[16]>(), text) == 0);
+}
+
+// A party that outlives `main`, as a static object does, leaves all the same.
+void run_exit(const char *path) {
+    const pid_t child = fork();
+    EXPECT(child >= 0);
+    if (child == 0) {
+        static bb::pool_file_party party;
+        static bb::pool_file_bucket bucket = party.bucket();
+        bb::pool_file file;
+        EXPECT(file.open(path) == BB_OK && party.join(file) == BB_OK);
+        bucket = party.bucket();
+        EXPECT(bucket && party.post(2, 5) == BB_OK && file.close() == BB_OK);
+        exit(0);
+    }
+    int status;
+    EXPECT(waitpid(child, &status, 0) == child && status == 0);
+    bb::pool_file file;
+    bb::pool_file_party party;
+    EXPECT(file.open(path) == BB_OK && file.info()->alive == 0 && file.info()->held == 0);
+    EXPECT(file.info()->full_slots == 1 && party.join(file) == BB_OK);
+    EXPECT(party.take(2).done() == BB_OK);
 }
 
 void run(const char *path) {
@@ -201,6 +380,7 @@ void run(const char *path) {
         EXPECT(sender.post(9, order{8, 2.5}) == BB_INVALID_ARGUMENT);
         char large[65] = "";
         EXPECT(sender.post(1, large) == BB_SIZE_TOO_LARGE && file.info()->held == 0);
+        EXPECT(sender.post(1, aligned_order{{8, 2.5}}) == BB_ALIGNMENT_FAILURE);
         volatile std::size_t all = SIZE_MAX;  // which no compiler knows
         EXPECT(sender.post(1, large, all) == BB_SIZE_TOO_LARGE && file.info()->held == 0);
         EXPECT(!receiver.take(1) && receiver.take(1).code() == BB_DETACHED_EMPTY);
@@ -243,6 +423,12 @@ int main(int argc, char **argv) {
     run(argv[1]);
     run_waits(argv[1]);
     run_watches(argv[1]);
+    run_unjoined(argv[1]);
+    run_in_any_order(argv[1]);
+    run_out_of_memory(argv[1]);
+    run_exit(argv[1]);
+    EXPECT(unlink(argv[1]) == 0);
+    run_unaligned(argv[1]);
     EXPECT(unlink(argv[1]) == 0);
     puts("owners: files, watches, parties, buckets and messages give back what they have");
     return 0;
