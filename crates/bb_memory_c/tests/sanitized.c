@@ -118,6 +118,11 @@ static void right_alone(void) {
         EXPECT(bb_pool_deallocate(&pool, whole) == BB_OK);
         EXPECT(bb_pool_deallocate(&pool, chunk.place) == BB_OK);
         EXPECT(bb_pool_deallocate(&pool, (char *)chunk.place + 1) == BB_NOT_HELD);
+        bb_place many[2];
+        EXPECT(bb_pool_take_many(&pool, many, 2).number == 2);
+        memset(many[0], 9, SIZE);
+        memset(many[1], 9, SIZE);
+        EXPECT(bb_pool_deallocate_many(&pool, many, 2).number == 2);
     }
     EXPECT(bb_pool_destroy(&pool) == BB_OK);
     memset(words, 1, sizeof words);
@@ -239,6 +244,13 @@ static void right_parties(void) {
     EXPECT(bb_pool_party_attach_number(one, (uint32_t)number.number, from).place == bucket);
     touch(bucket);
     uint32_t own = (uint32_t)bb_pool_party_number(one).number;
+    uint32_t numbers[2];
+    EXPECT(bb_pool_party_take_many_detached(other, numbers, 2).number == 2);
+    for (size_t at = 0; at < 2; at++)
+        memset(bb_pool_party_place_at(other, numbers[at]).place, 4, SIZE);
+    EXPECT(bb_pool_party_return_number(one, numbers[0], own) == BB_NOT_HELD);
+    EXPECT(bb_pool_party_return_number(one, numbers[0], from) == BB_OK);
+    EXPECT(bb_pool_party_return_many(one, numbers + 1, 1, from).number == 1);
     EXPECT(bb_shared_pool_forget(&shared, one) == BB_OK);
     touch(bucket);
     EXPECT(bb_shared_pool_join_number(&shared, own, one) == BB_OK);
@@ -457,6 +469,15 @@ static void pool_use_after_return(void) {
     touch(bucket);
 }
 
+static void pool_use_after_many(void) {
+    bb_place places[2];
+    make();
+    EXPECT(bb_pool_take_many(&pool, places, 2).number == 2);
+    touch((unsigned char *)places[1]);
+    EXPECT(bb_pool_deallocate_many(&pool, places, 2).number == 2);
+    touch((unsigned char *)places[1]);
+}
+
 static void pool_overflow(void) {
     make();
     unsigned char *bucket = (unsigned char *)bb_pool_take(&pool).place;
@@ -523,6 +544,17 @@ static void use_after_detached(void) {
     unsigned char *bucket = take(&parties[0]);
     EXPECT(bb_pool_party_detach(&parties[0], bucket, SIZE, &detached) == BB_OK);
     EXPECT(bb_pool_party_return_detached(&parties[1], &detached) == BB_OK);
+    touch(bucket);
+}
+
+static void use_after_number(void) {
+    uint32_t numbers[2];
+    make_shared();
+    uint32_t from = (uint32_t)bb_pool_party_number(&parties[0]).number;
+    EXPECT(bb_pool_party_take_many_detached(&parties[0], numbers, 2).number == 2);
+    unsigned char *bucket = (unsigned char *)bb_pool_party_place_at(&parties[0], numbers[1]).place;
+    touch(bucket);
+    EXPECT(bb_pool_party_return_many(&parties[1], numbers, 2, from).number == 2);
     touch(bucket);
 }
 
@@ -665,6 +697,7 @@ static const struct {
     {"one_chunk_use_after_free", one_chunk_use_after_free},
     {"one_chunk_overflow", one_chunk_overflow},
     {"pool_use_after_return", pool_use_after_return},
+    {"pool_use_after_many", pool_use_after_many},
     {"pool_overflow", pool_overflow},
     {"pool_overflow_of_a_chunk", pool_overflow_of_a_chunk},
     {"pool_never_taken", pool_never_taken},
@@ -675,6 +708,7 @@ static const struct {
     {"use_after_all_back", use_after_all_back},
     {"use_after_leave", use_after_leave},
     {"use_after_detached", use_after_detached},
+    {"use_after_number", use_after_number},
     {"overflow", overflow},
     {"overflow_of_a_chunk", overflow_of_a_chunk},
     {"stale_party", stale_party},
