@@ -121,7 +121,7 @@ sound_sent : (words : FileWords) (party bucket slot lap : ℕ) → Sound words �
 sound_sent words party bucket slot lap sound held is = sound_flag words bucket (HeldBy party) (SentTo slot lap) held sound
     (λ other same has. inr (only other same has))
     (λ other same e. let slots : slot ≡ other = cc in let laps : lap ≡ same = cc in
-        ap (slice_get words.slots) (sym slots) ∙ is ∙ ap (λ (l : ℕ). Some (Message l bucket)) laps)
+    ap (slice_get words.slots) (sym slots) ∙ is ∙ ap (λ (l : ℕ). Some (Message l bucket)) laps)
     (λ idle. elim idle [ inl free ↦ absurd (cc) | inr away ↦ absurd (let same = away.1 in cc) ])
   where
     only : (other same : ℕ) → IsSlot words other (Message same bucket) → SentTo slot lap ≡ SentTo other same
@@ -185,7 +185,7 @@ sound_empty : (words : FileWords) (party slot bucket lap next : ℕ) → Sound w
     IsSlot words slot (Message lap bucket) → Sound (with_slot words slot (Empty next))
 sound_empty words party slot bucket lap next sound held is =
     let was : (at other same : ℕ) → IsSlot (with_slot words slot (Empty next)) other (Message same at) →
-        IsSlot words other (Message same at) = λ at other same now.
+    IsSlot words other (Message same at) = λ at other same now.
     elim (set_cases words.slots slot other (Empty next) (Message lap bucket) (Message same at) is now) [
       | inl before ↦ before.1
       | inr this ↦ let e = this.1 in absurd (cc)

@@ -187,7 +187,7 @@ module _ (words : FileWords) (process : ℕ) (place : Place) (exact : AreExact w
   -- the entry of a bucket is written
   exact_entry : (at : ℕ) (old entry : Entry) (there : Place) → IsEntry words at old →
       ((party bucket slot : ℕ) → IsHolder words bucket party → at ≡ bucket → (size : ℕ) → entry ≡ In slot size →
-          IsAtWork there party bucket) →
+      IsAtWork there party bucket) →
       ((party bucket : ℕ) → at ≢ bucket → IsAtWork place party bucket → IsAtWork there party bucket) →
       AreExact (with_entry words at entry) process there
   exact_entry at old entry there is here apart party bucket slot lock held entered =
@@ -221,15 +221,15 @@ exact_after words place step move (leaves process number own) sound has exact =
     exact_there words process place exact (Flags number 0) (λ party bucket held work. absurd work)
 exact_after words place step move (allocates process number at own free) sound has exact =
     exact_got words process place exact at number Free free (λ slot entered.
-        let same = one_value words.entries at Nowhere (In slot entered.0) (sound.nowhere at (inl free)) entered.1 in absurd (cc))
+    let same = one_value words.entries at Nowhere (In slot entered.0) (sound.nowhere at (inl free)) entered.1 in absurd (cc))
 exact_after words place step move (gives process number at own held nowhere) sound has exact =
     exact_left words process place exact at (HeldBy number) Free held (λ party same. absurd (cc))
 exact_after words place step move (detaches process number at own held nowhere) sound has exact =
     exact_left words process place exact at (HeldBy number) (DetachedBy number) held (λ party same. absurd (cc))
 exact_after words place step move (attaches process number at from own is) sound has exact =
     exact_got words process place exact at number (DetachedBy from) is (λ slot entered.
-        let same = one_value words.entries at Nowhere (In slot entered.0) (sound.nowhere at (inr (from, is))) entered.1 in
-        absurd (cc))
+    let same = one_value words.entries at Nowhere (In slot entered.0) (sound.nowhere at (inr (from, is))) entered.1 in
+    absurd (cc))
 exact_after words place step move (posts process number slot at size own held nowhere) sound has exact =
     exact_entry words process place exact at Nowhere (In slot size) (Posting number slot at) nowhere
     (λ party bucket other mine same size e. (holder_at words at bucket number party held same mine, same))
@@ -245,7 +245,7 @@ exact_after words place step move (fills process number slot at lap empty) sound
           one_entry words bucket slot other (entry.0, ap (slice_get words.entries) (sym work.1) ∙ entry.1) entered in (
             lap,
             slice_get-set_at words.slots slot other (Message lap at) (Empty lap) slots empty
-            ∙ ap (λ (b : ℕ). Some (Message lap b)) work.1,
+                ∙ ap (λ (b : ℕ). Some (Message lap b)) work.1,
           )
     ])
 exact_after words place step move (gives_up process number slot at) sound (own, mine, entry, not_in) exact =
@@ -256,9 +256,9 @@ exact_after words place step move (sends process number slot at lap) sound (own,
     exact_there (with_flag words at (SentTo slot lap)) process place left Outside (λ party bucket held work. work)
 exact_after words place step move (receives process number slot at lap own is) sound has exact =
     exact_got words process place exact at number (SentTo slot lap) is (λ other entered.
-        let same : slot ≡ other =
-        one_entry words at slot other (sound.entered at slot (lap, sound.sent at slot lap is)) entered in
-        (lap, ap (slice_get words.slots) (sym same) ∙ sound.sent at slot lap is))
+    let same : slot ≡ other =
+    one_entry words at slot other (sound.entered at slot (lap, sound.sent at slot lap is)) entered in
+    (lap, ap (slice_get words.slots) (sym same) ∙ sound.sent at slot lap is))
 exact_after words place step move (empties process number slot at lap next own mine is) sound has exact =
     λ party bucket other lock held entered. elim (exact party bucket other lock held entered) [
       | inl there ↦ elim (cases_eq slot other) [
@@ -296,8 +296,8 @@ exact_after words place step move (settles_entry process number at slot held ent
     (λ party bucket other mine same size e. absurd (cc)) (λ party bucket apart work. work)
 exact_after words place step move (all_flags process number at end) sound (own, given) exact =
     exact_there words process place exact (Settled number) (λ party bucket held work.
-        let below = below_end words.flags bucket (HeldBy party) held in
-        given bucket (omega (arith, below, end)) (held ∙ ap (λ (p : ℕ). Some (HeldBy p)) (sym work)))
+    let below = below_end words.flags bucket (HeldBy party) held in
+    given bucket (omega (arith, below, end)) (held ∙ ap (λ (p : ℕ). Some (HeldBy p)) (sym work)))
 exact_after words place step move (joins process number) sound has exact =
     exact_there words process place exact Outside (λ party bucket held work. work)
 exact_after words place step move (unlocks_first process number) sound (own, given) exact =

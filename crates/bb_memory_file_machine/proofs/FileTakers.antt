@@ -271,7 +271,7 @@ pub taker_received : (scene : FileScene) (before after : List FileStep)
     (file_step (left_by scene before) (Fill process found)).outcome ≡ OnSlot slot →
     StaysIn (after_fill scene before (Fill process found)) after slot (Message lap bucket) →
     (file_step (file_after (after_fill scene before (Fill process found)) after)
-        (Done other party slot bucket next)).outcome ≡ OnSlot slot →
+    (Done other party slot bucket next)).outcome ≡ OnSlot slot →
     HasTaken (outcomes_of (after_fill scene before (Fill process found)) after) slot bucket party
 taker_received scene before after process found slot bucket lap other party next said stays done =
     let state : FileState = left_by scene before in
