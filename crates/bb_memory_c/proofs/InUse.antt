@@ -183,18 +183,6 @@ joined-same at same most outs = joined-after at same most (λ are. record {
   );
 }) (λ none. none)
 
--- after a request that took a bucket, and a step by which that bucket ceased to be in use
-pub joined-passes-on : {pool : SharedPool} {joined taken after : CachingParty} {list : List Bool} {layout : Layout}
-    (bucket : TakenBucket) → IsJoinedAt pool joined list → ServesCaching joined layout (Ok bucket) taken →
-    after.party.allocator ≡ taken.party.allocator → after.most ≡ taken.most → ¬ IsOut after bucket.number →
-    ((other : ℕ) → other ≢ bucket.number → IsOut taken other → IsOut after other) →
-    ((other : ℕ) → IsOut after other → IsOut taken other) → IsJoinedAt pool after list
-joined-passes-on {after = after} bucket at serves same most gone kept others =
-    joined-same at (same ∙ serves.party) (most ∙ serves.most) (λ other. (
-      λ out. kept other (serves.fresh other out) (serves.others_kept other out),
-      λ out. serves.others other (λ is. gone (subst (IsOut after) is out)) (others other out),
-    ))
-
 -- a party that holds none, and whose list has no entry of a bucket in use
 pub joined-cleared : {pool : SharedPool} {joined : CachingParty} (after : CachingParty) {list : List Bool} →
     IsJoinedAt pool joined list → after.party.allocator ≡ joined.party.allocator → after.most ≡ joined.most →
