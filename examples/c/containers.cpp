@@ -559,6 +559,29 @@ void buckets_in_a_cache() {
     expect(pool.info()->held_buckets == 0, "it is back");
 }
 
+// Several buckets are allocated or freed in one call. A party frees by their numbers what another
+// one has allocated.
+void many_buckets_at_once() {
+    bb::pool alone;
+    void *places[5];
+    expect_ok(alone.init(BB_OF(int), region, 4 * sizeof(int)));
+    expect(bb::take_many(alone.get(), places, 5) == 4, "four buckets are there");
+    expect(bb::deallocate_many(alone.get(), places, 4) == 4, "all of them come back");
+    bb::shared_pool pool;
+    bb::pool_party sender;
+    bb::pool_party receiver;
+    std::uint32_t numbers[5];
+    expect_ok(pool.init(BB_OF(int), region, 4 * sizeof(int), 2));
+    expect_ok(pool.join(sender));
+    expect_ok(pool.join(receiver));
+    const auto from = static_cast<std::uint32_t>(bb_pool_party_number(sender.get()).number);
+    expect(bb::take_many_detached(sender.get(), numbers, 5) == 4, "four are detached");
+    expect_ok(bb::return_number(receiver.get(), numbers[0], from));
+    expect(bb::return_number(receiver.get(), numbers[0], from) == bb::error::not_held,
+           "a bucket is freed once");
+    expect(bb::return_many(receiver.get(), numbers + 1, 3, from) == 3, "the others are freed");
+}
+
 void words_in_a_shared_bump() {
     bb::shared_bump bump;
     expect_ok(bump.init(region, sizeof region, 1));
@@ -590,6 +613,7 @@ int main() {
     values_are_sent();
     buckets_go_by_number();
     parties_are_forgotten();
+    many_buckets_at_once();
     buckets_in_a_cache();
     words_in_a_shared_bump();
     std::puts("containers: every bucket came back");

@@ -253,6 +253,22 @@ fn the_first_bucket_is_aligned() {
 }
 
 #[test]
+fn a_pool_takes_and_returns_many_as_one_by_one() {
+    let pool = PoolAllocator::with_buckets(layout(16, 8), 3).unwrap();
+    let mut slots = [MaybeUninit::uninit(); 4];
+    let places = pool.take_many(&mut slots);
+    assert!(places.len() == 3 && places.iter().all(|place| pool.holds(*place)));
+    // SAFETY: the chunks aren't used any more. The bucket of the third place is back, so no more
+    // are returned.
+    unsafe {
+        let again = [places[1], places[0], places[1], places[2]];
+        assert_eq!(pool.try_deallocate_many(&again), 2);
+    }
+    assert!(pool.holds(places[2]) && pool.held_buckets() == 1);
+    assert!(pool.take_many(&mut []).is_empty());
+}
+
+#[test]
 fn a_pool_lies_in_a_chunk_of_a_bump() {
     let mut region = Region::new();
     let bump = BumpAllocator::over(&mut region.0).unwrap();
