@@ -1,0 +1,1 @@
+-- Steps of the machine that an event makes, whatever the words are.

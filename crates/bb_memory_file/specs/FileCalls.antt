@@ -1,0 +1,3 @@
+-- What the calls on the words of a file promise.
+use Rattle.bb_memory_file.specs.FileCode.{FileLog}
+use Rattle.std.specs.Prelude.{ℕ}

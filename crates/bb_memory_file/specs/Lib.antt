@@ -1,0 +1,5 @@
+pub mod FileCalls
+pub mod FileCode
+pub mod FileLog
+pub mod FileNames
+pub mod FileRuns
