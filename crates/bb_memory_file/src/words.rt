@@ -1,5 +1,5 @@
 //! The single atomic operations on the words of a file, by the party whose lock this process has.
-ghost use Rattle.bb_memory_file.specs.FileLog.{EmptySlot, ExchangeFlag, ExchangeSlot, FileLog, IsKnownIn, IsLap, IsSaid, LoadEntry, LoadFlag, LoadLife, LoadSlot, MissFlag, MissSlot, StoreEntry, StoreFlag, StoreLife, is_held, known_of, lap_in, life_by, told};
+ghost use Rattle.bb_memory_file.specs.FileLog.{EmptySlot, ExchangeFlag, ExchangeSlot, FileLog, IsKnownIn, IsLap, IsSaid, LoadEntry, LoadFlag, LoadLife, LoadSlot, MissFlag, MissSlot, NamesSlot, StoreEntry, StoreFlag, StoreLife, is_held, known_of, lap_in, life_by, told};
 ghost use Rattle.std.specs.Prelude.{MatchBool, Some, true, ℕ, ◌<◌, ◌≡◌};
 
 use bb_memory_file_machine::steps::{Entry, FileFlag, Slot};
@@ -83,7 +83,8 @@ pub trait Words {
     /// Loads a bucket's entry.
     fn load_entry(&mut self, bucket: u32) -> Entry
         requires { bucket < (log self.old).scene.buckets }
-        ensures { log self.new ≡ told (log self.old) (LoadEntry bucket result) };
+        ensures told { log self.new ≡ told (log self.old) (LoadEntry bucket result) }
+        ensures slot { NamesSlot (log self.old).scene.slots result };
 
     /// Stores the entry of a bucket that the party holds.
     fn store_entry(&mut self, bucket: u32, to: Entry)
