@@ -1,5 +1,5 @@
 -- The walks of settlers.
-use Rattle.bb_memory_file.proofs.FileEvents.{freed_on, gets_on, has_first, has_next, has_none}
+use Rattle.bb_memory_file.proofs.FileEvents.{append_assoc, freed_on, gets_on, has_first, has_next, has_none}
 use Rattle.bb_memory_file.proofs.FileMessages.{held_entry, seen_of}
 use Rattle.bb_memory_file.proofs.FileSteps.{counts, counts_on, ends, leaves, passes, recovers, settles_clear, settles_free, settles_sent, stays}
 use Rattle.bb_memory_file.proofs.FileWalks.{walk_look, walk_move, walk_nowhere, walk_on, walk_step}
@@ -304,11 +304,11 @@ module _ (process : ℕ) (old : FileLog) (life : ℕ) where
   abbrev loaded : FileLog
   loaded = told old (LoadLife life)
 
-  pub counted_lock : (one new : FileLog) → one ≡ loaded → new ≡ told one (StoreLife (life + 2)) → IsCounted process old true new
+  pub counted_lock : (one new : FileLog) → one ≡ loaded → new ≡ told one (StoreLife (life + 2)) →
+      IsCounted process old (Some life) new
   counted_lock one new e1 e2 =
       let e : new ≡ told loaded (StoreLife (life + 2)) = e2 ∙ ap (λ log. told log (StoreLife (life + 2))) e1 in
-      (life, ap (λ (log : FileLog). life_by log.events) e, StoreLife (life + 2) ∷ LoadLife life ∷ [], e, refl,
-      walk_on process old loaded new (Counting old.party) (Counting old.party) (Flags old.party 0) [] (Count process (life + 2) ∷ [])
+      (e, walk_on process old loaded new (Counting old.party) (Counting old.party) (Flags old.party 0) [] (Count process (life + 2) ∷ [])
       (walk_look process old loaded (Counting old.party) (LoadLife life) tt refl)
       (walk_step process loaded new (Counting old.party) (StoreLife (life + 2)) (Count process (life + 2)) (Flags old.party 0) refl
       (counts loaded process life (life + 2) refl (omega arith)) e))
@@ -346,3 +346,165 @@ module _ (process : ℕ) (old : FileLog) (life : ℕ) where
             (counts_on loaded process life (life + 1) refl (omega arith)) e);
         recovers_none = refl;
       }
+
+-- WHOLE CALLS
+
+-- events that give back nothing, and steps that take back nothing
+pub record Quiet (process : ℕ) (old : FileLog) (from : Place) (new : FileLog) (there : Place) : Type 0 where
+  pub events : List Event
+  pub gets : Gets old events new
+  pub taken : List FileStep
+  pub walk : IsWalk process old from new taken there
+  pub frees : freed_in events ≡ 0
+  pub recovers_none : has_some calls.recovers taken ≡ false
+
+quiet_move : (process : ℕ) (log : FileLog) (here : Place) (step : FileStep) (there : Place) → calls.recovers step ≡ false →
+    IsWalk process log here log (step ∷ []) there → Quiet process log here log there
+quiet_move process log here step there none walk =
+    record { events = []; gets = refl; taken = step ∷ []; walk = walk; frees = refl; recovers_none = rw none refl }
+
+pub quiet_leaves : (process : ℕ) (log : FileLog) → Quiet process log Outside log (Flags log.party 0)
+quiet_leaves process log = quiet_move process log Outside (Leave process log.party) (Flags log.party 0) refl
+    (walk_move process log Outside (Leave process log.party) (Flags log.party 0) refl (leaves log process))
+
+pub quiet_stays : (process : ℕ) (log : FileLog) → Quiet process log (Settled log.party) log Outside
+quiet_stays process log = quiet_move process log (Settled log.party) (Next process) Outside refl
+    (walk_move process log (Settled log.party) (Next process) Outside refl (stays log process))
+
+quiet_locked : (process : ℕ) (old new : FileLog) (life : ℕ) → IsCounted process old (Some life) new →
+    Quiet process old (Counting old.party) new (Flags old.party 0)
+quiet_locked process old new life counted = record {
+  events = StoreLife (life + 2) ∷ LoadLife life ∷ [];
+  gets = counted.0;
+  taken = Count process (life + 2) ∷ [];
+  walk = counted.1;
+  frees = refl;
+  recovers_none = refl;
+}
+
+quiet_counted : (process : ℕ) (old new : FileLog) (parity : ℕ) → IsCountedOn process old parity new →
+    Quiet process old (Settled old.party) new (Settled old.party)
+quiet_counted process old new parity counted = record {
+  events = counted.events;
+  gets = counted.gets;
+  taken = counted.taken;
+  walk = counted.walk;
+  frees = counted.frees;
+  recovers_none = counted.recovers_none;
+}
+
+-- the same number, whichever log says so
+party_on : (old new : FileLog) (events : List Event) → Gets old events new → new.party ≡ old.party
+party_on old new events gets = ap (λ (log : FileLog). log.party) gets
+
+module _ (process : ℕ) (old middle new : FileLog) (detached : Bool) (freed : ℕ) (from over there : Place) where
+  recovered_after : (is : Bool) → detached ≡ is → (quiet : Quiet process old from middle over) →
+      (settled : IsSettled process middle detached over freed new there) →
+      IsRecovered old is (settled.events ++ quiet.events) (settled.taken ++ quiet.taken)
+  recovered_after true e quiet settled = λ bucket below.
+      has_next (tries old.party bucket) quiet.events settled.events
+      (subst (λ (p : ℕ). is_tried p bucket settled.events ≡ true) (party_on old middle quiet.events quiet.gets)
+      (subst (λ (d : Bool). IsRecovered middle d settled.events settled.taken) e settled.recovered bucket
+      (subst (λ (n : ℕ). bucket < n) (sym (ap (λ (log : FileLog). log.scene.buckets) quiet.gets)) below)))
+  recovered_after false e quiet settled = has_none calls.recovers quiet.taken settled.taken quiet.recovers_none
+      (subst (λ (d : Bool). IsRecovered middle d settled.events settled.taken) e settled.recovered)
+
+  -- a settler that has done something quiet before
+  pub settled_after : Quiet process old from middle over → IsSettled process middle detached over freed new there →
+      IsSettled process old detached from freed new there
+  settled_after quiet settled = record {
+    events = settled.events ++ quiet.events;
+    gets = gets_on old middle new quiet.events settled.events quiet.gets settled.gets;
+    taken = settled.taken ++ quiet.taken;
+    walk = walk_on process old middle new from over there quiet.taken settled.taken quiet.walk settled.walk;
+    frees = let on = freed_on settled.events quiet.events in let one = quiet.frees in let two = settled.frees in omega (arith, on, one, two);
+    recovered = recovered_after detached refl quiet settled;
+  }
+
+  recovered_before : (is : Bool) → detached ≡ is → (settled : IsSettled process old detached from freed middle over) →
+      (quiet : Quiet process middle over new there) → IsRecovered old is (quiet.events ++ settled.events) (quiet.taken ++ settled.taken)
+  recovered_before true e settled quiet = λ bucket below.
+      has_first (tries old.party bucket) settled.events quiet.events
+      (subst (λ (d : Bool). IsRecovered old d settled.events settled.taken) e settled.recovered bucket below)
+  recovered_before false e settled quiet = has_none calls.recovers settled.taken quiet.taken
+      (subst (λ (d : Bool). IsRecovered old d settled.events settled.taken) e settled.recovered) quiet.recovers_none
+
+  -- a settler that does something quiet afterwards
+  pub settled_before : IsSettled process old detached from freed middle over → Quiet process middle over new there →
+      IsSettled process old detached from freed new there
+  settled_before settled quiet = record {
+    events = quiet.events ++ settled.events;
+    gets = gets_on old middle new settled.events quiet.events settled.gets quiet.gets;
+    taken = quiet.taken ++ settled.taken;
+    walk = walk_on process old middle new from over there settled.taken quiet.taken settled.walk quiet.walk;
+    frees = let on = freed_on quiet.events settled.events in let one = quiet.frees in let two = settled.frees in omega (arith, on, one, two);
+    recovered = recovered_before detached refl settled quiet;
+  }
+
+module _ (process : ℕ) (old new : FileLog) (freed : ℕ) where
+  -- a party that settles its number in a call
+  left_settled : IsSettled process old false (Flags old.party 0) freed new (Settled old.party) →
+      IsSettled process old false Outside freed new (Settled old.party)
+  left_settled settled = settled_after process old old new false freed Outside (Flags old.party 0) (Settled old.party)
+      (quiet_leaves process old) settled
+
+  pub gives_all_back : IsSettled process old false (Flags old.party 0) freed new (Settled old.party) →
+      IsSettled process old false Outside freed new Outside
+  gives_all_back settled =
+      settled_before process old new new false freed Outside (Settled old.party) Outside (left_settled settled)
+      (subst (λ (p : ℕ). Quiet process new (Settled p) new Outside) (party_on old new settled.events settled.gets)
+      (quiet_stays process new))
+
+  module _ (last : FileLog) (parity : ℕ) (counted : IsCountedOn process new parity last) where
+    quiet_on : (party : ℕ) → new.party ≡ party → Quiet process new (Settled party) last (Settled party)
+    quiet_on party mine = subst (λ (p : ℕ). Quiet process new (Settled p) last (Settled p)) mine
+        (quiet_counted process new last parity counted)
+
+    pub has_left : parity ≡ 0 → IsSettled process old false (Flags old.party 0) freed new (Settled old.party) →
+        calls.IsLeave process old freed last
+    has_left even settled = (
+      settled_before process old new last false freed Outside (Settled old.party) (Settled old.party) (left_settled settled)
+      (quiet_on old.party (party_on old new settled.events settled.gets)),
+      (counted.life, counted.is_life, subst (λ (p : ℕ). (counted.life % 2 ≡ p) ⊎ (counted.life ≡ max_life)) even counted.says),
+    )
+
+odd_life : (life : ℕ) → ((life % 2 ≡ 1) ⊎ (life ≡ max_life)) → life % 2 ≡ 1
+odd_life life (inl odd) = odd
+odd_life life (inr most) = omega (arith, most)
+
+module _ (process : ℕ) (old locked new : FileLog) (life freed : ℕ) (counted : IsCounted process old (Some life) locked) where
+  party_locked : locked.party ≡ old.party
+  party_locked = party_on old locked (StoreLife (life + 2) ∷ LoadLife life ∷ []) counted.0
+
+  settled_locked : (detached : Bool) → IsSettled process locked detached (Flags locked.party 0) freed new (Settled locked.party) →
+      IsSettled process old detached (Counting old.party) freed new (Settled old.party)
+  settled_locked detached settled =
+      settled_after process old locked new detached freed (Counting old.party) (Flags old.party 0) (Settled old.party)
+      (quiet_locked process old locked life counted)
+      (subst (λ (p : ℕ). IsSettled process locked detached (Flags p 0) freed new (Settled p)) party_locked settled)
+
+  pub reaped : (dead left detached : Bool) → detached ≡ calls.is_whose dead left life →
+      IsSettled process locked detached (Flags locked.party 0) freed new (Settled locked.party) →
+      calls.IsReap process old dead left (Some freed) new
+  reaped dead left detached whose settled = (
+    life,
+    (settled.events ++ StoreLife (life + 2) ∷ [],
+    gets_on old locked new (StoreLife (life + 2) ∷ LoadLife life ∷ []) settled.events counted.0 settled.gets
+    ∙ ap (λ events. record old { events = events ++ old.events })
+    (sym (append_assoc settled.events (StoreLife (life + 2) ∷ []) (LoadLife life ∷ [])))),
+    subst (λ (d : Bool). IsSettled process old d (Counting old.party) freed new (Settled old.party)) whose
+    (settled_locked detached settled),
+  )
+
+  pub joined : (last : FileLog) → IsSettled process locked false (Flags locked.party 0) freed new (Settled locked.party) →
+      IsCountedOn process new 1 last → calls.IsJoin process old true last
+  joined last settled counted_on =
+      let mine : new.party ≡ old.party = party_on locked new settled.events settled.gets ∙ party_locked in
+      let mine' : last.party ≡ old.party = party_on new last counted_on.events counted_on.gets ∙ mine in
+      (freed,
+      settled_before process old last last false freed (Counting old.party) (Settled old.party) Outside
+      (settled_before process old new last false freed (Counting old.party) (Settled old.party) (Settled old.party)
+      (settled_locked false settled)
+      (subst (λ (p : ℕ). Quiet process new (Settled p) last (Settled p)) mine (quiet_counted process new last 1 counted_on)))
+      (subst (λ (p : ℕ). Quiet process last (Settled p) last Outside) mine' (quiet_stays process last)),
+      (counted_on.life, counted_on.is_life, odd_life counted_on.life counted_on.says))

@@ -214,9 +214,9 @@ IsLeave process old freed new =
 abbrev pub is_whose : Bool → Bool → ℕ → Bool
 is_whose dead left life = if life % 2 == 1 then dead else left
 
--- the call has settled the number, or found the life to be over
+-- The call has found this life and has settled the number, or found the life to be over.
 abbrev pub IsReap : ℕ → FileLog → Bool → Bool → Option ℕ → FileLog → Type 0
 IsReap process old dead left (Some freed) new =
-    (life : ℕ) × IsLifeOf new life
+    (life : ℕ) × ((events : List Event) × Gets old (events ++ LoadLife life ∷ []) new)
     × IsSettled process old (is_whose dead left life) (Counting old.party) freed new (Settled old.party)
 IsReap process old dead left None new = IsOver old new

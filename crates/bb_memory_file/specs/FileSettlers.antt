@@ -1,8 +1,8 @@
 -- What the parts of a settler's call do.
 use Rattle.bb_memory_file.specs.FileCalls.{Gets, IsLifeOf, IsOver, freed_in, has_some, is_tried, recovers}
-use Rattle.bb_memory_file.specs.FileCode.{Event, FileLog, IsWalk}
+use Rattle.bb_memory_file.specs.FileCode.{Event, FileLog, IsWalk, LoadLife, StoreLife}
 use Rattle.bb_memory_file.specs.FileNames.{Count, Counting, FileStep, Flags, Settled}
-use Rattle.std.specs.Prelude.{Bool, List, [], false, if◌then◌else◌, true, ℕ, ◌%◌, ◌+◌, ◌-◌, ◌^◌, ◌∷◌, ◌≡◌, ◌⊎◌}
+use Rattle.std.specs.Prelude.{Bool, List, None, Option, Some, [], false, if◌then◌else◌, true, ℕ, ◌%◌, ◌+◌, ◌-◌, ◌^◌, ◌∷◌, ◌≡◌, ◌⊎◌}
 
 -- the settler has gone on from one bucket to the next, and says whether it has given the bucket back
 pub record IsSettledAt (process : ℕ) (old : FileLog) (bucket : ℕ) (answer : Bool) (new : FileLog) : Type 0 where
@@ -22,12 +22,13 @@ pub record IsRecover (process : ℕ) (old : FileLog) (bucket : ℕ) (new : FileL
   pub frees : freed_in events ≡ 0
   pub tried : is_tried old.party bucket events ≡ true
 
--- the process has counted that it has taken the number's lock, or found the life to be over
-abbrev pub IsCounted : ℕ → FileLog → Bool → FileLog → Type 0
-IsCounted process old true new =
-    (life : ℕ) × IsLifeOf new (life + 2) × (events : List Event) × Gets old events new × (freed_in events ≡ 0)
+-- the process has found this life, and has counted that it has taken the number's lock; or it found
+-- the life to be over
+abbrev pub IsCounted : ℕ → FileLog → Option ℕ → FileLog → Type 0
+IsCounted process old (Some life) new =
+    Gets old (StoreLife (life + 2) ∷ LoadLife life ∷ []) new
     × IsWalk process old (Counting old.party) new (Count process (life + 2) ∷ []) (Flags old.party 0)
-IsCounted process old false new = IsOver old new
+IsCounted process old None new = IsOver old new
 
 -- the process has counted that it has joined or leaves, if the life didn't say so: it has this parity
 -- now, or is as great as it can be

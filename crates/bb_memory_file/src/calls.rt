@@ -173,9 +173,9 @@ pub fn put_back<W: Words>(words: &mut W, bucket: u32) -> bool
 pub fn join<W: Words>(words: &mut W) -> bool
     ensures { (process : ℕ) → IsJoin process (W.log words.old) result (W.log words.new) }
 {
-    if !count_lock(words) {
+    let Some(_) = count_lock(words) else {
         return false;
-    }
+    };
     settle(words, false);
     count_join(words);
     true
@@ -205,11 +205,10 @@ pub fn leave<W: Words>(words: &mut W) -> u32
 pub fn reap<W: Words>(words: &mut W, dead: bool, left: bool) -> Option<u32>
     ensures { (process : ℕ) → IsReap process (W.log words.old) dead left result (W.log words.new) }
 {
-    if !count_lock(words) {
+    let Some(life) = count_lock(words) else {
         return None;
-    }
-    let is_joined = words.load_life() % 2 == 1;
-    let detached = if is_joined { dead } else { left };
+    };
+    let detached = if life % 2 == 1 { dead } else { left };
     Some(settle(words, detached))
 }
 
@@ -300,17 +299,17 @@ fn search<W: Words>(words: &mut W, from: u32, to: u32) -> Option<u32>
     None
 }
 
-/// Counts that this process has taken the number's lock. Returns false if the life can't become
-/// greater.
-fn count_lock<W: Words>(words: &mut W) -> bool
+/// Counts that this process has taken the number's lock. Returns the life that the number had before,
+/// or None if that can't become greater.
+fn count_lock<W: Words>(words: &mut W) -> Option<u64>
     ensures { (process : ℕ) → IsCounted process (W.log words.old) result (W.log words.new) }
 {
     let life = words.load_life();
     if life >= u64::MAX - 3 {
-        return false;
+        return None;
     }
     words.store_life(life + 2);
-    true
+    Some(life)
 }
 
 /// Counts that this process has joined as the number, which it has settled. The life is odd then.

@@ -1,11 +1,18 @@
-use Rattle.std.proofs.Common.{rules, [], false, true, ℕ, ◌%◌, ◌+◌, ◌<◌, ◌^◌, ◌∷◌, ◌≡◌, ◌≤◌, ◌-◌, ◌*◌, length, ◌/◌, Bool, nat_eq, nat_lt, List, ◌++◌, slice_index_or, slice_set, bit_and, bit_or, Fits, w8, w32, w64, Bor, MutBor}
-use Rattle.bb_memory_file.specs.FileCalls.{AllocateSays, IsAttach, IsFound, IsJoin, IsLeave, IsPost, IsPutBack, IsReap, IsSettled, IsTake, Makes, SearchSays, is_fit, length_in}
-use Rattle.bb_memory_file.specs.FileSettlers.{IsCounted, IsCountedOn, IsRecover, IsSettledAt}
-use Rattle.bb_memory_file.specs.FileLog.{IsKnownIn, IsLap, is_clear, is_held, known_of}
-use Rattle.bb_memory_file.specs.FileNames.{Deallocate, DetachNumber, Done, Flags, Next, Outside, Settled}
-use Rattle.bb_memory_file_machine.specs.FileMachine.{same_flag}
+use Rattle.bb_memory_file.proofs.FileSettlers.{reaped}
 use Rattle.bb_memory_file.proofs.calls.reap.Goals as goal
+use Rattle.bb_memory_file.proofs.calls.reap.Goals.{else-life-eq1, then-life-eq1}
+use Rattle.bb_memory_file.specs.FileCalls.{is_whose}
+use Rattle.bb_memory_pool_machine.proofs.PoolSteps.{test_same}
+use Rattle.std.proofs.Common.{◌%◌, ◌≡◌}
+use Rattle.std.proofs.lemmas.Bool.{ne_eqb}
 
--- src/calls.rt:205:1
 pub returns : goal.returns
-returns g c = ?
+returns g c process =
+    let whose : c.if-life-eq1.detached ≡ is_whose c.args.dead c.args.left c.in-Some.life =
+        elim c.if-life-eq1.branch [
+          | then-life-eq1 w ↦ rw (test_same (c.in-Some.life % 2) 1 w.if-life-eq1.true) w.detached-is
+          | else-life-eq1 w ↦ rw (ne_eqb (c.in-Some.life % 2) 1 w.if-life-eq1.false) w.detached-is
+        ] in
+    reaped process (g.W.Words.log c.args.words.now) (g.W.Words.log c.count_lock.new.words) (g.W.Words.log c.settle.new.words)
+    c.in-Some.life c.settle.result (c.in-Some.ensures process) c.args.dead c.args.left c.if-life-eq1.detached whose
+    (c.settle.ensures process)
