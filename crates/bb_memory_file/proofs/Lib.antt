@@ -1,1 +1,4 @@
+-- Lemmas of the crate.
+pub mod FileKnows
+pub mod FileRunSteps
 pub mod FileSteps
