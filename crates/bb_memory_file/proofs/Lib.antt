@@ -1,4 +1,5 @@
 -- Lemmas of the crate.
 pub mod FileKnows
 pub mod FileRunSteps
+pub mod FileRunTheorem
 pub mod FileSteps

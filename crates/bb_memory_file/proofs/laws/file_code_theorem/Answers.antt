@@ -1,5 +1,5 @@
-use Rattle.bb_memory_file.proofs.FileRunSteps.{own_mine}
+use Rattle.bb_memory_file.proofs.FileRunTheorem.{is_machines}
 use Rattle.bb_memory_file.proofs.laws.file_code_theorem.Goals as goal
 
 pub returns : goal.returns
-returns c = ?
+returns c = record { machine = is_machines }
