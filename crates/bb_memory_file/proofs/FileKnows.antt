@@ -12,11 +12,11 @@ use Rattle.bb_memory_file_machine.proofs.FileTheorem.{buckets_always, effect_in,
 use Rattle.bb_memory_file_machine.specs.FileLaws.{IsEntry, IsFlag, IsHolder, IsIn, IsLife, IsLock, IsSlot}
 use Rattle.bb_memory_file_machine.specs.FileMachine.{FileChange, FileScene, FileState, FileWords, file_after, file_step, opening_state, process_of, same_flag, with_entry, with_flag, with_life, with_slot}
 use Rattle.bb_memory_file_machine.specs.FileMachine as machine
-use Rattle.bb_memory_lists.proofs.SliceGets.{length-set_at, slice_get-set, slice_get-set_apart, slice_get-set_at, slice_get-set_same}
+use Rattle.bb_memory_lists.proofs.SliceGets.{length-set_at, slice_get-set, slice_get-set_apart, slice_get-set_same}
 use Rattle.bb_memory_pool_machine.proofs.PoolSteps.{test_same}
-use Rattle.std.proofs.Common.{Bool, List, None, Option, Some, [], ap, arith, false, inl, inr, length, refl, subst, sym, true, ℕ, ◌++◌, ◌<◌, ◌∙◌, ◌∷◌, ◌≡◌, ◌≢◌}
-use Rattle.std.proofs.lemmas.Bool.{cases_eq, eqb-true}
-use Rattle.std.specs.Prelude.{if◌then◌else◌, slice_get, slice_set, ◌==◌, ◌⊎◌}
+use Rattle.std.proofs.Common.{Bool, List, None, Option, Some, [], ap, arith, false, inl, inr, length, refl, subst, sym, true, ℕ, ◌++◌, ◌∙◌, ◌∷◌, ◌≡◌, ◌≢◌}
+use Rattle.std.proofs.lemmas.Bool.{eqb-true}
+use Rattle.std.specs.Prelude.{if◌then◌else◌, slice_get, slice_set, ◌==◌}
 
 -- a flag that is the same as one that says that the party holds the bucket, is that one
 held_flag : (party : ℕ) (flag : FileFlag) → same_flag flag (HeldBy party) ≡ true → flag ≡ HeldBy party

@@ -1,19 +1,17 @@
 -- One more act of a run, as a step of the machine.
-use Rattle.bb_memory_file.proofs.FileKnows.{after_one, differ, may_be_after, may_be_rests}
-use Rattle.bb_memory_file.specs.FileCode.{Brings, Event, FileLog, Finds, MayBe}
-use Rattle.bb_memory_file.specs.FileCode as code
-use Rattle.bb_memory_file.specs.FileLog.{fresh_log}
+use Rattle.bb_memory_file.proofs.FileKnows.{after_one, may_be_after, may_be_rests}
+use Rattle.bb_memory_file.specs.FileCode.{Brings, Event, FileLog, MayBe}
 use Rattle.bb_memory_file.specs.FileNames.{FileStep, Place}
 use Rattle.bb_memory_file.specs.FileRuns.{Act, IsTrue, Locks, Operates, actor, acted, own, steps_of, words_after}
 use Rattle.bb_memory_file_machine.proofs.FileInvariant.{Sound}
 use Rattle.bb_memory_file_machine.proofs.FileSteps.{holds_always}
 use Rattle.bb_memory_file_machine.proofs.FileTheorem.{buckets_always}
 use Rattle.bb_memory_file_machine.specs.FileLaws.{IsPlace}
-use Rattle.bb_memory_file_machine.specs.FileMachine.{FileChange, FileMove, FileScene, FileState, FileWords, change_at, change_by, file_step, left_by, move_at, opening_state, process_of, with_lock}
+use Rattle.bb_memory_file_machine.specs.FileMachine.{FileChange, FileMove, FileScene, FileState, FileWords, change_at, change_by, file_step, left_by, move_at, opening_state, process_of}
 use Rattle.bb_memory_lists.proofs.SliceGets.{slice_get-set_apart, slice_get-set_same}
 use Rattle.bb_memory_pool_machine.proofs.PoolSteps.{test_same}
-use Rattle.std.proofs.Common.{Bool, List, None, Option, Some, [], ap, false, length, refl, subst, sym, true, ℕ, ◌++◌, ◌<◌, ◌∙◌, ◌∷◌, ◌≡◌, ◌≢◌}
-use Rattle.std.proofs.lemmas.Bool.{eqb-true, ne_eqb}
+use Rattle.std.proofs.Common.{Bool, List, None, Some, [], ap, false, length, refl, subst, sym, true, ℕ, ◌++◌, ◌<◌, ◌∙◌, ◌∷◌, ◌≡◌, ◌≢◌}
+use Rattle.std.proofs.lemmas.Bool.{ne_eqb}
 use Rattle.std.specs.Prelude.{if◌then◌else◌, map, slice_get, ◌==◌}
 
 -- OWN ACTS AND STEPS
@@ -105,8 +103,8 @@ goes state step here words there is brings =
     let same : file_step state step ≡ change_by state (process_of step) move = ap (change_at state step) is in (
       ap (λ (change : FileChange). change.state.words) same ∙ brings.words,
       ap (λ (change : FileChange). slice_get change.state.places (process_of step)) same
-      ∙ slice_get-set_same state.places (process_of step) move.place here is
-      ∙ ap (λ (place : Place). Some place) brings.place,
+          ∙ slice_get-set_same state.places (process_of step) move.place here is
+          ∙ ap (λ (place : Place). Some place) brings.place,
     )
 
 -- another process stays where it is

@@ -4,14 +4,14 @@ use Rattle.bb_memory_file.proofs.FileRunSteps.{At, Fine, log_of, on_look, on_mov
 use Rattle.bb_memory_file.specs.FileCode.{Brings, Event, FileLog, Finds, MayBe, Path}
 use Rattle.bb_memory_file.specs.FileCode as code
 use Rattle.bb_memory_file.specs.FileLog.{fresh_log}
-use Rattle.bb_memory_file.specs.FileNames.{Counting, Dead, FileStep, Flags, Kill, Lock, Outside, Place, Release, Settled, Unlock}
+use Rattle.bb_memory_file.specs.FileNames.{Counting, Dead, FileStep, Kill, Lock, Outside, Place, Release, Unlock}
 use Rattle.bb_memory_file.specs.FileRuns.{Act, AreTrue, Dies, Frees, IsMachines, IsRun, IsTrue, Life, Locks, MayUnlock, Operates, Unlocks, actor, acts_of, own, words_after}
 use Rattle.bb_memory_file.specs.FileRuns as runs
-use Rattle.bb_memory_file_machine.specs.FileLaws.{IsLock, IsPlace}
-use Rattle.bb_memory_file_machine.specs.FileMachine.{FileScene, FileWords, finds_own, is_own, left_by, move_at, opening_state, process_of, with_lock}
+use Rattle.bb_memory_file_machine.specs.FileLaws.{IsLock}
+use Rattle.bb_memory_file_machine.specs.FileMachine.{FileScene, FileWords, finds_own, is_own, left_by, move_at, with_lock}
 use Rattle.bb_memory_lists.proofs.SliceGets.{slice_get-replicate}
 use Rattle.bb_memory_pool_machine.proofs.PoolSteps.{test_same}
-use Rattle.std.proofs.Common.{Bool, List, None, Option, Some, [], ap, false, inl, inr, refl, subst, sym, true, ℕ, ◌++◌, ◌<◌, ◌∙◌, ◌∷◌, ◌≡◌, ◌≢◌}
+use Rattle.std.proofs.Common.{Bool, List, None, Some, [], ap, false, inl, inr, refl, subst, sym, true, ℕ, ◌++◌, ◌<◌, ◌∙◌, ◌∷◌, ◌≡◌}
 use Rattle.std.proofs.lemmas.Bool.{eqb-true, ne_eqb}
 use Rattle.std.specs.Prelude.{if◌then◌else◌, map, slice_get, ◌==◌}
 
