@@ -1,4 +1,3 @@
--- Lemmas of the crate.
 pub mod FileKnows
 pub mod FileRunSteps
 pub mod FileRunTheorem
