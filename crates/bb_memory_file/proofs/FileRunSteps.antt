@@ -1,18 +1,19 @@
 -- One more act of a run, as a step of the machine.
 use Rattle.bb_memory_file.proofs.FileKnows.{after_one, may_be_after, may_be_rests}
 use Rattle.bb_memory_file.specs.FileCode.{Brings, Event, FileLog, MayBe}
-use Rattle.bb_memory_file.specs.FileNames.{FileStep, Place}
-use Rattle.bb_memory_file.specs.FileRuns.{Act, IsTrue, Locks, Operates, actor, acted, own, steps_of, words_after}
+use Rattle.bb_memory_file.specs.FileNames.{FileOutcome, FileStep, Place, Refused}
+use Rattle.bb_memory_file.specs.FileRuns.{Act, IsTrue, Locks, Operates, acted, actor, own, steps_of, words_after}
 use Rattle.bb_memory_file_machine.proofs.FileInvariant.{Sound}
 use Rattle.bb_memory_file_machine.proofs.FileSteps.{holds_always}
 use Rattle.bb_memory_file_machine.proofs.FileTheorem.{buckets_always}
 use Rattle.bb_memory_file_machine.specs.FileLaws.{IsPlace}
-use Rattle.bb_memory_file_machine.specs.FileMachine.{FileChange, FileMove, FileScene, FileState, FileWords, change_at, change_by, file_step, left_by, move_at, opening_state, process_of}
+use Rattle.bb_memory_file_machine.specs.FileMachine.{FileChange, FileMove, FileScene, FileState, FileWords, change_at, change_by, file_after, file_step, left_by, move_at, opening_state, outcomes_of, process_of}
 use Rattle.bb_memory_lists.proofs.SliceGets.{slice_get-set_apart, slice_get-set_same}
 use Rattle.bb_memory_pool_machine.proofs.PoolSteps.{test_same}
-use Rattle.std.proofs.Common.{Bool, List, None, Some, [], ap, false, length, refl, subst, sym, true, ℕ, ◌++◌, ◌<◌, ◌∙◌, ◌∷◌, ◌≡◌, ◌≢◌}
+use Rattle.std.proofs.Common.{Bool, List, None, Some, [], ap, false, inl, inr, length, refl, subst, sym, true, ℕ, ◌++◌, ◌<◌, ◌∙◌, ◌∷◌, ◌≡◌, ◌≢◌}
 use Rattle.std.proofs.lemmas.Bool.{ne_eqb}
-use Rattle.std.specs.Prelude.{if◌then◌else◌, map, slice_get, ◌==◌}
+use Rattle.std.proofs.lemmas.List.Elements.{Contains-push_cases}
+use Rattle.std.specs.Prelude.{Contains, if◌then◌else◌, map, slice_get, ◌==◌}
 
 -- OWN ACTS AND STEPS
 
@@ -40,6 +41,26 @@ own_step process [] step false e = rw e refl
 own_step process (first ∷ steps) step same e =
     pushed same (process_of first == process) (steps_of process steps) (steps_of process (steps ++ step ∷ [])) step first
     (own_step process steps step same e)
+
+-- OUTCOMES
+
+-- the outcomes of some steps, and of one more
+outcomes_after : (state : FileState) (steps : List FileStep) (step : FileStep) → outcomes_of state (steps ++ step ∷ [])
+    ≡ outcomes_of state steps ++ (file_step (file_after state steps) step).outcome ∷ []
+outcomes_after state [] step = refl
+outcomes_after state (first ∷ steps) step =
+    ap (λ (l : List FileOutcome). (file_step state first).outcome ∷ l) (outcomes_after (file_step state first).state steps step)
+
+-- no step is refused if none was, and one more isn't
+none_refused : (scene : FileScene) (steps : List FileStep) (step : FileStep) →
+    ¬ Contains (outcomes_of (opening_state scene) steps) Refused → (file_step (left_by scene steps) step).outcome ≢ Refused →
+    ¬ Contains (outcomes_of (opening_state scene) (steps ++ step ∷ [])) Refused
+none_refused scene steps step before allowed now =
+    elim (Contains-push_cases (outcomes_of (opening_state scene) steps) (file_step (left_by scene steps) step).outcome Refused
+    (subst (λ (l : List FileOutcome). Contains l Refused) (outcomes_after (opening_state scene) steps step) now)) [
+      | inl earlier ↦ before earlier
+      | inr this ↦ allowed this
+    ]
 
 -- SESSIONS
 
@@ -89,18 +110,21 @@ pub record Fine (scene : FileScene) (acts : List Act) (steps : List FileStep) (p
 pub record At (scene : FileScene) (acts : List Act) (process : ℕ) (mine : List FileStep) (here : Place) (taken : ℕ → List FileStep)
     (places : ℕ → Place) : Type 0 where
   pub steps : List FileStep
+  pub allowed : ¬ Contains (outcomes_of (opening_state scene) steps) Refused
   pub words : (left_by scene steps).words ≡ words_after scene acts
   pub fine : Fine scene acts steps process mine here
   pub others : (other : ℕ) → other < scene.processes → other ≢ process →
       Fine scene acts steps other (taken other) (places other)
 
--- a step of a process at this place leaves these words, and brings the process there
+-- a step of a process at this place isn't refused, leaves these words, and brings the process there
 goes : (state : FileState) (step : FileStep) (here : Place) (words : FileWords) (there : Place) →
     IsPlace state (process_of step) here → Brings (move_at state.words here step) words there →
-    ((file_step state step).state.words ≡ words) × IsPlace (file_step state step).state (process_of step) there
+    ((file_step state step).outcome ≢ Refused) × ((file_step state step).state.words ≡ words)
+    × IsPlace (file_step state step).state (process_of step) there
 goes state step here words there is brings =
     let move : FileMove = move_at state.words here step in
     let same : file_step state step ≡ change_by state (process_of step) move = ap (change_at state step) is in (
+      (λ e. brings.allowed (sym (ap (λ (change : FileChange). change.outcome) same) ∙ e)),
       ap (λ (change : FileChange). change.state.words) same ∙ brings.words,
       ap (λ (change : FileChange). slice_get change.state.places (process_of step)) same
           ∙ slice_get-set_same state.places (process_of step) move.place here is
@@ -145,12 +169,13 @@ module _ (scene : FileScene) (acts : List Act) (process : ℕ) (mine : List File
       let made = goes state step here words there is brings in
       let new : FileState = (file_step state step).state in
       let come : new ≡ left_by scene (at.steps ++ step ∷ []) = sym (after_one (opening_state scene) at.steps step) in
-      let left : words ≡ (left_by scene (at.steps ++ step ∷ [])).words = sym made.0 ∙ ap (λ (s : FileState). s.words) come in
+      let left : words ≡ (left_by scene (at.steps ++ step ∷ [])).words = sym made.1 ∙ ap (λ (s : FileState). s.words) come in
       record {
         steps = at.steps ++ step ∷ [];
+        allowed = none_refused scene at.steps step at.allowed made.0;
         words = sym left ∙ same;
         fine = record {
-          place = subst (λ (s : FileState). IsPlace s process there) come (subst (λ (p : ℕ). IsPlace new p there) own_step_is made.1);
+          place = subst (λ (s : FileState). IsPlace s process there) come (subst (λ (p : ℕ). IsPlace new p there) own_step_is made.2);
           took = own_step process at.steps step true (test_same (process_of step) process own_step_is)
               ∙ ap (λ (l : List FileStep). step ∷ l) at.fine.took;
           knows = λ party events e.
@@ -192,6 +217,7 @@ module _ (scene : FileScene) (act : Act) (acts : List Act) (mine : List FileStep
       At scene (act ∷ acts) (actor act) mine here taken places
   on_look same = record {
     steps = at.steps;
+    allowed = at.allowed;
     words = sym same ∙ ap (λ (w : FileWords). acted w act) at.words;
     fine = record {
       place = at.fine.place;

@@ -4,16 +4,17 @@ use Rattle.bb_memory_file.proofs.FileRunSteps.{At, Fine, log_of, on_look, on_mov
 use Rattle.bb_memory_file.specs.FileCode.{Brings, Event, FileLog, Finds, MayBe, Path}
 use Rattle.bb_memory_file.specs.FileCode as code
 use Rattle.bb_memory_file.specs.FileLog.{fresh_log}
-use Rattle.bb_memory_file.specs.FileNames.{Counting, Dead, FileStep, Kill, Lock, Outside, Place, Release, Unlock}
+use Rattle.bb_memory_file.specs.FileNames.{Counting, Dead, FileStep, Kill, Lock, Outside, Place, Refused, Release, Unlock}
 use Rattle.bb_memory_file.specs.FileRuns.{Act, AreTrue, Dies, Frees, IsMachines, IsRun, IsTrue, Life, Locks, MayUnlock, Operates, Unlocks, actor, acts_of, own, words_after}
 use Rattle.bb_memory_file.specs.FileRuns as runs
 use Rattle.bb_memory_file_machine.specs.FileLaws.{IsLock}
-use Rattle.bb_memory_file_machine.specs.FileMachine.{FileScene, FileWords, finds_own, is_own, left_by, move_at, with_lock}
+use Rattle.bb_memory_file_machine.specs.FileMachine.{FileScene, FileWords, finds_own, is_own, left_by, move_at, opening_state, outcomes_of, with_lock}
+use Rattle.bb_memory_lists.proofs.ListEntries.{contains-none}
 use Rattle.bb_memory_lists.proofs.SliceGets.{slice_get-replicate}
 use Rattle.bb_memory_pool_machine.proofs.PoolSteps.{test_same}
 use Rattle.std.proofs.Common.{Bool, List, None, Some, [], ap, false, inl, inr, refl, subst, sym, true, ℕ, ◌++◌, ◌<◌, ◌∙◌, ◌∷◌, ◌≡◌}
 use Rattle.std.proofs.lemmas.Bool.{eqb-true, ne_eqb}
-use Rattle.std.specs.Prelude.{if◌then◌else◌, map, slice_get, ◌==◌}
+use Rattle.std.specs.Prelude.{Contains, if◌then◌else◌, map, slice_get, ◌==◌}
 
 -- STEPS ON LOCKS
 
@@ -177,6 +178,7 @@ asleep scene process all mine here (runs.frees party did done life) e = absurd (
 -- The machine has come to a state with the words of the run, in which each process is fine.
 record State (scene : FileScene) (acts : List Act) (taken : ℕ → List FileStep) (places : ℕ → Place) : Type 0 where
   steps : List FileStep
+  allowed : ¬ Contains (outcomes_of (opening_state scene) steps) Refused
   words : (left_by scene steps).words ≡ words_after scene acts
   each : (process : ℕ) → process < scene.processes → Fine scene acts steps process (taken process) (places process)
 
@@ -212,6 +214,7 @@ module _ (scene : FileScene) (act : Act) (acts : List Act) (taken : ℕ → List
       At scene acts (actor act) mine here taken places
   at_before below state = record {
     steps = state.steps;
+    allowed = state.allowed;
     words = state.words;
     fine = subst (λ (b : Bool). Fine scene acts state.steps (actor act) (if b then mine else taken (actor act))
         (if b then here else places (actor act))) (test_same (actor act) (actor act) refl) (state.each (actor act) below);
@@ -229,12 +232,18 @@ module _ (scene : FileScene) (acts : List Act) (process : ℕ) (taken : ℕ → 
   fine_of other less false e = now.others other less (differ other process e)
 
   state_at : State scene acts taken places
-  state_at = record { steps = now.steps; words = now.words; each = λ other less. fine_of other less (other == process) refl }
+  state_at = record {
+    steps = now.steps;
+    allowed = now.allowed;
+    words = now.words;
+    each = λ other less. fine_of other less (other == process) refl;
+  }
 
 all_acts : (scene : FileScene) (acts : List Act) → AreTrue scene acts → (taken : ℕ → List FileStep) (places : ℕ → Place) →
     ((process : ℕ) → Life scene process (own process acts) (taken process) (places process)) → State scene acts taken places
 all_acts scene [] are taken places lives = record {
   steps = [];
+  allowed = contains-none Refused;
   words = refl;
   each = λ process below. fine_first scene process (taken process) (places process) below (lives process);
 }
@@ -253,6 +262,7 @@ is_machines scene acts taken places run =
     let state = all_acts scene acts run.true taken places run.lives in
     record {
       steps = state.steps;
+      allowed = state.allowed;
       words = state.words;
       processes = λ process below. (state.each process below).place;
       own = λ process below. (state.each process below).took;
