@@ -6,37 +6,34 @@ use Rattle.bb_memory_file.specs.FileLog as log
 use Rattle.bb_memory_file.specs.FileNames.{DetachedBy, Empty, Entry, FileFlag, FileStep, Free, HeldBy, Message, SentTo, Slot}
 use Rattle.bb_memory_file_machine.proofs.FileEffects.{Rests, below_end, one_value, rests}
 use Rattle.bb_memory_file_machine.proofs.FileInvariant.{Sound}
-use Rattle.bb_memory_file_machine.proofs.FileSound.{there_below}
+use Rattle.bb_memory_file_machine.proofs.FileSound.{entry_there, there_below}
 use Rattle.bb_memory_file_machine.proofs.FileSteps.{holds_always}
 use Rattle.bb_memory_file_machine.proofs.FileTheorem.{buckets_always, effect_in, own_life_always}
 use Rattle.bb_memory_file_machine.specs.FileLaws.{IsEntry, IsFlag, IsHolder, IsIn, IsLife, IsLock, IsSlot}
 use Rattle.bb_memory_file_machine.specs.FileMachine.{FileChange, FileScene, FileState, FileWords, file_after, file_step, opening_state, process_of, same_flag, with_entry, with_flag, with_life, with_slot}
 use Rattle.bb_memory_file_machine.specs.FileMachine as machine
 use Rattle.bb_memory_lists.proofs.SliceGets.{length-set_at, slice_get-set, slice_get-set_apart, slice_get-set_same}
-use Rattle.bb_memory_pool_machine.proofs.PoolSteps.{test_same}
 use Rattle.std.proofs.Common.{Bool, List, None, Option, Some, [], ap, arith, false, inl, inr, length, refl, subst, sym, true, ℕ, ◌++◌, ◌∙◌, ◌∷◌, ◌≡◌, ◌≢◌}
-use Rattle.std.proofs.lemmas.Bool.{eqb-true}
+use Rattle.std.proofs.lemmas.Bool.{eqb-false, eqb-true}
 use Rattle.std.specs.Prelude.{if◌then◌else◌, slice_get, slice_set, ◌==◌}
 
--- a flag that is the same as one that says that the party holds the bucket, is that one
+-- a flag that the test finds to be that of a bucket of the party is that flag
 held_flag : (party : ℕ) (flag : FileFlag) → same_flag flag (HeldBy party) ≡ true → flag ≡ HeldBy party
 held_flag party Free is = absurd (cc)
 held_flag party (HeldBy other) is = ap HeldBy (eqb-true other party is)
 held_flag party (SentTo slot lap) is = absurd (cc)
 held_flag party (DetachedBy other) is = absurd (cc)
 
--- numbers whose test fails differ
-pub differ : (one other : ℕ) → (one == other) ≡ false → one ≢ other
-differ one other test same = let is = test_same one other same in absurd (cc)
-
 -- WORDS THAT ARE KEPT
 
 module _ (words later : FileWords) (party bucket : ℕ) where
+  -- an entry that is known stays so while the bucket's entry stays
   entry_kept : (entry : Option Entry) → slice_get later.entries bucket ≡ slice_get words.entries bucket →
       IsEntryIf words bucket entry → IsEntryIf later bucket entry
   entry_kept None same is = tt
   entry_kept (Some entry) same is = same ∙ is
 
+  -- what was seen of the bucket stays so while all slots stay
   seen_kept : (seen : Seen) → later.slots ≡ words.slots → IsSeen words bucket seen → IsSeen later bucket seen
   seen_kept Unseen same is = tt
   seen_kept (Has slot lap) same is = ap (λ (l : List Slot). slice_get l slot) same ∙ is
@@ -50,6 +47,7 @@ module _ (words later : FileWords) (party bucket : ℕ) where
   known_kept (Holds entry seen) kept entries slots (held, is, has) =
       (kept held, entry_kept entry entries is, seen_kept seen slots has)
 
+  -- what was seen of a bucket that the party holds stays so while other processes take steps
   seen_rests : (process : ℕ) (seen : Seen) → Rests words later party process → IsHolder words bucket party →
       IsSeen words bucket seen → IsSeen later bucket seen
   seen_rests process Unseen r held is = tt
@@ -98,19 +96,12 @@ module _ (words : FileWords) (party bucket : ℕ) (sound : Sound words) where
   known_entry found Unknown is so = tt
   known_entry found (Holds old seen) is (held, entry, has) = (held, is, has)
 
-  -- a bucket that the party holds has an entry
-  entry_there : IsHolder words bucket party → (entry : Entry) × IsEntry words bucket entry
-  entry_there held =
-      let below = below_end words.flags bucket (HeldBy party) held in
-      let same = sound.same_entries in
-      there_below words.entries bucket (omega (arith, below, same))
-
   -- the entry of the bucket is written
   known_entered : (to : Entry) (known : Known) → IsKnown words party bucket known →
       IsKnown (with_entry words bucket to) party bucket (log.with_entry known to)
   known_entered to Unknown so = tt
   known_entered to (Holds old seen) (held, entry, has) =
-      let there = entry_there held in (
+      let there = entry_there words bucket (HeldBy party) sound held in (
         held,
         slice_get-set_same words.entries bucket to there.0 there.1,
         seen_kept words (with_entry words bucket to) party bucket seen refl has,
@@ -129,7 +120,7 @@ module _ (words : FileWords) (party bucket : ℕ) (sound : Sound words) where
       seen_has later slot lap other false e is =
           λ now.
           let same = one_value later.slots slot (Message lap other) (Message now.0 bucket) is now.1 in
-          absurd (differ other bucket e (cc))
+          absurd (eqb-false other bucket e (cc))
 
   -- the party has seen a slot, after a write to slots only
   known_seen : (later : FileWords) (known : Known) (seen : Seen) → later.flags ≡ words.flags →
@@ -165,6 +156,7 @@ module _ (words : FileWords) (party bucket : ℕ) (sound : Sound words) where
 
   -- EACH EVENT, ON THE BUCKET OR ON ANOTHER
 
+  -- a flag is found
   after_load : (other : ℕ) (found : FileFlag) (known : Known) (same : Bool) → (other == bucket) ≡ same →
       IsFlag words other found → IsKnown words party bucket known →
       IsKnown words party bucket (if same then (if same_flag found (HeldBy party) then held_still known else Unknown) else known)
@@ -173,6 +165,7 @@ module _ (words : FileWords) (party bucket : ℕ) (sound : Sound words) where
       (ap (slice_get words.flags) (sym (eqb-true other bucket e)) ∙ is) so
   after_load other found known false e is so = so
 
+  -- a flag is exchanged
   after_exchange : (other : ℕ) (from to : FileFlag) (known : Known) (same : Bool) → (other == bucket) ≡ same →
       IsFlag words other from → IsKnown words party bucket known → IsKnown (with_flag words other to) party bucket
       (if same then (if same_flag to (HeldBy party) then taken_from from else Unknown) else known)
@@ -181,13 +174,15 @@ module _ (words : FileWords) (party bucket : ℕ) (sound : Sound words) where
       subst (λ (b : ℕ). IsKnown (with_flag words b to) party bucket (if same_flag to (HeldBy party) then taken_from from else Unknown))
       (sym at)
       (known_exchanged from to (same_flag to (HeldBy party)) refl (ap (slice_get words.flags) (sym at) ∙ is))
-  after_exchange other from to known false e is so = known_apart other to known (differ other bucket e) so
+  after_exchange other from to known false e is so = known_apart other to known (eqb-false other bucket e) so
 
+  -- a flag is stored
   after_store : (other : ℕ) (to : FileFlag) (known : Known) (same : Bool) → (other == bucket) ≡ same →
       IsKnown words party bucket known → IsKnown (with_flag words other to) party bucket (if same then Unknown else known)
   after_store other to known true e so = tt
-  after_store other to known false e so = known_apart other to known (differ other bucket e) so
+  after_store other to known false e so = known_apart other to known (eqb-false other bucket e) so
 
+  -- an entry is found
   after_entry : (other : ℕ) (found : Entry) (known : Known) (same : Bool) → (other == bucket) ≡ same →
       IsEntry words other found → IsKnown words party bucket known →
       IsKnown words party bucket (if same then log.with_entry known found else known)
@@ -195,13 +190,14 @@ module _ (words : FileWords) (party bucket : ℕ) (sound : Sound words) where
       known_entry found known (ap (slice_get words.entries) (sym (eqb-true other bucket e)) ∙ is) so
   after_entry other found known false e is so = so
 
+  -- an entry is stored
   after_write : (other : ℕ) (to : Entry) (known : Known) (same : Bool) → (other == bucket) ≡ same →
       IsKnown words party bucket known →
       IsKnown (with_entry words other to) party bucket (if same then log.with_entry known to else known)
   after_write other to known true e so =
       subst (λ (b : ℕ). IsKnown (with_entry words b to) party bucket (log.with_entry known to)) (sym (eqb-true other bucket e))
       (known_entered to known so)
-  after_write other to known false e so = known_beside other to known (differ other bucket e) so
+  after_write other to known false e so = known_beside other to known (eqb-false other bucket e) so
 
   -- what the party knows of a bucket is so after an event that finds what it found
   pub known_after : (event : Event) (known : Known) → Finds words party event → IsKnown words party bucket known →
@@ -267,6 +263,7 @@ life_there words party process sound lock =
 
 module _ (words : FileWords) (party process : ℕ) (sound : Sound words) (lock : IsLock words party process) (events : List Event)
     (life : IsLifeIf words party (life_by events)) where
+  -- a life that is known stays so while all lives stay
   life_kept : (later : FileWords) (known : Option ℕ) → later.lives ≡ words.lives → IsLifeIf words party known →
       IsLifeIf later party known
   life_kept later None same is = tt

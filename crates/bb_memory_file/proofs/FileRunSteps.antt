@@ -17,14 +17,16 @@ use Rattle.std.specs.Prelude.{Contains, if◌then◌else◌, map, slice_get, ◌
 
 -- OWN ACTS AND STEPS
 
--- the acts of one process, after one more of its own and of another process
+-- the acts of one process, after one more of its own
 pub own_mine : (act : Act) (acts : List Act) → own (actor act) (act ∷ acts) ≡ act ∷ own (actor act) acts
 own_mine act acts = rw (test_same (actor act) (actor act) refl) refl
 
+-- the acts of one process, after one more of another process
 pub own_other : (act : Act) (acts : List Act) (other : ℕ) → other ≢ actor act → own other (act ∷ acts) ≡ own other acts
 own_other act acts other apart = rw (ne_eqb (actor act) other (λ e. apart (sym e))) refl
 
--- a step that is put behind others is put before them once they are turned round
+-- One more step at the end of a list is the first of the reversed list, whether the list begins with a
+-- step of the same process or not.
 pushed : (same first : Bool) (before after : List FileStep) (step one : FileStep) →
     after ≡ (if same then step ∷ before else before) → (if first then after ++ one ∷ [] else after)
     ≡ (if same then step ∷ (if first then before ++ one ∷ [] else before) else (if first then before ++ one ∷ [] else before))

@@ -1,5 +1,5 @@
 -- Each run is one of the machine.
-use Rattle.bb_memory_file.proofs.FileKnows.{differ, left_same}
+use Rattle.bb_memory_file.proofs.FileKnows.{left_same}
 use Rattle.bb_memory_file.proofs.FileRunSteps.{At, Fine, log_of, on_look, on_move, on_step, own_mine, own_other, session}
 use Rattle.bb_memory_file.specs.FileCode.{Brings, Event, FileLog, Finds, MayBe, Path}
 use Rattle.bb_memory_file.specs.FileCode as code
@@ -13,16 +13,18 @@ use Rattle.bb_memory_lists.proofs.ListEntries.{contains-none}
 use Rattle.bb_memory_lists.proofs.SliceGets.{slice_get-replicate}
 use Rattle.bb_memory_pool_machine.proofs.PoolSteps.{test_same}
 use Rattle.std.proofs.Common.{Bool, List, None, Some, [], ap, false, inl, inr, refl, subst, sym, true, ℕ, ◌++◌, ◌<◌, ◌∙◌, ◌∷◌, ◌≡◌}
-use Rattle.std.proofs.lemmas.Bool.{eqb-true, ne_eqb}
+use Rattle.std.proofs.lemmas.Bool.{eqb-false, eqb-true, ne_eqb}
 use Rattle.std.specs.Prelude.{Contains, if◌then◌else◌, map, slice_get, ◌==◌}
 
 -- STEPS ON LOCKS
 
 module _ (words : FileWords) (process party : ℕ) where
+  -- a process takes a free lock
   brings_lock : slice_get words.locks party ≡ Some None →
       Brings (move_at words Outside (Lock process party)) (with_lock words party (Some process)) (Counting party)
   brings_lock free = rw free (record { allowed = λ e. absurd (cc); words = refl; place = refl })
 
+  -- a process frees the lock of its number
   brings_unlock : (here : Place) → MayUnlock party here →
       Brings (move_at words here (Unlock process)) (with_lock words party None) Outside
   brings_unlock here (inl settled) =
@@ -32,14 +34,16 @@ module _ (words : FileWords) (process party : ℕ) where
       subst (λ (p : Place). Brings (move_at words p (Unlock process)) (with_lock words party None) Outside) (sym first)
       (record { allowed = λ e. absurd (cc); words = refl; place = refl })
 
+  -- the system frees a lock of a dead process
   brings_release : IsLock words party process →
       Brings (move_at words Dead (Release process party)) (with_lock words party None) Dead
   brings_release lock =
       let is : is_own words process party ≡ true = ap (finds_own process) lock ∙ test_same process process refl in
       rw is (record { allowed = λ e. absurd (cc); words = refl; place = refl })
 
-  brings_kill : (here : Place) → Brings (move_at words here (Kill process)) words Dead
-  brings_kill here = record { allowed = λ e. absurd (cc); words = refl; place = refl }
+-- a process is killed
+brings_kill : (words : FileWords) (process : ℕ) (here : Place) → Brings (move_at words here (Kill process)) words Dead
+brings_kill words process here = record { allowed = λ e. absurd (cc); words = refl; place = refl }
 
 -- SESSIONS
 
@@ -85,6 +89,7 @@ module _ (scene : FileScene) (act : Act) (acts : List Act) (is : IsTrue (words_a
   abbrev me : ℕ
   me = actor act
 
+  -- the machine has come to the state after this act
   abbrev Now : Act → List FileStep → Place → Type 0
   Now this mine here = At scene (this ∷ acts) me mine here taken places
 
@@ -93,10 +98,11 @@ module _ (scene : FileScene) (act : Act) (acts : List Act) (is : IsTrue (words_a
       At scene acts me mine here taken places
   came done mine here life e = before mine here (subst (λ (l : List Act). Life scene me l mine here) e life)
 
-  -- this act, if the act is this one, is true
+  -- an act that is the same as this one is true
   true_as : (this : Act) → this ≡ act → IsTrue (words_after scene acts) this
   true_as this same = subst (λ (a : Act). IsTrue (words_after scene acts) a) (sym same) is
 
+  -- the act is the last one of a session that goes on
   on_path : (party : ℕ) (log : FileLog) (mine : List FileStep) (here : Place) →
       Path me (fresh_log scene party) (Counting party) log mine here →
       acts_of me log ++ Locks me party ∷ [] ≡ act ∷ own me acts → Now act (mine ++ Lock me party ∷ []) here
@@ -134,6 +140,7 @@ module _ (scene : FileScene) (act : Act) (acts : List Act) (is : IsTrue (words_a
       (made (left_by scene now.steps).words
       (may_be scene me party log done at path (act ∷ acts) all' at taken places now (own_mine act acts ∙ sym e)))
 
+  -- the act is the last one of a life
   on : (all : List Act) (mine : List FileStep) (here : Place) → Life scene me all mine here → all ≡ act ∷ own me acts → Now act mine here
   on all mine here runs.sleeps e = absurd (cc)
   on all mine here (runs.works party log done at path) e = on_path party log done at path e
@@ -148,7 +155,7 @@ module _ (scene : FileScene) (act : Act) (acts : List Act) (is : IsTrue (words_a
       let now : At scene acts me done at taken places = came did done at life (cc) in
       subst (λ (a : Act). Now a (Kill me ∷ done) Dead) this
       (on_step scene (Dies me) acts done at taken places now tt (Kill me) Dead refl
-      (brings_kill (left_by scene now.steps).words me 0 at))
+      (brings_kill (left_by scene now.steps).words me at))
   on all mine here (runs.frees party did done life) e =
       let this : Frees me party ≡ act = cc in
       let now : At scene acts me done Dead taken places = came did done Dead life (cc) in
@@ -182,6 +189,7 @@ record State (scene : FileScene) (acts : List Act) (taken : ℕ → List FileSte
   words : (left_by scene steps).words ≡ words_after scene acts
   each : (process : ℕ) → process < scene.processes → Fine scene acts steps process (taken process) (places process)
 
+-- each process is fine at first
 fine_first : (scene : FileScene) (process : ℕ) (mine : List FileStep) (here : Place) → process < scene.processes →
     Life scene process [] mine here → Fine scene [] [] process mine here
 fine_first scene process mine here below life =
@@ -196,20 +204,23 @@ fine_first scene process mine here below life =
 module _ (scene : FileScene) (act : Act) (acts : List Act) (taken : ℕ → List FileStep) (places : ℕ → Place)
     (lives : (process : ℕ) → Life scene process (own process (act ∷ acts)) (taken process) (places process)) (mine : List FileStep)
     (here : Place) (life : Life scene (actor act) (own (actor act) acts) mine here) where
+  -- what each process has taken, and where it is, before the act
   abbrev taken_before : ℕ → List FileStep
   taken_before process = if process == actor act then mine else taken process
 
   abbrev places_before : ℕ → Place
   places_before process = if process == actor act then here else places process
 
+  -- the life of each process before the act
   life_before : (process : ℕ) (same : Bool) → (process == actor act) ≡ same →
       Life scene process (own process acts) (if same then mine else taken process) (if same then here else places process)
   life_before process true e =
       subst (λ (p : ℕ). Life scene p (own p acts) mine here) (sym (eqb-true process (actor act) e)) life
   life_before process false e =
       subst (λ (l : List Act). Life scene process l (taken process) (places process))
-      (own_other act acts process (differ process (actor act) e)) (lives process)
+      (own_other act acts process (eqb-false process (actor act) e)) (lives process)
 
+  -- the state before the act, with this process apart from the others
   at_before : actor act < scene.processes → State scene acts taken_before places_before →
       At scene acts (actor act) mine here taken places
   at_before below state = record {
@@ -225,11 +236,12 @@ module _ (scene : FileScene) (act : Act) (acts : List Act) (taken : ℕ → List
 
 module _ (scene : FileScene) (acts : List Act) (process : ℕ) (taken : ℕ → List FileStep) (places : ℕ → Place)
     (now : At scene acts process (taken process) (places process) taken places) where
+  -- this process and all others are fine
   fine_of : (other : ℕ) → other < scene.processes → (same : Bool) → (other == process) ≡ same →
       Fine scene acts now.steps other (taken other) (places other)
   fine_of other less true e =
       subst (λ (p : ℕ). Fine scene acts now.steps p (taken p) (places p)) (sym (eqb-true other process e)) now.fine
-  fine_of other less false e = now.others other less (differ other process e)
+  fine_of other less false e = now.others other less (eqb-false other process e)
 
   state_at : State scene acts taken places
   state_at = record {
@@ -239,6 +251,7 @@ module _ (scene : FileScene) (acts : List Act) (process : ℕ) (taken : ℕ → 
     each = λ other less. fine_of other less (other == process) refl;
   }
 
+-- the acts of all lives, one after the other, lead to a state of the machine
 all_acts : (scene : FileScene) (acts : List Act) → AreTrue scene acts → (taken : ℕ → List FileStep) (places : ℕ → Place) →
     ((process : ℕ) → Life scene process (own process acts) (taken process) (places process)) → State scene acts taken places
 all_acts scene [] are taken places lives = record {
@@ -256,6 +269,7 @@ all_acts scene (act ∷ acts) are taken places lives =
     (λ process. life_before scene act acts taken places lives mine here life process (process == actor act) refl)))
     (own (actor act) (act ∷ acts)) (taken (actor act)) (places (actor act)) (lives (actor act)) (own_mine act acts))
 
+-- each run is one of the machine
 pub is_machines : (scene : FileScene) (acts : List Act) (taken : ℕ → List FileStep) (places : ℕ → Place) →
     IsRun scene acts taken places → IsMachines scene acts taken places
 is_machines scene acts taken places run =
