@@ -1,6 +1,9 @@
 pub mod FileBuckets
 pub mod FileEvents
+pub mod FileKnows
 pub mod FileMessages
+pub mod FileRunSteps
+pub mod FileRunTheorem
 pub mod FileSearches
 pub mod FileSettlers
 pub mod FileSteps
