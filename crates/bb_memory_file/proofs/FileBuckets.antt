@@ -1,12 +1,12 @@
 -- The walks of calls on buckets.
-use Rattle.bb_memory_file.proofs.FileSteps.{allocates, attaches, deallocates, detaches}
+use Rattle.bb_memory_file.proofs.FileSteps.{attaches, deallocates, detaches}
 use Rattle.bb_memory_file.proofs.FileWalks.{walk_step}
-use Rattle.bb_memory_file.specs.FileCalls.{Gets, IsAttach, Makes, is_detached}
-use Rattle.bb_memory_file.specs.FileCode.{Event, ExchangeFlag, FileLog, Holds, LoadFlag, MissFlag, Path, StoreFlag, Unseen, begins, known_of, looks, steps, told}
+use Rattle.bb_memory_file.specs.FileCalls.{IsAttach, Makes, is_detached}
+use Rattle.bb_memory_file.specs.FileCode.{ExchangeFlag, FileLog, LoadFlag, MissFlag, Path, StoreFlag, begins, known_of, looks, steps, told}
 use Rattle.bb_memory_file.specs.FileLog.{is_clear}
-use Rattle.bb_memory_file.specs.FileNames.{AttachNumber, Deallocate, DetachNumber, DetachedBy, FileFlag, Free, HeldBy, Nowhere, Outside, SentTo}
+use Rattle.bb_memory_file.specs.FileNames.{AttachNumber, Deallocate, DetachNumber, DetachedBy, FileFlag, Free, HeldBy, Outside, SentTo}
 use Rattle.bb_memory_pool_machine.proofs.PoolSteps.{test_same}
-use Rattle.std.proofs.Common.{Bool, List, Some, [], ap, false, inl, inr, refl, subst, sym, true, ℕ, ◌∙◌, ◌∷◌, ◌≡◌}
+use Rattle.std.proofs.Common.{Bool, [], ap, false, inl, inr, refl, subst, sym, true, ℕ, ◌∙◌, ◌∷◌, ◌≡◌}
 use Rattle.std.specs.Prelude.{MatchBool}
 
 module _ (process : ℕ) (old : FileLog) (bucket : ℕ) where
@@ -45,19 +45,24 @@ module _ (process : ℕ) (old : FileLog) (bucket : ℕ) where
   attached true one new from party e1 mine e2 =
       subst (λ log. IsAttach process old bucket true log)
       (sym (e2 ∙ ap (λ p. told one (ExchangeFlag bucket (DetachedBy from) (HeldBy p))) mine
-      ∙ ap (λ log. told log (ExchangeFlag bucket (DetachedBy from) (HeldBy old.party))) e1))
-      (from, record {
-        path = steps (looked (DetachedBy from)) [] Outside (ExchangeFlag bucket (DetachedBy from) (HeldBy old.party))
-            (AttachNumber process old.party bucket from) Outside (path_looked (DetachedBy from)) refl
-            (attaches (looked (DetachedBy from)) process bucket from);
-        scene = refl;
-        party = refl;
-      }, rw (test_same bucket bucket refl, test_same old.party old.party refl) refl)
+      ∙ ap (λ log. told log (ExchangeFlag bucket (DetachedBy from) (HeldBy old.party))) e1)) (
+        from,
+        record {
+          path = steps (looked (DetachedBy from)) [] Outside (ExchangeFlag bucket (DetachedBy from) (HeldBy old.party))
+              (AttachNumber process old.party bucket from) Outside (path_looked (DetachedBy from)) refl
+              (attaches (looked (DetachedBy from)) process bucket from);
+          scene = refl;
+          party = refl;
+        },
+        rw (test_same bucket bucket refl, test_same old.party old.party refl) refl,
+      )
   attached false one new from party e1 mine e2 =
       subst (λ log. IsAttach process old bucket false log)
-      (sym (e2 ∙ ap (λ log. told log (MissFlag bucket (DetachedBy from))) e1))
-      (record {
-        path = looks (looked (DetachedBy from)) [] Outside (MissFlag bucket (DetachedBy from)) (path_looked (DetachedBy from)) tt;
-        scene = refl;
-        party = refl;
-      }, inr (from, refl))
+      (sym (e2 ∙ ap (λ log. told log (MissFlag bucket (DetachedBy from))) e1)) (
+        record {
+          path = looks (looked (DetachedBy from)) [] Outside (MissFlag bucket (DetachedBy from)) (path_looked (DetachedBy from)) tt;
+          scene = refl;
+          party = refl;
+        },
+        inr (from, refl),
+      )

@@ -1,7 +1,7 @@
 -- The events that a log gets, one call after another.
-use Rattle.bb_memory_file.specs.FileCalls.{Gets, frees, freed_in, has_some}
-use Rattle.bb_memory_file.specs.FileCode.{Event, FileLog, told}
-use Rattle.std.proofs.Common.{Bool, List, [], ap, arith, false, refl, sym, true, ℕ, ◌++◌, ◌+◌, ◌∙◌, ◌∷◌, ◌≡◌}
+use Rattle.bb_memory_file.specs.FileCalls.{Gets, freed_in, has_some}
+use Rattle.bb_memory_file.specs.FileCode.{Event, FileLog}
+use Rattle.std.proofs.Common.{Bool, List, [], ap, arith, false, refl, sym, true, ◌++◌, ◌+◌, ◌∙◌, ◌∷◌, ◌≡◌}
 use Rattle.std.specs.Prelude.{if◌then◌else◌}
 
 pub append_assoc : {X : Type 0} (one two three : List X) → (one ++ two) ++ three ≡ one ++ (two ++ three)

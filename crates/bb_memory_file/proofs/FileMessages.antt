@@ -1,16 +1,16 @@
 -- The walks of calls on messages.
 use Rattle.bb_memory_file.proofs.FileSteps.{clears, empties, fills, gives_up, posts, puts_back, sends, takes}
 use Rattle.bb_memory_file.proofs.FileWalks.{walk_on, walk_step}
-use Rattle.bb_memory_file.specs.FileCalls.{Gets, IsAt, IsFound, IsPost, IsPutBack, IsTake, Makes, Whereabouts, is_fit, length_in}
+use Rattle.bb_memory_file.specs.FileCalls.{IsAt, IsFound, IsPost, IsPutBack, IsTake, Makes, Whereabouts, is_fit, length_in}
 use Rattle.bb_memory_file.specs.FileCalls.taken as taken
 use Rattle.bb_memory_file.specs.FileCalls.whereabouts as whereabouts
-use Rattle.bb_memory_file.specs.FileCode.{EmptySlot, Event, ExchangeFlag, ExchangeSlot, FileLog, Has, HasNot, Holds, IsWalk, Known, LoadEntry, LoadSlot, MissFlag, MissSlot, Path, Seen, StoreEntry, StoreFlag, Unknown, Unseen, begins, known_of, looks, steps, told}
+use Rattle.bb_memory_file.specs.FileCode.{EmptySlot, ExchangeFlag, ExchangeSlot, FileLog, Has, HasNot, Holds, Known, LoadEntry, LoadSlot, MissFlag, MissSlot, Path, Seen, StoreEntry, StoreFlag, Unknown, Unseen, begins, known_of, looks, steps, told}
 use Rattle.bb_memory_file.specs.FileLog.{IsKnownIn, IsLap, is_clear, is_held, seen_in, with_entry, with_seen}
-use Rattle.bb_memory_file.specs.FileNames.{Clearing, Done, Empty, Entry, FileStep, Fill, HeldBy, In, Message, Next, Nowhere, Outside, Place, Post, Posting, PutBack, SentTo, Sending, Slot, Take}
+use Rattle.bb_memory_file.specs.FileNames.{Clearing, Done, Empty, Entry, Fill, HeldBy, In, Message, Next, Nowhere, Outside, Post, Posting, PutBack, Sending, SentTo, Slot, Take}
 use Rattle.bb_memory_pool_machine.proofs.PoolSteps.{test_same}
-use Rattle.std.proofs.Common.{Bool, List, None, Option, Some, [], ap, arith, false, inl, inr, refl, subst, sym, true, ℕ, ◌+◌, ◌<◌, ◌∙◌, ◌∷◌, ◌≡◌, ◌≤◌}
+use Rattle.std.proofs.Common.{Bool, None, Some, [], ap, false, inl, inr, refl, subst, sym, true, ℕ, ◌<◌, ◌∙◌, ◌∷◌, ◌≡◌, ◌≤◌}
 use Rattle.std.proofs.lemmas.Bool.{eqb-true, ltb-false}
-use Rattle.std.specs.Prelude.{MatchBool, if◌then◌else◌, nat_lt, not, ◌==◌}
+use Rattle.std.specs.Prelude.{if◌then◌else◌, nat_lt, not, ◌==◌}
 
 -- KNOWLEDGE
 
@@ -68,12 +68,14 @@ module _ (process : ℕ) (old : FileLog) (slot size : ℕ) where
     pub not_sent : (one new : FileLog) → one ≡ found → new ≡ told one (MissFlag bucket (SentTo slot lap)) →
         IsTake process old slot size taken.NotSent new
     not_sent one new e1 e2 = subst (λ log. IsTake process old slot size taken.NotSent log)
-        (sym (e2 ∙ ap (λ log. told log (MissFlag bucket (SentTo slot lap))) e1))
-        (record {
-          path = looks found [] Outside (MissFlag bucket (SentTo slot lap)) path_found tt;
-          scene = refl;
-          party = refl;
-        }, (lap, bucket, refl))
+        (sym (e2 ∙ ap (λ log. told log (MissFlag bucket (SentTo slot lap))) e1)) (
+          record {
+            path = looks found [] Outside (MissFlag bucket (SentTo slot lap)) path_found tt;
+            scene = refl;
+            party = refl;
+          },
+          (lap, bucket, refl),
+        )
 
     abbrev took : FileLog
     took = told found (ExchangeFlag bucket (SentTo slot lap) (HeldBy old.party))
@@ -101,14 +103,20 @@ module _ (process : ℕ) (old : FileLog) (slot size : ℕ) where
           subst (λ log. IsTake process old slot size taken.Wrong log)
           (sym (e4 ∙ ap (λ log. told log (StoreFlag bucket (SentTo slot lap))) (e3 ∙ ap (λ log. told log (LoadEntry bucket entry))
           (e2 ∙ ap (λ p. told one (ExchangeFlag bucket (SentTo slot lap) (HeldBy p))) mine
-          ∙ ap (λ log. told log (ExchangeFlag bucket (SentTo slot lap) (HeldBy log.party))) e1))))
-          (lap, bucket, inr (record {
-            path = steps read (Take process old.party slot bucket lap ∷ []) Outside (StoreFlag bucket (SentTo slot lap))
-                (PutBack process old.party slot bucket) Outside path_read refl
-                (puts_back read process slot bucket lap (Some entry) known_read);
-            scene = refl;
-            party = refl;
-          }, (entry, unfit, refl)))
+          ∙ ap (λ log. told log (ExchangeFlag bucket (SentTo slot lap) (HeldBy log.party))) e1)))) (
+            lap,
+            bucket,
+            inr (
+              record {
+                path = steps read (Take process old.party slot bucket lap ∷ []) Outside (StoreFlag bucket (SentTo slot lap))
+                    (PutBack process old.party slot bucket) Outside path_read refl
+                    (puts_back read process slot bucket lap (Some entry) known_read);
+                scene = refl;
+                party = refl;
+              },
+              (entry, unfit, refl),
+            ),
+          )
 
       pub received : (one two new : FileLog) (party length : ℕ) → one ≡ found → party ≡ one.party →
           two ≡ told one (ExchangeFlag bucket (SentTo slot lap) (HeldBy party)) → new ≡ told two (LoadEntry bucket entry) →
@@ -119,22 +127,31 @@ module _ (process : ℕ) (old : FileLog) (slot size : ℕ) where
           subst (λ log. IsTake process old slot size (taken.Message bucket length) log)
           (sym (e3 ∙ ap (λ log. told log (LoadEntry bucket entry))
           (e2 ∙ ap (λ p. told one (ExchangeFlag bucket (SentTo slot lap) (HeldBy p))) mine
-          ∙ ap (λ log. told log (ExchangeFlag bucket (SentTo slot lap) (HeldBy log.party))) e1)))
-          (lap, record { path = path_read; scene = refl; party = refl },
-          known_read ∙ ap (λ e. Holds (Some e) (Has slot lap)) (fits'.0 ∙ ap (λ l. In slot l) (sym is)),
-          rw is fits'.1, below)
+          ∙ ap (λ log. told log (ExchangeFlag bucket (SentTo slot lap) (HeldBy log.party))) e1))) (
+            lap,
+            record { path = path_read; scene = refl; party = refl },
+            known_read ∙ ap (λ e. Holds (Some e) (Has slot lap)) (fits'.0 ∙ ap (λ l. In slot l) (sym is)),
+            rw is fits'.1,
+            below,
+          )
 
 -- POSTS
 
 module _ (process : ℕ) (old : FileLog) (slot bucket size : ℕ) where
   pub full : (new : FileLog) (lap other : ℕ) → new ≡ told old (LoadSlot slot (Message lap other)) →
       IsPost process old slot bucket size false new
-  full new lap other is = subst (λ log. IsPost process old slot bucket size false log) (sym is)
-      (lap, inl (other, refl, record {
+  full new lap other is = subst (λ log. IsPost process old slot bucket size false log) (sym is) (
+    lap,
+    inl (
+      other,
+      refl,
+      record {
         path = looks old [] Outside (LoadSlot slot (Message lap other)) begins tt;
         scene = refl;
         party = refl;
-      }))
+      },
+    ),
+  )
 
   -- the slot is empty at this lap
   module _ (lap : ℕ) (clear : is_clear (known_of old bucket) ≡ true) where
@@ -155,16 +172,21 @@ module _ (process : ℕ) (old : FileLog) (slot bucket size : ℕ) where
     given_up one two three new e1 e2 e3 e4 =
         subst (λ log. IsPost process old slot bucket size false log)
         (sym (e4 ∙ ap (λ log. told log (StoreEntry bucket Nowhere)) (e3 ∙ ap (λ log. told log (MissSlot slot (Empty lap)))
-        (e2 ∙ ap (λ log. told log (StoreEntry bucket (In slot size))) e1))))
-        (lap, inr (refl, record {
-          path = steps (told entered (MissSlot slot (Empty lap))) (Post process old.party slot bucket size ∷ [])
-              (Posting old.party slot bucket) (StoreEntry bucket Nowhere) (Next process) Outside
-              (looks entered (Post process old.party slot bucket size ∷ []) (Posting old.party slot bucket)
-              (MissSlot slot (Empty lap)) path_entered tt) refl
-              (gives_up (told entered (MissSlot slot (Empty lap))) process slot bucket);
-          scene = refl;
-          party = refl;
-        }))
+        (e2 ∙ ap (λ log. told log (StoreEntry bucket (In slot size))) e1)))) (
+          lap,
+          inr (
+            refl,
+            record {
+              path = steps (told entered (MissSlot slot (Empty lap))) (Post process old.party slot bucket size ∷ [])
+                  (Posting old.party slot bucket) (StoreEntry bucket Nowhere) (Next process) Outside
+                  (looks entered (Post process old.party slot bucket size ∷ []) (Posting old.party slot bucket)
+                  (MissSlot slot (Empty lap)) path_entered tt) refl
+                  (gives_up (told entered (MissSlot slot (Empty lap))) process slot bucket);
+              scene = refl;
+              party = refl;
+            },
+          ),
+        )
 
     abbrev filled : FileLog
     filled = told entered (ExchangeSlot slot (Empty lap) (Message lap bucket))
@@ -176,16 +198,18 @@ module _ (process : ℕ) (old : FileLog) (slot bucket size : ℕ) where
         subst (λ log. IsPost process old slot bucket size true log)
         (sym (e4 ∙ ap (λ log. told log (StoreFlag bucket (SentTo slot lap)))
         (e3 ∙ ap (λ log. told log (ExchangeSlot slot (Empty lap) (Message lap bucket)))
-        (e2 ∙ ap (λ log. told log (StoreEntry bucket (In slot size))) e1))))
-        (lap, record {
-          path = steps filled (Fill process lap ∷ Post process old.party slot bucket size ∷ []) (Sending old.party slot bucket lap)
-              (StoreFlag bucket (SentTo slot lap)) (Next process) Outside
-              (steps entered (Post process old.party slot bucket size ∷ []) (Posting old.party slot bucket)
-              (ExchangeSlot slot (Empty lap) (Message lap bucket)) (Fill process lap) (Sending old.party slot bucket lap)
-              path_entered refl (fills entered process slot bucket lap)) refl (sends filled process slot bucket lap);
-          scene = refl;
-          party = refl;
-        })
+        (e2 ∙ ap (λ log. told log (StoreEntry bucket (In slot size))) e1)))) (
+          lap,
+          record {
+            path = steps filled (Fill process lap ∷ Post process old.party slot bucket size ∷ []) (Sending old.party slot bucket lap)
+                (StoreFlag bucket (SentTo slot lap)) (Next process) Outside
+                (steps entered (Post process old.party slot bucket size ∷ []) (Posting old.party slot bucket)
+                (ExchangeSlot slot (Empty lap) (Message lap bucket)) (Fill process lap) (Sending old.party slot bucket lap)
+                path_entered refl (fills entered process slot bucket lap)) refl (sends filled process slot bucket lap);
+            scene = refl;
+            party = refl;
+          },
+        )
 
 -- DONE
 
@@ -261,11 +285,13 @@ module _ (process : ℕ) (old : FileLog) (bucket : ℕ) where
       new ≡ told one (StoreFlag bucket (SentTo slot lap)) → IsPutBack process old bucket true new
   back one new slot lap found is =
       let seen = found.looks process Outside in
-      let mine : one.party ≡ old.party = seen.party in
-      (slot, subst (λ (p : ℕ). Makes process old (PutBack process p slot bucket ∷ []) new) mine
-      (walk_on process old one new Outside Outside Outside [] (PutBack process one.party slot bucket ∷ []) seen
-      (walk_step process one new Outside (StoreFlag bucket (SentTo slot lap)) (PutBack process one.party slot bucket) Outside refl
-      (puts_back one process slot bucket lap (Some (In slot found.found.0)) found.found.1) is)))
+      let mine : one.party ≡ old.party = seen.party in (
+        slot,
+        subst (λ (p : ℕ). Makes process old (PutBack process p slot bucket ∷ []) new) mine
+            (walk_on process old one new Outside Outside Outside [] (PutBack process one.party slot bucket ∷ []) seen
+            (walk_step process one new Outside (StoreFlag bucket (SentTo slot lap)) (PutBack process one.party slot bucket) Outside refl
+            (puts_back one process slot bucket lap (Some (In slot found.found.0)) found.found.1) is)),
+      )
 
   pub not_back : (answer : Whereabouts) (new : FileLog) → IsFound old bucket answer new →
       (((slot : ℕ) (lap : ℕ) → ¬ (answer ≡ whereabouts.In slot lap))) → IsPutBack process old bucket false new

@@ -2,7 +2,7 @@
 use Rattle.bb_memory_file.proofs.FileEvents.{gets_on, has_first, has_next}
 use Rattle.bb_memory_file.proofs.FileSteps.{allocates}
 use Rattle.bb_memory_file.proofs.FileWalks.{walk_look, walk_nowhere, walk_on, walk_step}
-use Rattle.bb_memory_file.specs.FileCalls.{AllocateSays, Gets, IsPassed, Makes, SearchSays, has_some, missed, misses}
+use Rattle.bb_memory_file.specs.FileCalls.{AllocateSays, Gets, IsPassed, Makes, SearchSays, missed, misses}
 use Rattle.bb_memory_file.specs.FileCode.{Event, ExchangeFlag, FileLog, Holds, MissFlag, Unseen, known_of, told}
 use Rattle.bb_memory_file.specs.FileNames.{Allocate, Free, HeldBy, Nowhere, Outside}
 use Rattle.bb_memory_pool_machine.proofs.PoolSteps.{test_same}
@@ -57,16 +57,19 @@ pub search_ends : (old log new : FileLog) (from to bucket party : ℕ) → Searc
 search_ends old log new from to bucket party search below mine is =
     let same : log.party ≡ old.party = ap (λ (l : FileLog). l.party) search.gets in
     let is' : new ≡ told log (ExchangeFlag bucket Free (HeldBy log.party)) =
-        is ∙ ap (λ p. told log (ExchangeFlag bucket Free (HeldBy p))) (mine ∙ sym same) in
-    (ExchangeFlag bucket Free (HeldBy log.party) ∷ search.events,
-    is' ∙ ap (λ (l : FileLog). record l { events = ExchangeFlag bucket Free (HeldBy log.party) ∷ l.events }) search.gets,
-    (λ process. subst (λ (p : ℕ). Makes process old (Allocate process p bucket ∷ []) new) same
-    (walk_on process old log new Outside Outside Outside [] (Allocate process log.party bucket ∷ []) (search.makes process)
-    (walk_step process log new Outside (ExchangeFlag bucket Free (HeldBy log.party)) (Allocate process log.party bucket) Outside refl
-    (allocates log process bucket) is'))),
-    search.all, search.order, below,
-    subst (λ (l : FileLog). known_of l bucket ≡ Holds (Some Nowhere) Unseen) (sym is')
-    (rw (test_same bucket bucket refl, test_same log.party log.party refl) refl))
+    is ∙ ap (λ p. told log (ExchangeFlag bucket Free (HeldBy p))) (mine ∙ sym same) in (
+      ExchangeFlag bucket Free (HeldBy log.party) ∷ search.events,
+      is' ∙ ap (λ (l : FileLog). record l { events = ExchangeFlag bucket Free (HeldBy log.party) ∷ l.events }) search.gets,
+      (λ process. subst (λ (p : ℕ). Makes process old (Allocate process p bucket ∷ []) new) same
+          (walk_on process old log new Outside Outside Outside [] (Allocate process log.party bucket ∷ []) (search.makes process)
+          (walk_step process log new Outside (ExchangeFlag bucket Free (HeldBy log.party)) (Allocate process log.party bucket) Outside refl
+          (allocates log process bucket) is'))),
+      search.all,
+      search.order,
+      below,
+      subst (λ (l : FileLog). known_of l bucket ≡ Holds (Some Nowhere) Unseen) (sym is')
+          (rw (test_same bucket bucket refl, test_same log.party log.party refl) refl),
+    )
 
 -- THE WHOLE SEARCH
 
@@ -90,7 +93,9 @@ module _ (old new : FileLog) (hint first buckets : ℕ) (all : buckets ≡ old.s
   -- the search found a bucket before the end
   pub found_first : (bucket : ℕ) → SearchSays old first buckets (Some bucket) new → AllocateSays old hint (Some bucket) new
   found_first bucket says = (
-    says.0, says.1, says.2,
+    says.0,
+    says.1,
+    says.2,
     (λ other below passed.
         let between = passed_first first bucket other says.4
         (subst (λ (f : ℕ). IsPassed f bucket other) (sym start) passed) in says.3 other between.0 between.1),
@@ -138,10 +143,10 @@ module _ (old new : FileLog) (hint first buckets : ℕ) (all : buckets ≡ old.s
           two.0 ++ one.0,
           gets_on old middle new one.0 two.0 one.1 two.1,
           (λ process. subst (λ (p : ℕ). Makes process old (Allocate process p bucket ∷ []) new) middle_party
-          (walk_on process old middle new Outside Outside Outside [] (Allocate process middle.party bucket ∷ []) (one.2 process)
-          (two.2 process))),
+              (walk_on process old middle new Outside Outside Outside [] (Allocate process middle.party bucket ∷ []) (one.2 process)
+              (two.2 process))),
           (λ other below passed. passed_second two.0 bucket other two.5 below two.3
-          (subst (λ (f : ℕ). IsPassed f bucket other) (sym start) passed)),
+              (subst (λ (f : ℕ). IsPassed f bucket other) (sym start) passed)),
           subst (λ (n : ℕ). bucket < n) all (omega (arith, less, order)),
           two.6,
         )

@@ -1,6 +1,5 @@
 -- The walks of settlers.
 use Rattle.bb_memory_file.proofs.FileEvents.{append_assoc, freed_on, gets_on, has_first, has_next, has_none}
-use Rattle.bb_memory_file.proofs.FileMessages.{held_entry, seen_of}
 use Rattle.bb_memory_file.proofs.FileSteps.{counts, counts_on, ends, leaves, passes, recovers, settles_clear, settles_free, settles_sent, stays}
 use Rattle.bb_memory_file.proofs.FileWalks.{walk_look, walk_move, walk_nowhere, walk_on, walk_step}
 use Rattle.bb_memory_file.specs.FileCalls.{Gets, IsFound, IsLifeOf, IsOver, IsRecovered, IsSettled, Whereabouts, freed_in, has_some, is_tried, tries}
@@ -8,13 +7,13 @@ use Rattle.bb_memory_file.specs.FileCalls as calls
 use Rattle.bb_memory_file.specs.FileCalls.whereabouts as whereabouts
 use Rattle.bb_memory_file.specs.FileCode.{Event, ExchangeFlag, FileLog, HasNot, Holds, IsStep, IsWalk, Known, LoadFlag, LoadLife, MissFlag, StoreEntry, StoreFlag, StoreLife, Unknown, known_of, life_by, told}
 use Rattle.bb_memory_file.specs.FileLog.{held_still, is_held, with_entry}
-use Rattle.bb_memory_file.specs.FileNames.{Count, Counting, DetachedBy, FileFlag, FileStep, Flags, Free, HeldBy, In, Leave, Next, Nowhere, Outside, Place, Recover, SentTo, Settled}
+use Rattle.bb_memory_file.specs.FileNames.{Count, Counting, DetachedBy, FileFlag, FileStep, Flags, Free, HeldBy, Leave, Next, Nowhere, Outside, Place, Recover, SentTo, Settled}
 use Rattle.bb_memory_file.specs.FileSettlers.{IsCounted, IsCountedOn, IsRecover, IsSettledAt}
 use Rattle.bb_memory_file_machine.specs.FileMachine.{same_flag}
 use Rattle.bb_memory_pool_machine.proofs.PoolSteps.{test_same}
-use Rattle.std.proofs.Common.{Bool, List, None, Option, Some, [], ap, arith, false, inl, inr, refl, subst, sym, true, ℕ, ◌++◌, ◌+◌, ◌<◌, ◌∙◌, ◌∷◌, ◌≡◌, ◌≤◌, ◌⊎◌}
+use Rattle.std.proofs.Common.{Bool, List, Some, [], ap, arith, false, inl, inr, refl, subst, sym, true, ℕ, ◌++◌, ◌+◌, ◌<◌, ◌∙◌, ◌∷◌, ◌≡◌, ◌≤◌, ◌⊎◌}
 use Rattle.std.proofs.lemmas.Bool.{eqb-true}
-use Rattle.std.specs.Prelude.{MatchBool, if◌then◌else◌, not, ◌%◌, ◌==◌}
+use Rattle.std.specs.Prelude.{MatchBool, if◌then◌else◌, ◌%◌, ◌==◌}
 
 -- RECOVERING
 
@@ -39,8 +38,8 @@ module _ (process : ℕ) (old : FileLog) (bucket : ℕ) where
       (new ≡ told one (MissFlag bucket (DetachedBy party))) → IsRecover process old bucket new
   recovered true one new flag party mine e1 e2 =
       let e2' : new ≡ told (told old (LoadFlag bucket flag)) (ExchangeFlag bucket (DetachedBy old.party) (HeldBy old.party)) =
-          e2 ∙ ap (λ p. told one (ExchangeFlag bucket (DetachedBy p) (HeldBy p))) mine
-          ∙ ap (λ log. told log (ExchangeFlag bucket (DetachedBy old.party) (HeldBy old.party))) e1 in
+      e2 ∙ ap (λ p. told one (ExchangeFlag bucket (DetachedBy p) (HeldBy p))) mine
+      ∙ ap (λ log. told log (ExchangeFlag bucket (DetachedBy old.party) (HeldBy old.party))) e1 in
       record {
         events = ExchangeFlag bucket (DetachedBy old.party) (HeldBy old.party) ∷ LoadFlag bucket flag ∷ [];
         gets = e2';
@@ -54,8 +53,8 @@ module _ (process : ℕ) (old : FileLog) (bucket : ℕ) where
       }
   recovered false one new flag party mine e1 e2 =
       let e2' : new ≡ told (told old (LoadFlag bucket flag)) (MissFlag bucket (DetachedBy old.party)) =
-          e2 ∙ ap (λ p. told one (MissFlag bucket (DetachedBy p))) mine
-          ∙ ap (λ log. told log (MissFlag bucket (DetachedBy old.party))) e1 in
+      e2 ∙ ap (λ p. told one (MissFlag bucket (DetachedBy p))) mine
+      ∙ ap (λ log. told log (MissFlag bucket (DetachedBy old.party))) e1 in
       record {
         events = MissFlag bucket (DetachedBy old.party) ∷ LoadFlag bucket flag ∷ [];
         gets = e2';
@@ -153,9 +152,9 @@ module _ (process : ℕ) (old : FileLog) (bucket : ℕ) (below : bucket < old.sc
         let below' = below_two whereabouts.Entered found in
         let mine : three.party ≡ old.party = ap (λ (log : FileLog). log.party) e3 ∙ party_two whereabouts.Entered found in
         let below_three : bucket < three.scene.buckets =
-            subst (λ (n : ℕ). bucket < n) (sym (ap (λ (log : FileLog). log.scene.buckets) e3)) below' in
+        subst (λ (n : ℕ). bucket < n) (sym (ap (λ (log : FileLog). log.scene.buckets) e3)) below' in
         let known_three : known_of three bucket ≡ Holds (Some Nowhere) (HasNot slot) =
-            ap (λ log. known_of log bucket) e3 ∙ rw (test_same bucket bucket refl) (ap (λ k. with_entry k Nowhere) known) in
+        ap (λ log. known_of log bucket) e3 ∙ rw (test_same bucket bucket refl) (ap (λ k. with_entry k Nowhere) known) in
         record {
           events = StoreFlag bucket Free ∷ StoreEntry bucket Nowhere ∷ found.events ++ LoadFlag bucket flag ∷ [];
           gets = e4 ∙ ap (λ log. told log (StoreFlag bucket Free)) (e3
@@ -307,11 +306,13 @@ module _ (process : ℕ) (old : FileLog) (life : ℕ) where
   pub counted_lock : (one new : FileLog) → one ≡ loaded → new ≡ told one (StoreLife (life + 2)) →
       IsCounted process old (Some life) new
   counted_lock one new e1 e2 =
-      let e : new ≡ told loaded (StoreLife (life + 2)) = e2 ∙ ap (λ log. told log (StoreLife (life + 2))) e1 in
-      (e, walk_on process old loaded new (Counting old.party) (Counting old.party) (Flags old.party 0) [] (Count process (life + 2) ∷ [])
-      (walk_look process old loaded (Counting old.party) (LoadLife life) tt refl)
-      (walk_step process loaded new (Counting old.party) (StoreLife (life + 2)) (Count process (life + 2)) (Flags old.party 0) refl
-      (counts loaded process life (life + 2) refl (omega arith)) e))
+      let e : new ≡ told loaded (StoreLife (life + 2)) = e2 ∙ ap (λ log. told log (StoreLife (life + 2))) e1 in (
+        e,
+        walk_on process old loaded new (Counting old.party) (Counting old.party) (Flags old.party 0) [] (Count process (life + 2) ∷ [])
+            (walk_look process old loaded (Counting old.party) (LoadLife life) tt refl)
+            (walk_step process loaded new (Counting old.party) (StoreLife (life + 2)) (Count process (life + 2)) (Flags old.party 0) refl
+            (counts loaded process life (life + 2) refl (omega arith)) e),
+      )
 
   -- the life says already what the process counts, or can't become greater
   pub counted_already : (new : FileLog) (parity : ℕ) → new ≡ loaded → ((life % 2 ≡ parity) ⊎ (life ≡ max_life)) →
@@ -464,7 +465,7 @@ module _ (process : ℕ) (old new : FileLog) (freed : ℕ) where
         calls.IsLeave process old freed last
     has_left even settled = (
       settled_before process old new last false freed Outside (Settled old.party) (Settled old.party) (left_settled settled)
-      (quiet_on old.party (party_on old new settled.events settled.gets)),
+          (quiet_on old.party (party_on old new settled.events settled.gets)),
       (counted.life, counted.is_life, subst (λ (p : ℕ). (counted.life % 2 ≡ p) ⊎ (counted.life ≡ max_life)) even counted.says),
     )
 
@@ -488,23 +489,26 @@ module _ (process : ℕ) (old locked new : FileLog) (life freed : ℕ) (counted 
       calls.IsReap process old dead left (Some freed) new
   reaped dead left detached whose settled = (
     life,
-    (settled.events ++ StoreLife (life + 2) ∷ [],
-    gets_on old locked new (StoreLife (life + 2) ∷ LoadLife life ∷ []) settled.events counted.0 settled.gets
-    ∙ ap (λ events. record old { events = events ++ old.events })
-    (sym (append_assoc settled.events (StoreLife (life + 2) ∷ []) (LoadLife life ∷ [])))),
+    (
+      settled.events ++ StoreLife (life + 2) ∷ [],
+      gets_on old locked new (StoreLife (life + 2) ∷ LoadLife life ∷ []) settled.events counted.0 settled.gets
+          ∙ ap (λ events. record old { events = events ++ old.events })
+          (sym (append_assoc settled.events (StoreLife (life + 2) ∷ []) (LoadLife life ∷ []))),
+    ),
     subst (λ (d : Bool). IsSettled process old d (Counting old.party) freed new (Settled old.party)) whose
-    (settled_locked detached settled),
+        (settled_locked detached settled),
   )
 
   pub joined : (last : FileLog) → IsSettled process locked false (Flags locked.party 0) freed new (Settled locked.party) →
       IsCountedOn process new 1 last → calls.IsJoin process old true last
   joined last settled counted_on =
       let mine : new.party ≡ old.party = party_on locked new settled.events settled.gets ∙ party_locked in
-      let mine' : last.party ≡ old.party = party_on new last counted_on.events counted_on.gets ∙ mine in
-      (freed,
-      settled_before process old last last false freed (Counting old.party) (Settled old.party) Outside
-      (settled_before process old new last false freed (Counting old.party) (Settled old.party) (Settled old.party)
-      (settled_locked false settled)
-      (subst (λ (p : ℕ). Quiet process new (Settled p) last (Settled p)) mine (quiet_counted process new last 1 counted_on)))
-      (subst (λ (p : ℕ). Quiet process last (Settled p) last Outside) mine' (quiet_stays process last)),
-      (counted_on.life, counted_on.is_life, odd_life counted_on.life counted_on.says))
+      let mine' : last.party ≡ old.party = party_on new last counted_on.events counted_on.gets ∙ mine in (
+        freed,
+        settled_before process old last last false freed (Counting old.party) (Settled old.party) Outside
+            (settled_before process old new last false freed (Counting old.party) (Settled old.party) (Settled old.party)
+            (settled_locked false settled)
+            (subst (λ (p : ℕ). Quiet process new (Settled p) last (Settled p)) mine (quiet_counted process new last 1 counted_on)))
+            (subst (λ (p : ℕ). Quiet process last (Settled p) last Outside) mine' (quiet_stays process last)),
+        (counted_on.life, counted_on.is_life, odd_life counted_on.life counted_on.says),
+      )

@@ -1,14 +1,14 @@
 -- Steps of the machine that an event makes, whatever the words are.
-use Rattle.bb_memory_file.specs.FileCode.{Brings, EmptySlot, ExchangeFlag, ExchangeSlot, FileLog, Has, HasNot, Holds, IsEntryIf, IsKnown, IsLifeIf, IsSeen, IsSilent, IsStep, Known, LoadFlag, MayBe, Seen, StoreEntry, StoreFlag, StoreLife, Unknown, known_of, left_by, life_by}
+use Rattle.bb_memory_file.specs.FileCode.{EmptySlot, ExchangeFlag, ExchangeSlot, FileLog, Has, HasNot, Holds, IsKnown, IsLifeIf, IsSilent, IsStep, Known, LoadFlag, MayBe, Seen, StoreEntry, StoreFlag, StoreLife, Unknown, known_of, life_by}
 use Rattle.bb_memory_file.specs.FileLog.{is_clear}
-use Rattle.bb_memory_file.specs.FileNames.{Allocate, AttachNumber, Clearing, Count, Counting, Deallocate, DetachNumber, DetachedBy, Done, Empty, Entry, FileFlag, Fill, Flags, Free, HeldBy, In, Leave, Message, Next, Nowhere, Outside, Post, Posting, PutBack, Recover, SentTo, Settled, Sending, Take}
+use Rattle.bb_memory_file.specs.FileNames.{Allocate, AttachNumber, Clearing, Count, Counting, Deallocate, DetachNumber, DetachedBy, Done, Empty, Entry, FileFlag, Fill, Flags, Free, HeldBy, In, Leave, Message, Next, Nowhere, Outside, Post, Posting, PutBack, Recover, Sending, SentTo, Settled, Take}
 use Rattle.bb_memory_file_machine.proofs.FileTests as machine
-use Rattle.bb_memory_file_machine.specs.FileLaws.{IsEntry, IsFlag, IsHolder, IsIn, IsLife, IsSlot}
-use Rattle.bb_memory_file_machine.specs.FileMachine.{FileWords, finds_empty, finds_flag, finds_less, finds_nowhere, finds_own, has_clear, is_empty, is_flag, is_nowhere, lap_in, lap_of, may_call, same_flag}
+use Rattle.bb_memory_file_machine.specs.FileLaws.{IsFlag, IsIn, IsLife, IsSlot}
+use Rattle.bb_memory_file_machine.specs.FileMachine.{FileWords, finds_empty, finds_flag, finds_less, finds_nowhere, finds_own, has_clear, is_flag, lap_in, lap_of, may_call, same_flag}
 use Rattle.bb_memory_pool_machine.proofs.PoolSteps.{test_same}
-use Rattle.std.proofs.Common.{Bool, List, None, Option, Some, [], ap, false, length, refl, subst, suc, sym, true, zero, ℕ, ◌+◌, ◌<◌, ◌∙◌, ◌∷◌, ◌≡◌, ◌≤◌}
+use Rattle.std.proofs.Common.{Bool, None, Option, Some, ap, false, length, refl, subst, sym, true, ℕ, ◌+◌, ◌<◌, ◌∙◌, ◌≡◌, ◌≤◌}
 use Rattle.std.proofs.lemmas.Bool.{le-ltb, lt-ltb}
-use Rattle.std.specs.Prelude.{if◌then◌else◌, nat_lt, slice_get, ◌==◌}
+use Rattle.std.specs.Prelude.{nat_lt, slice_get}
 
 -- TESTS
 
@@ -196,5 +196,9 @@ module _ (log : FileLog) (process bucket : ℕ) (below : bucket < log.scene.buck
         IsStep log process (Flags log.party bucket) (StoreEntry bucket Nowhere) (Next process) (Flags log.party bucket)
     settles_clear known words may found =
         let is = known_in log process words may bucket (Holds (Some (In slot size)) (HasNot slot)) known in
-        rw (in_file words may, flag_there words bucket (HeldBy log.party) is.0, is.1,
-        no_lap words (lap_of words slot bucket) refl is.2) (record { allowed = λ e. absurd (cc); words = refl; place = refl })
+        rw (
+          in_file words may,
+          flag_there words bucket (HeldBy log.party) is.0,
+          is.1,
+          no_lap words (lap_of words slot bucket) refl is.2,
+        ) (record { allowed = λ e. absurd (cc); words = refl; place = refl })

@@ -2,15 +2,15 @@
 --
 -- Each call takes some steps of the machine. A call that refuses says what it found: the events that
 -- its log gets are the operations that it made.
+use Rattle.bb_memory_file.specs.FileCode.{Event, ExchangeFlag, FileLog, Has, HasNot, Holds, IsWalk, LoadEntry, LoadFlag, LoadLife, LoadSlot, MissFlag, MissSlot, Seen, StoreEntry, StoreFlag, Unseen, known_of, life_by}
+use Rattle.bb_memory_file.specs.FileLog.{IsLap}
+use Rattle.bb_memory_file.specs.FileNames.{Allocate, AttachNumber, Counting, DetachedBy, Empty, Entry, FileFlag, FileStep, Fill, Free, HeldBy, In, Message, Next, Nowhere, Outside, Place, Post, PutBack, Recover, SentTo, Settled, Take}
 pub use Rattle.bb_memory_file.specs.declared.calls.Taken.{Taken}
 pub use Rattle.bb_memory_file.specs.declared.calls.Taken.TheVariants as taken
 pub use Rattle.bb_memory_file.specs.declared.calls.Whereabouts.{Whereabouts}
 pub use Rattle.bb_memory_file.specs.declared.calls.Whereabouts.TheVariants as whereabouts
-use Rattle.bb_memory_file.specs.FileCode.{Event, ExchangeFlag, FileLog, Has, HasNot, Holds, IsWalk, LoadEntry, LoadFlag, LoadLife, LoadSlot, MissFlag, MissSlot, Seen, StoreEntry, StoreFlag, Unseen, known_of, life_by, told}
-use Rattle.bb_memory_file.specs.FileLog.{IsLap, is_held}
-use Rattle.bb_memory_file.specs.FileNames.{Allocate, AttachNumber, Counting, DetachedBy, Empty, Entry, FileFlag, FileStep, Fill, Flags, Free, HeldBy, In, Message, Next, Nowhere, Outside, Place, Post, PutBack, Recover, SentTo, Settled, Take}
 use Rattle.bb_memory_file_machine.specs.FileMachine.{same_flag}
-use Rattle.std.specs.Prelude.{Bool, List, None, Option, Some, [], false, if◌then◌else◌, nat_lt, not, true, ℕ, ◌%◌, ◌++◌, ◌+◌, ◌<◌, ◌==◌, ◌^◌, ◌-◌, ◌∷◌, ◌≡◌, ◌≤◌, ◌⊎◌}
+use Rattle.std.specs.Prelude.{Bool, List, None, Option, Some, [], false, if◌then◌else◌, nat_lt, not, true, ℕ, ◌%◌, ◌++◌, ◌+◌, ◌-◌, ◌<◌, ◌==◌, ◌^◌, ◌∷◌, ◌≡◌, ◌≤◌, ◌⊎◌}
 
 -- the call takes these steps, the last first; the process is in no call before it and after it
 abbrev pub Makes : ℕ → FileLog → List FileStep → FileLog → Type 0

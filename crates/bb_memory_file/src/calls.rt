@@ -3,9 +3,9 @@
 //! Each of them is given a party whose lock this process has, and what it needs to know of a bucket
 //! is in its `requires`: that the party holds the bucket, and what the bucket's entry says.
 ghost use Rattle.bb_memory_file.specs.FileCalls.{AllocateSays, IsAttach, IsFound, IsJoin, IsLeave, IsPost, IsPutBack, IsReap, IsSettled, IsTake, Makes, SearchSays, is_fit, length_in};
-ghost use Rattle.bb_memory_file.specs.FileSettlers.{IsCounted, IsCountedOn, IsRecover, IsSettledAt};
 ghost use Rattle.bb_memory_file.specs.FileLog.{IsKnownIn, IsLap, is_clear, is_held, known_of};
 ghost use Rattle.bb_memory_file.specs.FileNames.{Deallocate, DetachNumber, Done, Flags, Next, Outside, Settled};
+ghost use Rattle.bb_memory_file.specs.FileSettlers.{IsCounted, IsCountedOn, IsRecover, IsSettledAt};
 ghost use Rattle.bb_memory_file_machine.specs.FileMachine.{same_flag};
 ghost use Rattle.std.specs.Prelude.{[], false, true, ℕ, ◌%◌, ◌+◌, ◌<◌, ◌^◌, ◌∷◌, ◌≡◌, ◌≤◌};
 
@@ -347,7 +347,10 @@ fn is_fit(entry: Entry, slot: u32, size: u32) -> bool
 {
     match entry {
         Entry::Nowhere => false,
-        Entry::In { slot: other, length } => other == slot && length <= size,
+        Entry::In {
+            slot: other,
+            length,
+        } => other == slot && length <= size,
     }
 }
 
@@ -369,7 +372,13 @@ fn is_same(one: FileFlag, other: FileFlag) -> bool
         (FileFlag::Free, FileFlag::Free) => true,
         (FileFlag::HeldBy(one), FileFlag::HeldBy(other)) => one == other,
         (FileFlag::DetachedBy(one), FileFlag::DetachedBy(other)) => one == other,
-        (FileFlag::SentTo { slot: one, lap }, FileFlag::SentTo { slot: other, lap: same }) => one == other && lap == same,
+        (
+            FileFlag::SentTo { slot: one, lap },
+            FileFlag::SentTo {
+                slot: other,
+                lap: same,
+            },
+        ) => one == other && lap == same,
         _ => false,
     }
 }

@@ -1,6 +1,6 @@
 //! What the walks of calls have to do with the machine of a pool in a file.
-ghost use Rattle.bb_memory_file.specs.FileRuns.{Act, IsMachines, IsRun};
 ghost use Rattle.bb_memory_file.specs.FileNames.{FileStep, Place};
+ghost use Rattle.bb_memory_file.specs.FileRuns.{Act, IsMachines, IsRun};
 ghost use Rattle.bb_memory_file_machine.specs.FileMachine.{FileScene};
 ghost use Rattle.std.specs.Prelude.{List, ℕ};
 
@@ -11,5 +11,4 @@ ghost use Rattle.std.specs.Prelude.{List, ℕ};
 pub fn file_code_theorem()
     ensures machine { (scene : FileScene) (acts : List Act) (taken : ℕ → List FileStep) (places : ℕ → Place)
         → IsRun scene acts taken places → IsMachines scene acts taken places }
-{
-}
+{}

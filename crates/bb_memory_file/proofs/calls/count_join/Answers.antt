@@ -1,6 +1,6 @@
 use Rattle.bb_memory_file.proofs.FileSettlers.{counted_already, counted_now}
 use Rattle.bb_memory_file.proofs.calls.count_join.Goals as goal
-use Rattle.std.proofs.Common.{arith, inl, ◌%◌, ◌≡◌}
+use Rattle.std.proofs.Common.{arith, inl}
 
 pub returns-then-life-eq0 : goal.returns-then-life-eq0
 returns-then-life-eq0 g c process =

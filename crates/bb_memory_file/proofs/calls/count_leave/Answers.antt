@@ -1,7 +1,7 @@
 use Rattle.bb_memory_file.proofs.FileSettlers.{counted_already, counted_now}
-use Rattle.bb_memory_file.proofs.calls.count_leave.Goals as goal
 use Rattle.bb_memory_file.proofs.calls.count_leave.Goals.{else-life-eq1-via-else-life-eq1, else-life-eq1-via-then-life-eq1+else-life-lt18446744073709551615}
-use Rattle.std.proofs.Common.{arith, inl, inr, ◌%◌, ◌<◌, ◌≡◌, ◌≤◌}
+use Rattle.bb_memory_file.proofs.calls.count_leave.Goals as goal
+use Rattle.std.proofs.Common.{arith, inl, inr}
 
 pub returns-then-life-lt18446744073709551615 : goal.returns-then-life-lt18446744073709551615
 returns-then-life-lt18446744073709551615 g c process =

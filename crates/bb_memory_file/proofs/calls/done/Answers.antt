@@ -1,6 +1,5 @@
 use Rattle.bb_memory_file.proofs.FileMessages.{finished}
 use Rattle.bb_memory_file.proofs.calls.done.Goals as goal
-use Rattle.std.proofs.Common.{ℕ}
 
 pub returns : goal.returns
 returns g c process =

@@ -3,7 +3,7 @@ use Rattle.bb_memory_file.proofs.calls.find.Goals as goal
 use Rattle.bb_memory_file.specs.FileCalls.whereabouts as whereabouts
 use Rattle.bb_memory_file.specs.FileNames.{Empty, Message}
 use Rattle.bb_memory_pool_machine.proofs.PoolSteps.{test_same}
-use Rattle.std.proofs.Common.{refl, ◌≡◌}
+use Rattle.std.proofs.Common.{refl}
 use Rattle.std.proofs.lemmas.Bool.{ne_eqb}
 
 pub returns-in_default : goal.returns-in_default

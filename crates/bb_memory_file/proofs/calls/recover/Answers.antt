@@ -1,6 +1,6 @@
 use Rattle.bb_memory_file.proofs.FileSettlers.{not_recovered, recovered}
 use Rattle.bb_memory_file.proofs.calls.recover.Goals as goal
-use Rattle.std.proofs.Common.{sym, ◌∙◌, ◌≡◌}
+use Rattle.std.proofs.Common.{sym, ◌∙◌}
 
 pub returns-then-is_same : goal.returns-then-is_same
 returns-then-is_same g c process =

@@ -1,7 +1,7 @@
 use Rattle.bb_memory_file.proofs.FileSearches.{search_ends, searched_all, searched_none, searched_on}
 use Rattle.bb_memory_file.proofs.calls.search.Goals as goal
 use Rattle.bb_memory_file.specs.FileCode.{FileLog}
-use Rattle.std.proofs.Common.{ap, arith, ◌<◌, ◌≡◌, ◌≤◌}
+use Rattle.std.proofs.Common.{ap, arith}
 
 pub loop-bucket-init : goal.loop-bucket-init
 loop-bucket-init g c = record { searched = searched_none (g.W.Words.log c.args.words.now) c.args.from }

@@ -1,9 +1,9 @@
 use Rattle.bb_memory_file.proofs.FileSettlers.{settled_all, settling_back, settling_none, settling_on}
-use Rattle.bb_memory_file.proofs.calls.settle.Goals as goal
 use Rattle.bb_memory_file.proofs.calls.settle.Goals.{else-detached, else-settle_bucket, then-detached, then-settle_bucket}
+use Rattle.bb_memory_file.proofs.calls.settle.Goals as goal
 use Rattle.bb_memory_file.specs.FileCode.{FileLog}
 use Rattle.bb_memory_file.specs.FileSettlers.{IsSettledAt}
-use Rattle.std.proofs.Common.{ap, arith, subst, sym, ◌+◌, ◌<◌, ◌∙◌, ◌≡◌, ◌≤◌}
+use Rattle.std.proofs.Common.{ap, arith, subst, sym, ◌+◌, ◌<◌, ◌∙◌, ◌≡◌}
 use Rattle.std.specs.Prelude.{if◌then◌else◌}
 
 pub loop-bucket-init : goal.loop-bucket-init
@@ -22,7 +22,7 @@ pub settle_bucket-requires : goal.settle_bucket-requires
 settle_bucket-requires g c =
     let same = ap (λ (log : FileLog). log.scene.buckets) (c.loop-bucket.invariant.settling 0).gets in
     let below : c.loop-bucket.bucket < (g.W.Words.log c.loop-bucket.words).scene.buckets =
-        rw (same ∙ sym c.loop-bucket.invariant.end) c.loop-bucket-test.true in
+    rw (same ∙ sym c.loop-bucket.invariant.end) c.loop-bucket-test.true in
     elim c.if-detached.branch [
       | then-detached w ↦
           let same' = ap (λ (log : FileLog). log.scene.buckets) (w.recover.ensures 0).gets in
@@ -41,10 +41,10 @@ overflow_add-freed g c =
 pub loop-bucket-preserved : goal.loop-bucket-preserved
 loop-bucket-preserved g c =
     let count : c.if-settle_bucket.freed ≡ c.loop-bucket.freed + (if c.settle_bucket.result then 1 else 0) =
-        elim c.if-settle_bucket.branch [
-          | then-settle_bucket w ↦ rw w.if-settle_bucket.true w.freed-is
-          | else-settle_bucket w ↦ let is = w.freed-is in rw w.if-settle_bucket.false (omega (arith, is))
-        ] in
+    elim c.if-settle_bucket.branch [
+      | then-settle_bucket w ↦ rw w.if-settle_bucket.true w.freed-is
+      | else-settle_bucket w ↦ let is = w.freed-is in rw w.if-settle_bucket.false (omega (arith, is))
+    ] in
     record {
       settling = λ process. elim c.if-detached.branch [
         | then-detached w ↦

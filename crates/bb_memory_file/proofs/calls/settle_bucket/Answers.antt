@@ -1,10 +1,9 @@
 use Rattle.bb_memory_file.proofs.FileSettlers.{cleared, given_back, passed, sent_back}
-use Rattle.bb_memory_file.proofs.calls.settle_bucket.Goals as goal
 use Rattle.bb_memory_file.proofs.calls.settle_bucket.Goals.{in-Entered, in-Nowhere}
+use Rattle.bb_memory_file.proofs.calls.settle_bucket.Goals as goal
 use Rattle.bb_memory_file.specs.FileCode.{StoreFlag, told}
-use Rattle.bb_memory_file.specs.FileNames.{Free, HeldBy}
-use Rattle.bb_memory_file_machine.specs.FileMachine.{same_flag}
-use Rattle.std.proofs.Common.{ap, sym, ◌∙◌, ◌≡◌}
+use Rattle.bb_memory_file.specs.FileNames.{Free}
+use Rattle.std.proofs.Common.{ap, sym, ◌∙◌}
 
 pub returns-then-not-is_same : goal.returns-then-not-is_same
 returns-then-not-is_same g c process =

@@ -1,7 +1,7 @@
 use Rattle.bb_memory_file.proofs.FileMessages.{empty, no_bucket, not_sent, put_away, received}
 use Rattle.bb_memory_file.proofs.calls.take.Goals as goal
 use Rattle.bb_memory_file.specs.FileCode.{FileLog}
-use Rattle.std.proofs.Common.{ap, sym, ◌<◌, ◌∙◌, ◌≡◌, ◌≤◌}
+use Rattle.std.proofs.Common.{ap, sym, ◌∙◌, ◌≡◌}
 
 pub returns-in_default : goal.returns-in_default
 returns-in_default g c process =
@@ -11,7 +11,7 @@ pub returns-then-bucket-buckets : goal.returns-then-bucket-buckets
 returns-then-bucket-buckets g c process =
     let old = g.W.Words.log c.args.words.now in
     let same : c.buckets.result ≡ old.scene.buckets =
-        c.buckets.ensures ∙ ap (λ (log : FileLog). log.scene.buckets) c.in-Message.ensures.told in
+    c.buckets.ensures ∙ ap (λ (log : FileLog). log.scene.buckets) c.in-Message.ensures.told in
     no_bucket process old c.args.slot c.args.size c.in-Message.lap c.in-Message.bucket _ c.in-Message.ensures.told
     (rw (sym same) c.if-bucket-buckets.true)
 
@@ -24,7 +24,7 @@ pub returns-then-is_fit : goal.returns-then-is_fit
 returns-then-is_fit g c process =
     let old = g.W.Words.log c.args.words.now in
     let same : c.buckets.result ≡ old.scene.buckets =
-        c.buckets.ensures ∙ ap (λ (log : FileLog). log.scene.buckets) c.in-Message.ensures.told in
+    c.buckets.ensures ∙ ap (λ (log : FileLog). log.scene.buckets) c.in-Message.ensures.told in
     received process old c.args.slot c.args.size c.in-Message.lap c.in-Message.bucket c.load_entry-entry.result _ _ _ c.party.result
     c.length_in-length.result c.in-Message.ensures.told c.party.ensures c.if-not-exchange_flag.ensures c.load_entry-entry.ensures.told
     (sym c.is_fit.ensures ∙ c.if-is_fit.true) c.length_in-length.ensures (rw (sym same) c.if-bucket-buckets.false)
