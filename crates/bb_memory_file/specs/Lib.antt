@@ -3,3 +3,4 @@ pub mod FileCode
 pub mod FileLog
 pub mod FileNames
 pub mod FileRuns
+pub mod Recorded

@@ -8,4 +8,5 @@
 
 pub mod calls;
 pub mod laws;
+mod recorded;
 pub mod words;
