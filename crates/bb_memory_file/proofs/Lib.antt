@@ -1,2 +1,3 @@
+pub mod FileMade
 pub mod FileSteps
 pub mod Recording

@@ -1,6 +1,10 @@
+pub mod FileBounds
 pub mod FileCalls
 pub mod FileCode
+pub mod FileFormat
 pub mod FileLog
 pub mod FileNames
+pub mod FileOperations
+pub mod FileParties
 pub mod FileRuns
 pub mod Recorded

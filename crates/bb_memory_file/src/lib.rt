@@ -8,5 +8,10 @@
 
 pub mod calls;
 pub mod laws;
+mod format;
+mod geometry;
+mod party;
+mod party_words;
 mod recorded;
+mod table;
 pub mod words;

@@ -1,0 +1,41 @@
+//! How many buckets, slots and parties a file has, and where their words are.
+ghost use Rattle.bb_memory_file.specs.FileFormat.{IsGeometry};
+ghost use Rattle.std.specs.Prelude.{IsTrue, ◌↔◌};
+
+/// How many buckets, slots and parties a file has, and where their words begin in the file's row of
+/// words. One word is next to the other, except that 16 words lie from slot to slot.
+#[derive(Debug, Clone, Copy, PartialEq, Eq)]
+pub struct FileGeometry {
+    pub buckets: u32,
+    pub slots: u32,
+    pub parties: u32,
+    /// The number of the word of bucket 0's flag.
+    pub first_flag: usize,
+    /// The number of the word of party 0's life.
+    pub first_life: usize,
+    /// The number of the word of bucket 0's entry.
+    pub first_entry: usize,
+    /// The number of the word of slot 0.
+    pub first_slot: usize,
+}
+
+impl FileGeometry {
+    /// Returns whether a row of this many words has room for the words of this geometry, in the order
+    /// of its fields, and whether its numbers fit the words.
+    pub fn is_in(&self, words: usize) -> bool
+        ensures { IsTrue result ↔ IsGeometry self.now words }
+    {
+        let FileGeometry { first_flag, first_life, first_entry, first_slot, .. } = *self;
+        self.buckets < u32::MAX
+            && self.slots < u32::MAX
+            && first_flag >= 16
+            && first_life >= first_flag
+            && first_life - first_flag >= self.buckets as usize
+            && first_entry >= first_life
+            && first_entry - first_life >= self.parties as usize
+            && first_slot >= first_entry
+            && first_slot - first_entry >= self.buckets as usize
+            && words >= first_slot
+            && words - first_slot >= 16 * self.slots as usize
+    }
+}
