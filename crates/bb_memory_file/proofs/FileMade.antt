@@ -2,10 +2,12 @@
 use Rattle.bb_memory_file.specs.FileOperations.{AreMade, IsMade}
 use Rattle.bb_memory_file.specs.Recorded.{WordEvent}
 use Rattle.bb_memory_file.specs.declared.geometry.FileGeometry.{FileGeometry}
-use Rattle.std.proofs.Common.{List, ℕ, ◌∷◌}
+use Rattle.std.proofs.Common.{List, subst, sym, ℕ, ◌∷◌, ◌≡◌}
 use mathlib.Core.Logic.{∥∥₁_map}
 
-pub made_on : (geometry : FileGeometry) (party : ℕ) (operation : WordEvent) (operations : List WordEvent) →
-    ∥ AreMade geometry party operations ∥₁ → IsMade geometry party operation →
-    ∥ AreMade geometry party (operation ∷ operations) ∥₁
-made_on geometry party operation operations before is = ∥∥₁_map before (λ made. (is, made))
+-- one more operation is recorded
+pub made_on : (geometry : FileGeometry) (party : ℕ) (operation : WordEvent) (before after : List WordEvent) →
+    ∥ AreMade geometry party before ∥₁ → after ≡ operation ∷ before → IsMade geometry party operation →
+    ∥ AreMade geometry party after ∥₁
+made_on geometry party operation before after made more is =
+    subst (λ (operations : List WordEvent). ∥ AreMade geometry party operations ∥₁) (sym more) (∥∥₁_map made (λ all. (is, all)))

@@ -85,14 +85,11 @@ abbrev pub entry_word : Entry → ℕ
 entry_word Nowhere = 0
 entry_word (In slot length) = length * 2 ^ 32 + slot + 1
 
--- the entry has a word
-abbrev pub HasEntryWord : Entry → Type 0
-HasEntryWord Nowhere = Unit {0}
-HasEntryWord (In slot length) = slot < 2 ^ 32 - 1
-
--- the entry that a word says
-abbrev pub entry_in : ℕ → Entry
-entry_in word = if word % 2 ^ 32 == 0 then Nowhere else In (word % 2 ^ 32 - 1) (word / 2 ^ 32)
+-- the entry that a word of a file with this many slots says
+abbrev pub entry_in : ℕ → ℕ → Entry
+entry_in slots word =
+    if word % 2 ^ 32 == 0 then Nowhere
+    else (if nat_lt (word % 2 ^ 32 - 1) slots then In (word % 2 ^ 32 - 1) (word / 2 ^ 32) else Nowhere)
 
 -- SLOTS
 
@@ -116,23 +113,24 @@ slot_in word = if word % 2 ^ 32 == 0 then Empty (lap_at word) else Message (lap_
 
 -- EVENTS
 
--- the event that an operation on the word of this part is, of which entries and lives have no exchange
-abbrev pub event_on : Part → WordEvent → Event
-event_on (FlagOf bucket) (Load word found) = LoadFlag bucket (flag_in found)
-event_on (FlagOf bucket) (Exchange word from to found) =
+-- the event that an operation on the word of this part is, in a file with this many slots. No party
+-- exchanges a life or an entry.
+abbrev pub event_on : ℕ → Part → WordEvent → Event
+event_on slots (FlagOf bucket) (Load word found) = LoadFlag bucket (flag_in found)
+event_on slots (FlagOf bucket) (Exchange word from to found) =
     if found == from then ExchangeFlag bucket (flag_in from) (flag_in to) else MissFlag bucket (flag_in from)
-event_on (FlagOf bucket) (Store word to) = StoreFlag bucket (flag_in to)
-event_on (LifeOf party) (Load word found) = LoadLife found
-event_on (LifeOf party) (Exchange word from to found) = LoadLife found
-event_on (LifeOf party) (Store word to) = StoreLife to
-event_on (EntryOf bucket) (Load word found) = LoadEntry bucket (entry_in found)
-event_on (EntryOf bucket) (Exchange word from to found) = LoadEntry bucket (entry_in found)
-event_on (EntryOf bucket) (Store word to) = StoreEntry bucket (entry_in to)
-event_on (SlotOf slot) (Load word found) = LoadSlot slot (slot_in found)
-event_on (SlotOf slot) (Exchange word from to found) =
+event_on slots (FlagOf bucket) (Store word to) = StoreFlag bucket (flag_in to)
+event_on slots (LifeOf party) (Load word found) = LoadLife found
+event_on slots (LifeOf party) (Exchange word from to found) = LoadLife found
+event_on slots (LifeOf party) (Store word to) = StoreLife to
+event_on slots (EntryOf bucket) (Load word found) = LoadEntry bucket (entry_in slots found)
+event_on slots (EntryOf bucket) (Exchange word from to found) = LoadEntry bucket (entry_in slots found)
+event_on slots (EntryOf bucket) (Store word to) = StoreEntry bucket (entry_in slots to)
+event_on slots (SlotOf slot) (Load word found) = LoadSlot slot (slot_in found)
+event_on slots (SlotOf slot) (Exchange word from to found) =
     if found == from then ExchangeSlot slot (slot_in from) (slot_in to) else MissSlot slot (slot_in from)
-event_on (SlotOf slot) (Store word to) = EmptySlot slot (lap_at to)
+event_on slots (SlotOf slot) (Store word to) = EmptySlot slot (lap_at to)
 
 -- the event that an operation on a word of the file is
 abbrev pub event_of : FileGeometry → WordEvent → Event
-event_of geometry operation = event_on (part_at geometry (word_of operation)) operation
+event_of geometry operation = event_on geometry.slots (part_at geometry (word_of operation)) operation

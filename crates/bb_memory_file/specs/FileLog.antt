@@ -2,7 +2,7 @@
 -- the words by that.
 pub use Rattle.bb_memory_file.specs.declared.words.Event.{Event}
 pub use Rattle.bb_memory_file.specs.declared.words.Event.TheVariants.{EmptySlot, ExchangeFlag, ExchangeSlot, LoadEntry, LoadFlag, LoadLife, LoadSlot, MissFlag, MissSlot, StoreEntry, StoreFlag, StoreLife}
-use Rattle.bb_memory_file.specs.FileNames.{DetachedBy, Empty, Entry, FileFlag, Free, HeldBy, Message, Nowhere, SentTo, Slot}
+use Rattle.bb_memory_file.specs.FileNames.{DetachedBy, Empty, Entry, FileFlag, Free, HeldBy, In, Message, Nowhere, SentTo, Slot}
 use Rattle.bb_memory_file_machine.specs.FileMachine.{FileScene, same_flag}
 use Rattle.std.specs.Prelude.{Bool, List, None, Option, Some, [], false, if◌then◌else◌, true, ℕ, ◌<◌, ◌==◌, ◌^◌, ◌∷◌, ◌≡◌}
 
@@ -122,7 +122,17 @@ abbrev pub lap_in : Slot → ℕ
 lap_in (Empty lap) = lap
 lap_in (Message lap bucket) = lap
 
+-- the entry names one of so many slots, or none
+abbrev pub NamesSlot : ℕ → Entry → Type 0
+NamesSlot slots Nowhere = Unit {0}
+NamesSlot slots (In slot length) = slot < slots
+
 -- a flag can say this: if it says where a bucket is sent, the lap is one of these
 abbrev pub IsSaid : FileFlag → Type 0
 IsSaid (SentTo slot lap) = IsLap lap
 IsSaid flag = Unit {0}
+
+-- the slot has one of this many buckets, or is empty
+abbrev pub NamesBucket : ℕ → Slot → Type 0
+NamesBucket buckets (Empty lap) = Unit {0}
+NamesBucket buckets (Message lap bucket) = bucket < buckets

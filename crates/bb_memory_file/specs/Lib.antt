@@ -1,4 +1,3 @@
-pub mod FileBounds
 pub mod FileCalls
 pub mod FileCode
 pub mod FileFormat

@@ -1,9 +1,8 @@
 //! The words of a file: where each is in the file's row of words, and what it says.
-ghost use Rattle.bb_memory_file.specs.FileFormat.{HasEntryWord, HasFlagWord, HasSlotWord, IsGeometry, entry_at, entry_in, entry_word, flag_at, flag_in, flag_word, lap_at, life_at, slot_at, slot_in, slot_word};
-ghost use Rattle.bb_memory_file.specs.FileLog.{IsLap, IsSaid, lap_in};
-ghost use Rattle.std.specs.Prelude.{ℕ, ◌^◌, ◌≡◌, ◌<◌};
+ghost use Rattle.bb_memory_file.specs.FileFormat.{HasFlagWord, HasSlotWord, entry_in, entry_word, flag_in, flag_word, slot_in, slot_word};
+ghost use Rattle.bb_memory_file.specs.FileLog.{IsLap, IsSaid, NamesSlot, lap_in};
+ghost use Rattle.std.specs.Prelude.{◌-◌, ◌<◌, ◌^◌, ◌≡◌};
 
-use crate::geometry::FileGeometry;
 use bb_memory_file_machine::steps::{Entry, FileFlag, Slot};
 
 /// The low half of a word has a number below this.
@@ -51,11 +50,12 @@ pub(crate) fn flag_in(word: u64) -> FileFlag
     FileFlag::SentTo { slot: 0, lap: 1 << 30 }
 }
 
-/// Returns the word of an entry.
-pub(crate) fn entry_word(entry: Entry) -> u64
-    requires { HasEntryWord entry }
+/// Returns the word of an entry of a file with this many slots.
+pub(crate) fn entry_word(slots: u32, entry: Entry) -> u64
+    requires slots { slots < 2 ^ 32 - 1 }
+    requires slot { NamesSlot slots entry }
     ensures word { result ≡ entry_word entry }
-    ensures reads { entry_in result ≡ entry }
+    ensures reads { entry_in slots result ≡ entry }
 {
     match entry {
         Entry::Nowhere => 0,
@@ -63,15 +63,17 @@ pub(crate) fn entry_word(entry: Entry) -> u64
     }
 }
 
-/// Returns the entry that a word says. A word with no slot says that the bucket is in none.
-pub(crate) fn entry_in(word: u64) -> Entry
-    ensures { result ≡ entry_in word }
+/// Returns the entry that a word of a file with this many slots says. A word with none of these slots
+/// says that the bucket is in no slot.
+pub(crate) fn entry_in(slots: u32, word: u64) -> Entry
+    ensures entry { result ≡ entry_in slots word }
+    ensures slot { NamesSlot slots result }
 {
-    let slot = word % HALF;
-    if slot == 0 {
+    let named = word % HALF;
+    if named == 0 || named - 1 >= slots as u64 {
         return Entry::Nowhere;
     }
-    Entry::In { slot: (slot - 1) as u32, length: (word / HALF) as u32 }
+    Entry::In { slot: (named - 1) as u32, length: (word / HALF) as u32 }
 }
 
 /// Returns the word of a slot.

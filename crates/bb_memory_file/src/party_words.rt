@@ -76,12 +76,12 @@ impl Words for FileParty {
 
     fn load_entry(&mut self, bucket: u32) -> Entry {
         let at = self.entry_at(bucket);
-        entry_in(self.words.load(&mut self.hand, at))
+        entry_in(self.geometry.slots, self.words.load(&mut self.hand, at))
     }
 
     fn store_entry(&mut self, bucket: u32, to: Entry) {
         let at = self.entry_at(bucket);
-        self.words.store(&mut self.hand, at, entry_word(to));
+        self.words.store(&mut self.hand, at, entry_word(self.geometry.slots, to));
     }
 
     fn load_slot(&mut self, slot: u32) -> Slot {

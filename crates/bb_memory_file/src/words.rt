@@ -1,6 +1,5 @@
 //! The single atomic operations on the words of a file, by the party whose lock this process has.
-ghost use Rattle.bb_memory_file.specs.FileBounds.{IsEntryOf, IsSlotOf};
-ghost use Rattle.bb_memory_file.specs.FileLog.{EmptySlot, ExchangeFlag, ExchangeSlot, FileLog, IsKnownIn, IsLap, IsSaid, LoadEntry, LoadFlag, LoadLife, LoadSlot, MissFlag, MissSlot, StoreEntry, StoreFlag, StoreLife, is_held, known_of, lap_in, life_by, told};
+ghost use Rattle.bb_memory_file.specs.FileLog.{EmptySlot, ExchangeFlag, ExchangeSlot, FileLog, IsKnownIn, IsLap, IsSaid, LoadEntry, LoadFlag, LoadLife, LoadSlot, MissFlag, MissSlot, NamesBucket, NamesSlot, StoreEntry, StoreFlag, StoreLife, is_held, known_of, lap_in, life_by, told};
 ghost use Rattle.std.specs.Prelude.{MatchBool, Some, true, ℕ, ◌<◌, ◌≡◌};
 
 use bb_memory_file_machine::steps::{Entry, FileFlag, Slot};
@@ -84,13 +83,14 @@ pub trait Words {
     /// Loads a bucket's entry.
     fn load_entry(&mut self, bucket: u32) -> Entry
         requires { bucket < (log self.old).scene.buckets }
-        ensures { log self.new ≡ told (log self.old) (LoadEntry bucket result) };
+        ensures told { log self.new ≡ told (log self.old) (LoadEntry bucket result) }
+        ensures slot { NamesSlot (log self.old).scene.slots result };
 
     /// Stores the entry of a bucket that the party holds.
     fn store_entry(&mut self, bucket: u32, to: Entry)
         requires below { bucket < (log self.old).scene.buckets }
         requires held { is_held (known_of (log self.old) bucket) ≡ true }
-        requires to { IsEntryOf (log self.old).scene to }
+        requires slot { NamesSlot (log self.old).scene.slots to }
         ensures { log self.new ≡ told (log self.old) (StoreEntry bucket to) };
 
     /// Loads a slot's word.
@@ -102,8 +102,9 @@ pub trait Words {
     /// Stores `to` in a slot's word if it finds `from`. Returns whether it did.
     fn exchange_slot(&mut self, slot: u32, from: Slot, to: Slot) -> bool
         requires below { slot < (log self.old).scene.slots }
-        requires from { IsSlotOf (log self.old).scene from }
-        requires to { IsSlotOf (log self.old).scene to }
+        requires from { IsLap (lap_in from) }
+        requires to { IsLap (lap_in to) }
+        requires buckets { NamesBucket (log self.old).scene.buckets from × NamesBucket (log self.old).scene.buckets to }
         ensures { MatchBool result
             (log self.new ≡ told (log self.old) (ExchangeSlot slot from to))
             (log self.new ≡ told (log self.old) (MissSlot slot from)) };
