@@ -5,5 +5,6 @@ pub mod FileLog
 pub mod FileNames
 pub mod FileOperations
 pub mod FileParties
+pub mod FileRows
 pub mod FileRuns
 pub mod Recorded
