@@ -15,3 +15,6 @@ mod party_words;
 mod recorded;
 mod table;
 pub mod words;
+
+#[cfg(test)]
+mod tests;
