@@ -32,7 +32,7 @@ module _ (geometry : FileGeometry) (words : ℕ) (is : IsGeometry geometry words
       let lives = is.lives in
       rw (
         le-ltb (life_at geometry party) geometry.first_life (omega arith),
-        lt-ltb (life_at geometry party) geometry.first_entry (omega (arith, lives, below))
+        lt-ltb (life_at geometry party) geometry.first_entry (omega (arith, lives, below)),
       ) (ap LifeOf (omega arith))
 
   entry_part : (bucket : ℕ) → bucket < geometry.buckets → part_at geometry (entry_at geometry bucket) ≡ EntryOf bucket
@@ -42,7 +42,7 @@ module _ (geometry : FileGeometry) (words : ℕ) (is : IsGeometry geometry words
       rw (
         le-ltb (entry_at geometry bucket) geometry.first_life (omega (arith, lives)),
         le-ltb (entry_at geometry bucket) geometry.first_entry (omega arith),
-        lt-ltb (entry_at geometry bucket) geometry.first_slot (omega (arith, entries, below))
+        lt-ltb (entry_at geometry bucket) geometry.first_slot (omega (arith, entries, below)),
       ) (ap EntryOf (omega arith))
 
   slot_part : (slot : ℕ) → part_at geometry (slot_at geometry slot) ≡ SlotOf slot
@@ -52,7 +52,7 @@ module _ (geometry : FileGeometry) (words : ℕ) (is : IsGeometry geometry words
       rw (
         le-ltb (slot_at geometry slot) geometry.first_life (omega (arith, lives, entries)),
         le-ltb (slot_at geometry slot) geometry.first_entry (omega (arith, entries)),
-        le-ltb (slot_at geometry slot) geometry.first_slot (omega arith)
+        le-ltb (slot_at geometry slot) geometry.first_slot (omega arith),
       ) (ap SlotOf (omega arith))
 
 -- READS OF A WRITTEN ROW

@@ -37,7 +37,10 @@ pub(crate) fn flag_in(word: u64) -> FileFlag
     let kind = word % 4;
     let number = word / 4;
     if kind == 3 {
-        return FileFlag::SentTo { slot: (number % HALF) as u32, lap: (number / HALF) as u32 };
+        return FileFlag::SentTo {
+            slot: (number % HALF) as u32,
+            lap: (number / HALF) as u32,
+        };
     }
     if number < HALF {
         if kind == 1 {
@@ -47,7 +50,10 @@ pub(crate) fn flag_in(word: u64) -> FileFlag
             return FileFlag::DetachedBy(number as u32);
         }
     }
-    FileFlag::SentTo { slot: 0, lap: 1 << 30 }
+    FileFlag::SentTo {
+        slot: 0,
+        lap: 1 << 30,
+    }
 }
 
 /// Returns the word of an entry of a file with this many slots.
@@ -73,7 +79,10 @@ pub(crate) fn entry_in(slots: u32, word: u64) -> Entry
     if named == 0 || named - 1 >= slots as u64 {
         return Entry::Nowhere;
     }
-    Entry::In { slot: (named - 1) as u32, length: (word / HALF) as u32 }
+    Entry::In {
+        slot: (named - 1) as u32,
+        length: (word / HALF) as u32,
+    }
 }
 
 /// Returns the word of a slot.
@@ -98,5 +107,8 @@ pub(crate) fn slot_in(word: u64) -> Slot
     if bucket == 0 {
         return Slot::Empty { lap };
     }
-    Slot::Message { lap, bucket: (bucket - 1) as u32 }
+    Slot::Message {
+        lap,
+        bucket: (bucket - 1) as u32,
+    }
 }

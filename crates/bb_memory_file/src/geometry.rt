@@ -25,7 +25,13 @@ impl FileGeometry {
     pub fn is_in(&self, words: usize) -> bool
         ensures { IsTrue result ↔ IsGeometry self.now words }
     {
-        let FileGeometry { first_flag, first_life, first_entry, first_slot, .. } = *self;
+        let FileGeometry {
+            first_flag,
+            first_life,
+            first_entry,
+            first_slot,
+            ..
+        } = *self;
         self.buckets < u32::MAX
             && self.slots < u32::MAX
             && first_flag >= 16

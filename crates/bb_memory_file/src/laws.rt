@@ -16,8 +16,7 @@ ghost use Rattle.std.specs.Prelude.{List, length, ℕ, ◌<◌};
 pub fn file_code_theorem()
     ensures machine { (scene : FileScene) (acts : List Act) (taken : ℕ → List FileStep) (places : ℕ → Place)
         → IsRun scene acts taken places → IsMachines scene acts taken places }
-{
-}
+{}
 
 /// States that the operations on a file's row of words are events on the words of the machine: each
 /// event finds there what its operation found in the row, and leaves the words that the row says
@@ -27,5 +26,4 @@ pub fn words_law()
     ensures event { (geometry : FileGeometry) (party : ℕ) (row : List ℕ) (words : FileWords) (operation : WordEvent)
         → IsGeometry geometry (length row) → party < geometry.parties → Says geometry row words
         → IsMade geometry party operation → IsFoundIn row operation → IsEvent geometry party row words operation }
-{
-}
+{}

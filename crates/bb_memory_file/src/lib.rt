@@ -7,14 +7,13 @@
 #![tactic(auto)]
 
 pub mod calls;
-pub mod laws;
 mod format;
 mod geometry;
+pub mod laws;
 mod party;
 mod party_words;
 mod recorded;
 mod table;
-pub mod words;
-
 #[cfg(test)]
 mod tests;
+pub mod words;

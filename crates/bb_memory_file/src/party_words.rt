@@ -64,9 +64,11 @@ impl Words for FileParty {
 
     fn exchange_flag(&mut self, bucket: u32, from: FileFlag, to: FileFlag) -> bool {
         let at = self.flag_at(bucket);
-        let from = flag_word(from);
-        let found = self.words.exchange(&mut self.hand, at, from, flag_word(to));
-        found == from
+        let wanted = flag_word(from);
+        let found = self
+            .words
+            .exchange(&mut self.hand, at, wanted, flag_word(to));
+        found == wanted
     }
 
     fn store_flag(&mut self, bucket: u32, to: FileFlag) {
@@ -81,7 +83,8 @@ impl Words for FileParty {
 
     fn store_entry(&mut self, bucket: u32, to: Entry) {
         let at = self.entry_at(bucket);
-        self.words.store(&mut self.hand, at, entry_word(self.geometry.slots, to));
+        self.words
+            .store(&mut self.hand, at, entry_word(self.geometry.slots, to));
     }
 
     fn load_slot(&mut self, slot: u32) -> Slot {
@@ -91,14 +94,15 @@ impl Words for FileParty {
 
     fn exchange_slot(&mut self, slot: u32, from: Slot, to: Slot) -> bool {
         let at = self.slot_at(slot);
-        let from = slot_word(from);
-        let found = self.words.exchange(&mut self.hand, at, from, slot_word(to));
-        found == from
+        let word = slot_word(from);
+        let found = self.words.exchange(&mut self.hand, at, word, slot_word(to));
+        found == word
     }
 
     fn empty_slot(&mut self, slot: u32, _bucket: u32, _lap: u32, next: u32) {
         let at = self.slot_at(slot);
-        self.words.store(&mut self.hand, at, slot_word(Slot::Empty { lap: next }));
+        self.words
+            .store(&mut self.hand, at, slot_word(Slot::Empty { lap: next }));
     }
 
     fn load_life(&mut self) -> u64 {

@@ -12,7 +12,10 @@ use std::marker::Model;
 /// An atomic operation on a word, and what it found there.
 pub enum WordEvent {
     /// A load found this.
-    Load { word: u64, found: u64 },
+    Load {
+        word: u64,
+        found: u64,
+    },
     /// An exchange stored `to` if it found `from`.
     Exchange {
         word: u64,
@@ -21,7 +24,10 @@ pub enum WordEvent {
         found: u64,
     },
     /// A store stored this.
-    Store { word: u64, to: u64 },
+    Store {
+        word: u64,
+        to: u64,
+    },
 }
 
 /// The operations of a hand, the last first. No value of this type is made.
@@ -144,8 +150,6 @@ impl RecordedWords {
         ensures hand { IsHand self.now hand.new }
         ensures recorded { recorded hand.new ≡ store_event word to ∷ recorded hand.old }
     {
-        self.table
-            .shared
-            .store::<Stores>(&mut hand.seat, word, to);
+        self.table.shared.store::<Stores>(&mut hand.seat, word, to);
     }
 }

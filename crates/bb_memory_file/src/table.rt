@@ -53,6 +53,11 @@ impl FileTable {
             return Err(AllocError);
         };
         let hand = words.hand();
-        Ok(FileParty { words, hand, geometry: self.geometry, number })
+        Ok(FileParty {
+            words,
+            hand,
+            geometry: self.geometry,
+            number,
+        })
     }
 }
