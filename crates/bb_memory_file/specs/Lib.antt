@@ -5,6 +5,7 @@ pub mod FileLog
 pub mod FileNames
 pub mod FileOperations
 pub mod FileParties
+pub mod FileRecords
 pub mod FileRows
 pub mod FileRuns
 pub mod Recorded

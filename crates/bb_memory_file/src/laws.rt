@@ -1,10 +1,11 @@
 //! What the walks of calls have to do with the machine of a pool in a file.
 ghost use Rattle.bb_memory_file.specs.FileFormat.{IsGeometry};
 ghost use Rattle.bb_memory_file.specs.FileOperations.{IsMade};
+ghost use Rattle.bb_memory_file.specs.FileRecords.{IsRecord, IsTold};
 ghost use Rattle.bb_memory_file.specs.FileRows.{IsEvent, Says};
 ghost use Rattle.bb_memory_file.specs.FileRuns.{Act, IsMachines, IsRun};
 ghost use Rattle.bb_memory_file.specs.FileNames.{FileStep, Place};
-ghost use Rattle.bb_memory_file.specs.Recorded.{IsFoundIn, WordEvent};
+ghost use Rattle.bb_memory_file.specs.Recorded.{IsFoundIn, Run, WordEvent};
 ghost use Rattle.bb_memory_file.specs.declared.geometry.FileGeometry.{FileGeometry};
 ghost use Rattle.bb_memory_file_machine.specs.FileMachine.{FileScene, FileWords};
 ghost use Rattle.std.specs.Prelude.{List, length, ℕ, ◌<◌};
@@ -27,3 +28,12 @@ pub fn words_law()
         → IsGeometry geometry (length row) → party < geometry.parties → Says geometry row words
         → IsMade geometry party operation → IsFoundIn row operation → IsEvent geometry party row words operation }
 {}
+
+/// States that the recorded operations of all hands on the words of a file, which began as a new
+/// file's, are true acts of processes, each of which has the log of its party. The function does
+/// nothing: its contract is the law.
+pub fn recorded_law()
+    ensures told { (geometry : FileGeometry) (scene : FileScene) (parties : ℕ → ℕ) (start : List ℕ) (run : Run) (acts : List Act)
+        → IsRecord geometry scene parties start run acts → IsTold geometry scene parties start run acts }
+{
+}
