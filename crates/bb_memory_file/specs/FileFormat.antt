@@ -1,5 +1,5 @@
 -- The words of a file: where each of them is in one row of words, and what it says.
-use Rattle.bb_memory_file.specs.FileLog.{Event, EmptySlot, ExchangeFlag, ExchangeSlot, IsLap, LoadEntry, LoadFlag, LoadLife, LoadSlot, MissFlag, MissSlot, StoreEntry, StoreFlag, StoreLife}
+use Rattle.bb_memory_file.specs.FileLog.{EmptySlot, Event, ExchangeFlag, ExchangeSlot, IsLap, LoadEntry, LoadFlag, LoadLife, LoadSlot, MissFlag, MissSlot, StoreEntry, StoreFlag, StoreLife}
 use Rattle.bb_memory_file.specs.FileNames.{DetachedBy, Empty, Entry, FileFlag, Free, HeldBy, In, Message, Nowhere, SentTo, Slot}
 use Rattle.bb_memory_file.specs.Recorded.{Exchange, Load, Store, WordEvent, word_of}
 use Rattle.bb_memory_file.specs.declared.geometry.FileGeometry.{FileGeometry}

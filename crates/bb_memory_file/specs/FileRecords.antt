@@ -5,7 +5,7 @@ use Rattle.bb_memory_file.specs.FileFormat.{IsGeometry, event_of}
 use Rattle.bb_memory_file.specs.FileOperations.{AreMade}
 use Rattle.bb_memory_file.specs.FileParties.{log_by}
 use Rattle.bb_memory_file.specs.FileRows.{Says}
-use Rattle.bb_memory_file.specs.FileRuns.{Act, AreTrue, Dies, Frees, IsTrue, Locks, Operates, Unlocks, acts_of, actor, own, words_after}
+use Rattle.bb_memory_file.specs.FileRuns.{Act, AreTrue, Dies, Frees, IsTrue, Locks, Operates, Unlocks, actor, acts_of, own, words_after}
 use Rattle.bb_memory_file.specs.Recorded.{AllFound, Run, WordEvent, of_hand}
 use Rattle.bb_memory_file.specs.Recorded as row
 use Rattle.bb_memory_file.specs.declared.geometry.FileGeometry.{FileGeometry}

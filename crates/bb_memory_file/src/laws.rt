@@ -1,10 +1,10 @@
 //! What the walks of calls have to do with the machine of a pool in a file.
 ghost use Rattle.bb_memory_file.specs.FileFormat.{IsGeometry};
+ghost use Rattle.bb_memory_file.specs.FileNames.{FileStep, Place};
 ghost use Rattle.bb_memory_file.specs.FileOperations.{IsMade};
 ghost use Rattle.bb_memory_file.specs.FileRecords.{IsRecord, IsTold};
 ghost use Rattle.bb_memory_file.specs.FileRows.{IsEvent, Says};
 ghost use Rattle.bb_memory_file.specs.FileRuns.{Act, IsMachines, IsRun};
-ghost use Rattle.bb_memory_file.specs.FileNames.{FileStep, Place};
 ghost use Rattle.bb_memory_file.specs.Recorded.{IsFoundIn, Run, WordEvent};
 ghost use Rattle.bb_memory_file.specs.declared.geometry.FileGeometry.{FileGeometry};
 ghost use Rattle.bb_memory_file_machine.specs.FileMachine.{FileScene, FileWords};

@@ -1,5 +1,5 @@
 //! A party's operations on the words of its file.
-ghost use Rattle.bb_memory_file.specs.FileFormat.{IsGeometry, flag_at, entry_at, life_at, slot_at};
+ghost use Rattle.bb_memory_file.specs.FileFormat.{IsGeometry, entry_at, flag_at, life_at, slot_at};
 ghost use Rattle.std.specs.Prelude.{ℕ, ◌*◌, ◌+◌, ◌<◌, ◌^◌, ◌≡◌};
 
 use crate::format::{entry_in, entry_word, flag_in, flag_word, slot_in, slot_word};

@@ -3,7 +3,7 @@
 //! The rule knows no protocol: the words are at any time what their beginning and some order of all
 //! recorded operations give, and each of these operations found what its record says.
 ghost use Rattle.bb_memory_file.specs.Recorded.{IsHand, exchange_event, load_event, recorded, store_event};
-ghost use Rattle.std.specs.Prelude.{IfOk, [], length, ◌∷◌, ◌<◌, ◌≡◌};
+ghost use Rattle.std.specs.Prelude.{IfOk, [], length, ◌<◌, ◌∷◌, ◌≡◌};
 
 use atomic_table::{Play, Seat, Table, TableRule};
 use std::alloc::{AllocError, Global};

@@ -228,3 +228,17 @@ fn a_party_has_its_own_life(rt: HostRuntime) -> Result<(), Fail> {
     assert!(rt; count(&mut other) == 6);
     Ok(())
 }
+
+/// Takes a value that several threads may use at the same time.
+fn share<T: Send + Sync>(_value: &T) {}
+
+/// Takes a value that may go to another thread.
+fn send<T: Send>(_value: &T) {}
+
+#[test]
+fn threads_share_the_words(rt: HostRuntime) -> Result<(), Fail> {
+    let table = table(rt.alloc(), [0; 9])?;
+    share(&table);
+    send(&table.party(0)?);
+    Ok(())
+}
