@@ -1,7 +1,7 @@
 -- A flag has one word, and no other word says the flag.
 use Rattle.bb_memory_file.specs.FileFormat.{HasFlagWord, flag_in, flag_word}
 use Rattle.bb_memory_file.specs.FileNames.{DetachedBy, FileFlag, Free, HeldBy, SentTo}
-use Rattle.std.proofs.Common.{Bool, arith, false, refl, subst, sym, true, ℕ, ◌*◌, ◌+◌, ◌<◌, ◌≡◌, ◌≢◌}
+use Rattle.std.proofs.Common.{Bool, arith, false, refl, subst, sym, true, ℕ, ◌*◌, ◌+◌, ◌≡◌}
 use Rattle.std.proofs.lemmas.Bool.{eqb-true}
 use Rattle.std.specs.Prelude.{if◌then◌else◌, nat_lt, ◌%◌, ◌/◌, ◌==◌, ◌^◌}
 

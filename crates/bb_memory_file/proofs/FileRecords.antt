@@ -5,7 +5,7 @@ use Rattle.bb_memory_file.specs.FileOperations.{AreMade, IsMade}
 use Rattle.bb_memory_file.specs.FileParties.{log_by}
 use Rattle.bb_memory_file.specs.FileRecords.{AreKept, IsKept, IsRecord, IsTold, Tells, changes_lock, is_operation, nothing, operates, operations_in}
 use Rattle.bb_memory_file.specs.FileRows.{IsEvent, Says}
-use Rattle.bb_memory_file.specs.FileRuns.{Act, AreTrue, Dies, Frees, IsTrue, Locks, Operates, Unlocks, acted, actor, acts_of, own, words_after}
+use Rattle.bb_memory_file.specs.FileRuns.{Act, Dies, Frees, IsTrue, Locks, Operates, Unlocks, acted, actor, acts_of, own, words_after}
 use Rattle.bb_memory_file.specs.Recorded.{AllFound, Exchange, Load, Run, Store, WordEvent, of_hand, written}
 use Rattle.bb_memory_file.specs.Recorded as row
 use Rattle.bb_memory_file.specs.declared.geometry.FileGeometry.{FileGeometry}
@@ -14,7 +14,7 @@ use Rattle.bb_memory_pool_machine.proofs.PoolSteps.{test_same}
 use Rattle.std.proofs.Common.{Bool, List, [], ap, false, length, refl, subst, sym, true, ℕ, ◌<◌, ◌∙◌, ◌∷◌, ◌≡◌}
 use Rattle.std.proofs.lemmas.Bool.{eqb-true}
 use Rattle.std.proofs.lemmas.List.{length-set}
-use Rattle.std.specs.Prelude.{if◌then◌else◌, map, slice_set, ◌==◌}
+use Rattle.std.specs.Prelude.{if◌then◌else◌, slice_set, ◌==◌}
 
 -- THE LENGTH OF THE ROW
 

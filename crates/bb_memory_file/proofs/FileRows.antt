@@ -1,23 +1,23 @@
 -- Operations on a file's row of words are events on the words of the machine.
 use Rattle.bb_memory_file.proofs.FileFlagWords.{flag_of_word, word_of_flag}
 use Rattle.bb_memory_file.specs.FileCode.{Finds, left_by}
-use Rattle.bb_memory_file.specs.FileFormat.{EntryOf, FlagOf, HasFlagWord, IsGeometry, LifeOf, Part, SlotOf, entry_at, entry_in, event_of, event_on, flag_at, flag_in, flag_word, lap_at, life_at, part_at, slot_at, slot_in, slot_word}
+use Rattle.bb_memory_file.specs.FileFormat.{EntryOf, FlagOf, HasFlagWord, IsGeometry, LifeOf, SlotOf, entry_at, entry_in, event_of, flag_at, flag_in, flag_word, lap_at, life_at, part_at, slot_at, slot_in, slot_word}
 use Rattle.bb_memory_file.specs.FileLog.{EmptySlot, Event, ExchangeFlag, ExchangeSlot, LoadEntry, LoadFlag, LoadLife, LoadSlot, MissFlag, MissSlot, StoreEntry, StoreFlag, StoreLife}
-use Rattle.bb_memory_file.specs.FileNames.{Empty, FileFlag, Message, Slot}
+use Rattle.bb_memory_file.specs.FileNames.{Empty, FileFlag, Slot}
 use Rattle.bb_memory_file.specs.FileOperations.{IsMade, empties_slot, exchanges_flag, exchanges_slot, loads_entry, loads_flag, loads_life, loads_slot, stores_entry, stores_flag, stores_life}
 use Rattle.bb_memory_file.specs.FileRows.{IsEvent, Says}
-use Rattle.bb_memory_file.specs.Recorded.{Exchange, IsFoundIn, Load, Store, WordEvent, written}
+use Rattle.bb_memory_file.specs.Recorded.{Exchange, IsFoundIn, WordEvent, written}
 use Rattle.bb_memory_file.specs.declared.geometry.FileGeometry.{FileGeometry}
 use Rattle.bb_memory_file_machine.proofs.FileTests.{flag_there}
 use Rattle.bb_memory_file_machine.specs.FileLaws.{IsFlag}
 use Rattle.bb_memory_file_machine.specs.FileMachine.{FileWords, is_flag, with_entry, with_flag, with_life, with_slot}
 use Rattle.bb_memory_lists.proofs.SliceGets.{slice_get-set_apart, slice_get-set_at}
 use Rattle.bb_memory_pool_machine.proofs.PoolSteps.{test_same}
-use Rattle.std.proofs.Common.{Bool, List, Some, ap, arith, false, inl, inr, length, refl, subst, sym, true, ℕ, ◌*◌, ◌+◌, ◌<◌, ◌∙◌, ◌≡◌, ◌≢◌}
+use Rattle.std.proofs.Common.{Bool, List, Some, ap, arith, false, inl, inr, length, refl, subst, sym, true, ℕ, ◌*◌, ◌<◌, ◌∙◌, ◌≡◌, ◌≢◌}
 use Rattle.std.proofs.lemmas.Bool.{cases_eq, eqb-true, le-ltb, lt-ltb}
 use Rattle.std.proofs.lemmas.Grind.{get_or-set_at}
 use Rattle.std.proofs.lemmas.List.{get_or-set_other}
-use Rattle.std.specs.Prelude.{if◌then◌else◌, slice_get, slice_index, slice_set, ◌%◌, ◌-◌, ◌/◌, ◌==◌, ◌^◌}
+use Rattle.std.specs.Prelude.{slice_get, slice_index, slice_set, ◌%◌, ◌==◌, ◌^◌}
 
 -- PARTS
 
