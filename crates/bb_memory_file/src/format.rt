@@ -5,7 +5,7 @@ ghost use Rattle.std.specs.Prelude.{◌-◌, ◌<◌, ◌^◌, ◌≡◌};
 
 use bb_memory_file_machine::steps::{Entry, FileFlag, Slot};
 
-/// The low half of a word has a number below this.
+/// The number in the low half of a word is below this.
 const HALF: u64 = 1 << 32;
 
 /// The laps are below this.

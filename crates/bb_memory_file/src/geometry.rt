@@ -2,8 +2,15 @@
 ghost use Rattle.bb_memory_file.specs.FileFormat.{IsGeometry};
 ghost use Rattle.std.specs.Prelude.{IsTrue, ◌↔◌};
 
+/// The number of words before the first flag, of which word 0 never changes.
+pub const WORDS_BEFORE: usize = 16;
+
+/// The number of words from slot to slot: two cache lines, so that no two slots share one.
+pub const WORDS_FROM_SLOT_TO_SLOT: usize = 16;
+
 /// How many buckets, slots and parties a file has, and where their words begin in the file's row of
-/// words. One word is next to the other, except that 16 words lie from slot to slot.
+/// words. The first word of a kind is followed by the others, one after the other; only from slot to slot
+/// there are `WORDS_FROM_SLOT_TO_SLOT` words.
 #[derive(Debug, Clone, Copy, PartialEq, Eq)]
 pub struct FileGeometry {
     pub buckets: u32,
@@ -34,7 +41,7 @@ impl FileGeometry {
         } = *self;
         self.buckets < u32::MAX
             && self.slots < u32::MAX
-            && first_flag >= 16
+            && first_flag >= WORDS_BEFORE
             && first_life >= first_flag
             && first_life - first_flag >= self.buckets as usize
             && first_entry >= first_life
@@ -42,6 +49,6 @@ impl FileGeometry {
             && first_slot >= first_entry
             && first_slot - first_entry >= self.buckets as usize
             && words >= first_slot
-            && words - first_slot >= 16 * self.slots as usize
+            && words - first_slot >= WORDS_FROM_SLOT_TO_SLOT * self.slots as usize
     }
 }

@@ -35,5 +35,4 @@ pub fn words_law()
 pub fn recorded_law()
     ensures told { (geometry : FileGeometry) (scene : FileScene) (parties : ℕ → ℕ) (start : List ℕ) (run : Run) (acts : List Act)
         → IsRecord geometry scene parties start run acts → IsTold geometry scene parties start run acts }
-{
-}
+{}

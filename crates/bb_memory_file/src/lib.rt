@@ -3,17 +3,18 @@
 //!
 //! - `words`: the atomic operations
 //! - `calls`: the calls
-//! - `laws`: what the calls have to do with the machine
+//! - `geometry`, `table`, `party`: the words of a file in one row, with the parties that operate on them
+//! - `laws`: what the calls and the row of words have to do with the machine
 #![tactic(auto)]
 
 pub mod calls;
 mod format;
-mod geometry;
+pub mod geometry;
 pub mod laws;
-mod party;
+pub mod party;
 mod party_words;
 mod recorded;
-mod table;
+pub mod table;
 #[cfg(test)]
 mod tests;
 pub mod words;

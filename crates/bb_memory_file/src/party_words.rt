@@ -1,8 +1,9 @@
 //! A party's operations on the words of its file.
-ghost use Rattle.bb_memory_file.specs.FileFormat.{IsGeometry, entry_at, flag_at, life_at, slot_at};
-ghost use Rattle.std.specs.Prelude.{ℕ, ◌*◌, ◌+◌, ◌<◌, ◌^◌, ◌≡◌};
+ghost use Rattle.bb_memory_file.specs.FileFormat.{entry_at, flag_at, life_at, slot_at};
+ghost use Rattle.std.specs.Prelude.{◌<◌, ◌≡◌};
 
 use crate::format::{entry_in, entry_word, flag_in, flag_word, slot_in, slot_word};
+use crate::geometry::WORDS_FROM_SLOT_TO_SLOT;
 use crate::party::FileParty;
 use crate::words::Words;
 use bb_memory_file_machine::steps::{Entry, FileFlag, Slot};
@@ -29,7 +30,7 @@ impl FileParty {
         requires { slot < self.now.geometry.slots }
         ensures { result ≡ slot_at self.now.geometry slot }
     {
-        self.geometry.first_slot + 16 * slot as usize
+        self.geometry.first_slot + WORDS_FROM_SLOT_TO_SLOT * slot as usize
     }
 
     /// Returns the number of the word of the party's life.
