@@ -1,5 +1,6 @@
 pub mod FileFlagWords
 pub mod FileMade
+pub mod FileProcesses
 pub mod FileRecords
 pub mod FileRows
 pub mod FileSteps

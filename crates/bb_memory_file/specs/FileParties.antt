@@ -12,6 +12,14 @@ abbrev pub scene_of : FileGeometry → FileScene
 scene_of geometry =
     record { buckets = geometry.buckets; slots = geometry.slots; parties = geometry.parties; processes = 0 }
 
+-- the same sizes with this many processes
+abbrev pub with_processes : FileScene → ℕ → FileScene
+with_processes scene processes = record scene { processes = processes }
+
+-- the same log of a file with this many processes
+abbrev pub among : ℕ → FileLog → FileLog
+among processes log = record log { scene = with_processes log.scene processes }
+
 -- the log of a party of this number that has made these operations: the events that they are
 abbrev pub log_by : FileGeometry → ℕ → List WordEvent → FileLog
 log_by geometry number operations =

@@ -1,7 +1,9 @@
 //! What the walks of calls have to do with the machine of a pool in a file.
+ghost use Rattle.bb_memory_file.specs.FileCode.{FileLog, Path};
 ghost use Rattle.bb_memory_file.specs.FileFormat.{IsGeometry};
 ghost use Rattle.bb_memory_file.specs.FileNames.{FileStep, Place};
 ghost use Rattle.bb_memory_file.specs.FileOperations.{IsMade};
+ghost use Rattle.bb_memory_file.specs.FileParties.{among};
 ghost use Rattle.bb_memory_file.specs.FileRecords.{IsRecord, IsTold};
 ghost use Rattle.bb_memory_file.specs.FileRows.{IsEvent, Says};
 ghost use Rattle.bb_memory_file.specs.FileRuns.{Act, IsMachines, IsRun};
@@ -36,3 +38,12 @@ pub fn recorded_law()
     ensures told { (geometry : FileGeometry) (scene : FileScene) (parties : ℕ → ℕ) (start : List ℕ) (run : Run) (acts : List Act)
         → IsRecord geometry scene parties start run acts → IsTold geometry scene parties start run acts }
 {}
+
+/// States that a path doesn't depend on the number of processes, so that the paths of a party are those
+/// of a run with any number of them. The function does nothing: its contract is the law.
+pub fn processes_law()
+    ensures path { (processes process : ℕ) (before log : FileLog) (from there : Place) (taken : List FileStep)
+        → Path process before from log taken there
+        → Path process (among processes before) from (among processes log) taken there }
+{
+}
