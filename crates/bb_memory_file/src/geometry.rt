@@ -32,23 +32,16 @@ impl FileGeometry {
     pub fn is_in(&self, words: usize) -> bool
         ensures { IsTrue result ↔ IsGeometry self.now words }
     {
-        let FileGeometry {
-            first_flag,
-            first_life,
-            first_entry,
-            first_slot,
-            ..
-        } = *self;
         self.buckets < u32::MAX
             && self.slots < u32::MAX
-            && first_flag >= WORDS_BEFORE
-            && first_life >= first_flag
-            && first_life - first_flag >= self.buckets as usize
-            && first_entry >= first_life
-            && first_entry - first_life >= self.parties as usize
-            && first_slot >= first_entry
-            && first_slot - first_entry >= self.buckets as usize
-            && words >= first_slot
-            && words - first_slot >= WORDS_FROM_SLOT_TO_SLOT * self.slots as usize
+            && self.first_flag >= WORDS_BEFORE
+            && self.first_life >= self.first_flag
+            && self.first_life - self.first_flag >= self.buckets as usize
+            && self.first_entry >= self.first_life
+            && self.first_entry - self.first_life >= self.parties as usize
+            && self.first_slot >= self.first_entry
+            && self.first_slot - self.first_entry >= self.buckets as usize
+            && words >= self.first_slot
+            && words - self.first_slot >= WORDS_FROM_SLOT_TO_SLOT * self.slots as usize
     }
 }

@@ -15,6 +15,4 @@ pub mod party;
 mod party_words;
 mod recorded;
 pub mod table;
-#[cfg(test)]
-mod tests;
 pub mod words;
