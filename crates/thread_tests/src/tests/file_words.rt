@@ -28,8 +28,8 @@ pub(super) fn table(alloc: Global, words: [u64; 9]) -> Result<FileTable, AllocEr
 {
     let [a, b, c, d, e, f, g, h, i] = words;
     let row = [
-        0, 0, 0, 0, 0, 0, 0, 0, 0, 0, 0, 0, 0, 0, 0, 0, a, b, c, d, e, f, g, h, i, 0, 0, 0, 0, 0, 0, 0,
-        0, 0, 0, 0, 0, 0, 0, 0,
+        0, 0, 0, 0, 0, 0, 0, 0, 0, 0, 0, 0, 0, 0, 0, 0, a, b, c, d, e, f, g, h, i, 0, 0, 0, 0, 0,
+        0, 0, 0, 0, 0, 0, 0, 0, 0, 0,
     ];
     FileTable::new(alloc, &row, GEOMETRY)
 }
@@ -116,10 +116,38 @@ fn a_geometry_is_in_a_row_with_room(rt: HostRuntime) {
     let rt = &rt;
     check(rt, GEOMETRY.is_in(40));
     check(rt, !GEOMETRY.is_in(39));
-    check(rt, !FileGeometry { first_flag: 15, ..GEOMETRY }.is_in(40));
-    check(rt, !FileGeometry { first_life: 18, ..GEOMETRY }.is_in(40));
-    check(rt, !FileGeometry { first_entry: 20, ..GEOMETRY }.is_in(40));
-    check(rt, !FileGeometry { first_slot: 23, ..GEOMETRY }.is_in(40));
+    check(
+        rt,
+        !FileGeometry {
+            first_flag: 15,
+            ..GEOMETRY
+        }
+        .is_in(40),
+    );
+    check(
+        rt,
+        !FileGeometry {
+            first_life: 18,
+            ..GEOMETRY
+        }
+        .is_in(40),
+    );
+    check(
+        rt,
+        !FileGeometry {
+            first_entry: 20,
+            ..GEOMETRY
+        }
+        .is_in(40),
+    );
+    check(
+        rt,
+        !FileGeometry {
+            first_slot: 23,
+            ..GEOMETRY
+        }
+        .is_in(40),
+    );
 }
 
 #[test]
@@ -136,19 +164,38 @@ fn words_say_what_the_format_says(rt: HostRuntime) {
     let table = made(
         rt,
         [
-            flags[0], flags[1], flags[2], 8, 9, entries[0], entries[1], entries[2],
+            flags[0],
+            flags[1],
+            flags[2],
+            8,
+            9,
+            entries[0],
+            entries[1],
+            entries[2],
             bucket_1_at_lap_5,
         ],
     );
     let mut party = party(rt, &table, 1);
     same(rt, flag(&mut party, 0), Some(FileFlag::HeldBy(1)));
     same(rt, flag(&mut party, 1), Some(FileFlag::DetachedBy(0)));
-    same(rt, flag(&mut party, 2), Some(FileFlag::SentTo { slot: 2, lap: 3 }));
+    same(
+        rt,
+        flag(&mut party, 2),
+        Some(FileFlag::SentTo { slot: 2, lap: 3 }),
+    );
     same(rt, party.load_life(), 9);
     same(rt, entry(&mut party, 0), Some(Entry::Nowhere));
-    same(rt, entry(&mut party, 1), Some(Entry::In { slot: 0, length: 7 }));
+    same(
+        rt,
+        entry(&mut party, 1),
+        Some(Entry::In { slot: 0, length: 7 }),
+    );
     same(rt, entry(&mut party, 2), Some(Entry::Nowhere));
-    same(rt, slot(&mut party, 0), Some(Slot::Message { lap: 5, bucket: 1 }));
+    same(
+        rt,
+        slot(&mut party, 0),
+        Some(Slot::Message { lap: 5, bucket: 1 }),
+    );
 }
 
 #[test]
@@ -157,16 +204,35 @@ fn a_word_that_is_no_flags_is_never_exchanged(rt: HostRuntime) {
     let kind_0_of_number_1 = 4;
     let held_by_a_33_bit_number = 17179869185;
     let detached_by_a_33_bit_number = 17179869186;
-    let flags = [kind_0_of_number_1, held_by_a_33_bit_number, detached_by_a_33_bit_number];
+    let flags = [
+        kind_0_of_number_1,
+        held_by_a_33_bit_number,
+        detached_by_a_33_bit_number,
+    ];
     let table = made(rt, [flags[0], flags[1], flags[2], 0, 0, 0, 0, 0, 0]);
     let mut party = party(rt, &table, 0);
-    let none = FileFlag::SentTo { slot: 0, lap: 1 << 30 };
+    let none = FileFlag::SentTo {
+        slot: 0,
+        lap: 1 << 30,
+    };
     let (held, detached) = (FileFlag::HeldBy(0), FileFlag::DetachedBy(0));
     for bucket in 0..3u32 {
         same(rt, flag(&mut party, bucket), Some(none));
-        same(rt, exchange_flag(&mut party, bucket, FileFlag::Free, held), Some(false));
-        same(rt, exchange_flag(&mut party, bucket, held, FileFlag::Free), Some(false));
-        same(rt, exchange_flag(&mut party, bucket, detached, held), Some(false));
+        same(
+            rt,
+            exchange_flag(&mut party, bucket, FileFlag::Free, held),
+            Some(false),
+        );
+        same(
+            rt,
+            exchange_flag(&mut party, bucket, held, FileFlag::Free),
+            Some(false),
+        );
+        same(
+            rt,
+            exchange_flag(&mut party, bucket, detached, held),
+            Some(false),
+        );
     }
 }
 
@@ -178,13 +244,25 @@ fn a_bucket_goes_to_another_party(rt: HostRuntime) {
     let mut taker = party(rt, &table, 1);
     let (held, taken) = (FileFlag::HeldBy(0), FileFlag::HeldBy(1));
     let sent = FileFlag::SentTo { slot: 0, lap: 0 };
-    same(rt, exchange_flag(&mut sender, 2, FileFlag::Free, held), Some(true));
-    same(rt, exchange_flag(&mut taker, 2, FileFlag::Free, taken), Some(false));
+    same(
+        rt,
+        exchange_flag(&mut sender, 2, FileFlag::Free, held),
+        Some(true),
+    );
+    same(
+        rt,
+        exchange_flag(&mut taker, 2, FileFlag::Free, taken),
+        Some(false),
+    );
     same(rt, fill_slot(&mut sender, 0, 0, 2), Some(true));
     same(rt, fill_slot(&mut sender, 0, 0, 1), Some(false));
     same(rt, exchange_flag(&mut taker, 2, sent, taken), Some(false));
     same(rt, exchange_flag(&mut sender, 2, held, sent), Some(true));
-    same(rt, slot(&mut taker, 0), Some(Slot::Message { lap: 0, bucket: 2 }));
+    same(
+        rt,
+        slot(&mut taker, 0),
+        Some(Slot::Message { lap: 0, bucket: 2 }),
+    );
     same(rt, exchange_flag(&mut taker, 2, sent, taken), Some(true));
     same(rt, exchange_flag(&mut sender, 2, sent, held), Some(false));
     same(rt, flag(&mut sender, 2), Some(taken));
