@@ -1,8 +1,8 @@
 -- The operations on the words of a file as steps of the machine: what a process does to the file by
 -- the events of its log is what the machine's process does by its steps.
 pub use Rattle.bb_memory_file.specs.FileLog.{EmptySlot, Event, ExchangeFlag, ExchangeSlot, FileLog, Has, HasNot, Holds, Known, LoadEntry, LoadFlag, LoadLife, LoadSlot, MissFlag, MissSlot, Seen, StoreEntry, StoreFlag, StoreLife, Unknown, Unseen, known_of, life_by, told}
-use Rattle.bb_memory_file_machine.specs.FileLaws.{IsEntry, IsFlag, IsHolder, IsIn, IsLife, IsLock, IsSlot}
 use Rattle.bb_memory_file.specs.FileNames.{Empty, Entry, FileStep, Message, Place, Refused}
+use Rattle.bb_memory_file_machine.specs.FileLaws.{IsEntry, IsFlag, IsHolder, IsIn, IsLife, IsLock, IsSlot}
 use Rattle.bb_memory_file_machine.specs.FileMachine.{FileMove, FileWords, is_flag, move_at, process_of, with_entry, with_flag, with_life, with_slot}
 use Rattle.std.specs.Prelude.{List, None, Option, Some, [], false, length, ℕ, ◌∷◌, ◌≡◌, ◌≢◌}
 

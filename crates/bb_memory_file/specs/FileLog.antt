@@ -1,8 +1,8 @@
 -- What one party has done to the words of a file, by single atomic operations, and what it knows of
 -- the words by that.
+use Rattle.bb_memory_file.specs.FileNames.{DetachedBy, Empty, Entry, FileFlag, Free, HeldBy, In, Message, Nowhere, SentTo, Slot}
 pub use Rattle.bb_memory_file.specs.declared.words.Event.{Event}
 pub use Rattle.bb_memory_file.specs.declared.words.Event.TheVariants.{EmptySlot, ExchangeFlag, ExchangeSlot, LoadEntry, LoadFlag, LoadLife, LoadSlot, MissFlag, MissSlot, StoreEntry, StoreFlag, StoreLife}
-use Rattle.bb_memory_file.specs.FileNames.{DetachedBy, Empty, Entry, FileFlag, Free, HeldBy, In, Message, Nowhere, SentTo, Slot}
 use Rattle.bb_memory_file_machine.specs.FileMachine.{FileScene, same_flag}
 use Rattle.std.specs.Prelude.{Bool, List, None, Option, Some, [], false, if◌then◌else◌, true, ℕ, ◌<◌, ◌==◌, ◌^◌, ◌∷◌, ◌≡◌}
 

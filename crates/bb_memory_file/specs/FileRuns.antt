@@ -6,10 +6,10 @@
 use Rattle.bb_memory_file.specs.FileCode.{Event, Finds, Path}
 use Rattle.bb_memory_file.specs.FileCode as code
 use Rattle.bb_memory_file.specs.FileLog.{FileLog, fresh_log}
+use Rattle.bb_memory_file.specs.FileNames.{Counting, Dead, FileStep, Flags, Kill, Lock, Outside, Place, Refused, Release, Settled, Unlock}
 use Rattle.bb_memory_file_machine.specs.FileLaws.{IsLock, IsPlace}
-use Rattle.bb_memory_file.specs.FileNames.{Counting, Dead, FileStep, Flags, Kill, Lock, Outside, Place, Release, Settled, Unlock}
-use Rattle.bb_memory_file_machine.specs.FileMachine.{FileScene, FileWords, left_by, opening_state, process_of, with_lock}
-use Rattle.std.specs.Prelude.{List, None, Some, [], if◌then◌else◌, map, slice_get, ℕ, ◌++◌, ◌<◌, ◌==◌, ◌∷◌, ◌≡◌, ◌⊎◌}
+use Rattle.bb_memory_file_machine.specs.FileMachine.{FileScene, FileWords, left_by, opening_state, outcomes_of, process_of, with_lock}
+use Rattle.std.specs.Prelude.{Contains, List, None, Some, [], if◌then◌else◌, map, slice_get, ℕ, ◌++◌, ◌<◌, ◌==◌, ◌∷◌, ◌≡◌, ◌⊎◌}
 
 -- ACTS
 
@@ -99,9 +99,11 @@ steps_of process (step ∷ steps) =
     if process_of step == process then steps_of process steps ++ step ∷ [] else steps_of process steps
 
 -- Some steps of the machine, from the opening, leave the words and locks that the run leaves, and bring
--- each process to its place. Those of each process are the steps of its life, in order.
+-- each process to its place. None is refused, and those of each process are the steps of its life, in
+-- order.
 pub record IsMachines (scene : FileScene) (acts : List Act) (taken : ℕ → List FileStep) (places : ℕ → Place) : Type 0 where
   pub steps : List FileStep
+  pub allowed : ¬ Contains (outcomes_of (opening_state scene) steps) Refused
   pub words : (left_by scene steps).words ≡ words_after scene acts
   pub processes : (process : ℕ) → process < scene.processes → IsPlace (left_by scene steps) process (places process)
   pub own : (process : ℕ) → process < scene.processes → steps_of process steps ≡ taken process

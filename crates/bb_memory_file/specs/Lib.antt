@@ -8,4 +8,5 @@ pub mod FileParties
 pub mod FileRecords
 pub mod FileRows
 pub mod FileRuns
+pub mod FileSettlers
 pub mod Recorded

@@ -45,5 +45,4 @@ pub fn processes_law()
     ensures path { (processes process : ℕ) (before log : FileLog) (from there : Place) (taken : List FileStep)
         → Path process before from log taken there
         → Path process (among processes before) from (among processes log) taken there }
-{
-}
+{}

@@ -8,7 +8,10 @@ use bb_memory_file_machine::steps::{Entry, FileFlag, Slot};
 #[derive(Debug, Clone, Copy, PartialEq, Eq)]
 pub enum Event {
     /// A load of a bucket's flag found this flag.
-    LoadFlag { bucket: u32, found: FileFlag },
+    LoadFlag {
+        bucket: u32,
+        found: FileFlag,
+    },
     /// An exchange of a bucket's flag found the first flag, and stored the second.
     ExchangeFlag {
         bucket: u32,
@@ -16,25 +19,54 @@ pub enum Event {
         to: FileFlag,
     },
     /// An exchange of a bucket's flag didn't find this flag, and stored nothing.
-    MissFlag { bucket: u32, from: FileFlag },
+    MissFlag {
+        bucket: u32,
+        from: FileFlag,
+    },
     /// This flag was stored.
-    StoreFlag { bucket: u32, to: FileFlag },
+    StoreFlag {
+        bucket: u32,
+        to: FileFlag,
+    },
     /// A load of a bucket's entry found this entry.
-    LoadEntry { bucket: u32, found: Entry },
+    LoadEntry {
+        bucket: u32,
+        found: Entry,
+    },
     /// This entry was stored.
-    StoreEntry { bucket: u32, to: Entry },
+    StoreEntry {
+        bucket: u32,
+        to: Entry,
+    },
     /// A load of a slot's word found this word.
-    LoadSlot { slot: u32, found: Slot },
+    LoadSlot {
+        slot: u32,
+        found: Slot,
+    },
     /// An exchange of a slot's word found the first word, and stored the second.
-    ExchangeSlot { slot: u32, from: Slot, to: Slot },
+    ExchangeSlot {
+        slot: u32,
+        from: Slot,
+        to: Slot,
+    },
     /// An exchange of a slot's word didn't find this word, and stored nothing.
-    MissSlot { slot: u32, from: Slot },
+    MissSlot {
+        slot: u32,
+        from: Slot,
+    },
     /// The word of an empty slot at the lap `next` was stored.
-    EmptySlot { slot: u32, next: u32 },
+    EmptySlot {
+        slot: u32,
+        next: u32,
+    },
     /// A load of the life of the party's number found this life.
-    LoadLife { found: u64 },
+    LoadLife {
+        found: u64,
+    },
     /// This life of the party's number was stored.
-    StoreLife { to: u64 },
+    StoreLife {
+        to: u64,
+    },
 }
 
 /// The words of a file, as one party of this process changes them. Each call that takes a `&mut` is
