@@ -218,6 +218,7 @@ PLACES = (
             BUMP: {"for": 1, "..": 1},
             BUMP + "/meeting": {"for": 2, "..": 2, "while": 1},
             BUMP + "/request": {"loop": 1},
+            FILE + "calls": {"for": 2, "..": 2},
             C + "detached": {"for": 2, "iter_mut": 1},
             C + "shared_pool": {"for": 3, "..": 5, "|": 1},
             C_CALLS + "call": {"for": 2, "iter_mut": 1},
