@@ -3,6 +3,7 @@ ghost use Rattle.bb_memory_file.specs.FileLog.{IsLap, IsSaid};
 ghost use Rattle.std.specs.Prelude.{IfOk, ◌<◌, ◌≡◌};
 
 use super::checks::{check, same};
+use bb_memory_file::calls::{Taken, allocate, join, leave, post, take};
 use bb_memory_file::geometry::FileGeometry;
 use bb_memory_file::party::FileParty;
 use bb_memory_file::table::FileTable;
@@ -103,6 +104,24 @@ fn count(party: &mut FileParty) -> u64 {
     }
     party.store_life(life + 1);
     life
+}
+
+/// Posts a message of 7 bytes in the first free bucket, if there are such a slot and bucket. Returns the
+/// bucket if the slot was empty.
+fn post_first(party: &mut FileParty, slot: u32) -> Option<u32> {
+    if slot >= party.slots() {
+        return None;
+    }
+    let bucket = allocate(party, 0)?;
+    post(party, slot, bucket, 7).then_some(bucket)
+}
+
+/// Takes the message in a slot, if there is one.
+fn take_from(party: &mut FileParty, slot: u32) -> Option<Taken> {
+    if slot >= party.slots() {
+        return None;
+    }
+    Some(take(party, slot, 100))
 }
 
 /// Takes a value that several threads may use at the same time.
@@ -266,6 +285,32 @@ fn a_bucket_goes_to_another_party(rt: HostRuntime) {
     same(rt, exchange_flag(&mut taker, 2, sent, taken), Some(true));
     same(rt, exchange_flag(&mut sender, 2, sent, held), Some(false));
     same(rt, flag(&mut sender, 2), Some(taken));
+}
+
+/// The taker leaves before it is done, so the message is taken once more.
+#[test]
+fn a_message_goes_to_another_party(rt: HostRuntime) {
+    let rt = &rt;
+    let table = made(rt, [0; 9]);
+    let mut sender = party(rt, &table, 0);
+    check(rt, join(&mut sender));
+    same(rt, sender.load_life(), 3);
+    same(rt, post_first(&mut sender, 0), Some(0));
+    same(rt, post_first(&mut sender, 0), None);
+    let mut taker = party(rt, &table, 1);
+    check(rt, join(&mut taker));
+    let message = Taken::Message {
+        bucket: 0,
+        length: 7,
+    };
+    same(rt, take_from(&mut taker, 0), Some(message));
+    same(rt, take_from(&mut taker, 0), Some(Taken::NotSent));
+    same(rt, leave(&mut taker), 0);
+    let mut last = party(rt, &table, 1);
+    check(rt, join(&mut last));
+    same(rt, take_from(&mut last, 0), Some(message));
+    same(rt, leave(&mut sender), 1);
+    same(rt, sender.load_life(), 4);
 }
 
 #[test]
