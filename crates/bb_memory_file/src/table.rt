@@ -3,7 +3,7 @@ ghost use Rattle.bb_memory_file.specs.FileFormat.{IsGeometry};
 ghost use Rattle.bb_memory_file.specs.FileLog.{fresh_log};
 ghost use Rattle.bb_memory_file.specs.FileParties.{log_of, scene_of};
 ghost use Rattle.std.specs.Arc.{arc_value};
-ghost use Rattle.std.specs.Prelude.{IfOk, length, ◌<◌, ◌≡◌};
+ghost use Rattle.std.specs.Prelude.{IfOk, IfSome, length, ◌<◌, ◌≡◌};
 
 use crate::geometry::FileGeometry;
 use crate::party::FileParty;
@@ -20,7 +20,7 @@ pub struct FileTable {
 }
 
 impl FileTable {
-    /// Makes the words of a file of this geometry, which begin as these.
+    /// Makes the words of a file of this geometry, which begin as these. Fails if memory runs out.
     pub fn new(
         alloc: Global,
         words: &[u64],
@@ -44,16 +44,17 @@ impl FileTable {
     }
 
     /// Makes a party of this number, whose log is empty. The caller has just taken the lock of the
-    /// number, and has it as long as the party operates.
-    pub fn party(&self, number: u32) -> Result<FileParty, AllocError>
+    /// number, and has it as long as the party operates. Returns None if there are too many parties to
+    /// count.
+    pub fn party(&self, number: u32) -> Option<FileParty>
         requires { number < self.now.geometry.parties }
-        ensures { IfOk result (λ party. log_of party ≡ fresh_log (scene_of self.now.geometry) number) }
+        ensures { IfSome result (λ party. log_of party ≡ fresh_log (scene_of self.now.geometry) number) }
     {
         let Ok(words) = Arc::try_clone(&self.words) else {
-            return Err(AllocError);
+            return None;
         };
         let hand = words.hand();
-        Ok(FileParty {
+        Some(FileParty {
             words,
             hand,
             geometry: self.geometry,

@@ -47,8 +47,8 @@ fn made(rt: &(impl Abort + AllocGlobal), words: [u64; 9]) -> FileTable
 fn party(rt: &impl Abort, table: &FileTable, number: u32) -> FileParty
     requires { number < table.now.geometry.parties }
 {
-    let party = table.party(number).ok();
-    party.expect(rt, "there is memory for a party")
+    let party = table.party(number);
+    party.expect(rt, "there are few parties")
 }
 
 /// Loads the flag of a bucket, if there is one.
