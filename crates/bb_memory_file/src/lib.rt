@@ -1,0 +1,18 @@
+//! The calls on the words of a pool in a file. They are written over single atomic operations, and
+//! each is proved to make the steps of the file machine.
+//!
+//! - `words`: the atomic operations
+//! - `calls`: the calls
+//! - `geometry`, `table`, `party`: the words of a file in one row, with the parties that operate on them
+//! - `laws`: what the calls and the row of words have to do with the machine
+#![tactic(auto)]
+
+pub mod calls;
+mod format;
+pub mod geometry;
+pub mod laws;
+pub mod party;
+mod party_words;
+mod recorded;
+pub mod table;
+pub mod words;
