@@ -1,6 +1,5 @@
-// Calls what the library exports of the functions that the headers define inline, as a program in
-// another language does: the declarations are its own, and no header is included. Prints the
-// version.
+// Calls the exported forms of the functions that the headers define inline, as a program in another
+// language does: the declarations are its own, and no header is included. Prints the version.
 #include <stdbool.h>
 #include <stddef.h>
 #include <stdint.h>
