@@ -1,6 +1,6 @@
-// Makes `CALLS` allocations and the same number of frees with each allocator, and `GROUPS` calls for
-// `GROUP` buckets each. So `count` can count with callgrind how many instructions a call executes.
-// The argument is the number of buckets that a party caches.
+// Makes `CALLS` allocations and the same number of frees with each allocator, and `GROUPS` calls
+// for `GROUP` buckets each. So `count` can count with callgrind how many instructions a call
+// executes. The argument is the number of buckets that a party caches.
 #define BB_PLACES_ARE_NUMBERS
 #include <bb_memory.h>
 #include <stdlib.h>
@@ -77,8 +77,8 @@ static void call_pool_for_many(void) {
     }
 }
 
-// One party allocates buckets, and frees them or sends them by their numbers, and the other one then
-// frees them.
+// One party allocates buckets, and frees them, or sends them by their numbers to the other one,
+// which frees them.
 static void call_parties_for_many(void) {
     bb_shared_pool pool = BB_EMPTY;
     bb_pool_party sender = BB_EMPTY;

@@ -1,6 +1,6 @@
 // `exported FILE` calls the exported forms of the functions that the headers define inline, as a
-// program in another language does: the declarations are its own, and no header is included. Makes a
-// pool in FILE. Prints the version.
+// program in another language does: the declarations are its own, and no header is included. It
+// makes a pool in FILE, and prints the version.
 #include <stdbool.h>
 #include <stddef.h>
 #include <stdint.h>
