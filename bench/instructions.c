@@ -1,6 +1,6 @@
-// Makes `CALLS` allocations and the same number of frees with each allocator, so that `count` can
-// count with callgrind how many instructions a call executes. The argument is the number of buckets
-// that a party caches.
+// Makes `CALLS` allocations and the same number of frees with each allocator, and `GROUPS` calls
+// for `GROUP` buckets each. So `count` can count with callgrind how many instructions a call
+// executes. The argument is the number of buckets that a party caches.
 #define BB_PLACES_ARE_NUMBERS
 #include <bb_memory.h>
 #include <stdlib.h>
@@ -8,6 +8,8 @@
 enum {
     CALLS = 1000,
     BURST = 8,
+    GROUP = 32,
+    GROUPS = 125,
     START = 4096,
     BUCKETS = 64,
 };
@@ -60,9 +62,46 @@ static void call_party(uint32_t cached) {
     }
 }
 
+static void expect_all(bb_number result) {
+    if (result.code != BB_OK || result.number != GROUP)
+        abort();
+}
+
+static void call_pool_for_many(void) {
+    bb_pool pool = BB_EMPTY;
+    size_t taken[GROUP];
+    expect(bb_pool_init(&pool, 128, 8, START, BUCKETS * 128));
+    for (int group = 0; group < GROUPS; group++) {
+        expect_all(bb_pool_take_many(&pool, taken, GROUP));
+        expect_all(bb_pool_deallocate_many(&pool, taken, GROUP));
+    }
+}
+
+// One party allocates buckets, and frees them, or sends them by their numbers to the other one,
+// which frees them.
+static void call_parties_for_many(void) {
+    bb_shared_pool pool = BB_EMPTY;
+    bb_pool_party sender = BB_EMPTY;
+    bb_pool_party receiver = BB_EMPTY;
+    size_t taken[GROUP];
+    uint32_t sent[GROUP];
+    expect(bb_shared_pool_init(&pool, 128, 8, START, BUCKETS * 128, 2));
+    expect(bb_shared_pool_join(&pool, &sender));
+    expect(bb_shared_pool_join(&pool, &receiver));
+    const uint32_t from = (uint32_t)bb_pool_party_number(&sender).number;
+    for (int group = 0; group < GROUPS; group++) {
+        expect_all(bb_pool_party_take_many(&sender, taken, GROUP));
+        expect_all(bb_pool_party_deallocate_many(&sender, taken, GROUP));
+        expect_all(bb_pool_party_take_many_detached(&sender, sent, GROUP));
+        expect_all(bb_pool_party_return_many(&receiver, sent, GROUP, from));
+    }
+}
+
 int main(int argc, char **argv) {
     call_bump();
     call_one_chunk();
     call_pool();
+    call_pool_for_many();
+    call_parties_for_many();
     call_party(argc > 1 ? (uint32_t)atoi(argv[1]) : 0);
 }

@@ -175,7 +175,7 @@ class OtherTarget:
         program = self.work / "exported"
         source = self.crate / "tests/exported.c"
         self.compile(["-std=c99", *FLAGS, *flags, "-o", program, source, archive])
-        self.run(program)
+        self.run(program, [self.work / "exported.pool"])
 
     def run_examples(self) -> None:
         """Builds and runs the examples, over both libraries."""

@@ -651,7 +651,7 @@ unique<T, bb_pool_party> attach_number(bb_pool_party *to, std::uint32_t number,
 
 namespace detail {
 
-// What all resources have: the handle, the upstream resource, and where the handle's memory lies.
+// The base of all resources: the handle, the upstream resource, and where the handle's memory lies.
 template<class Handle>
 class resource : public std::pmr::memory_resource {
 protected:

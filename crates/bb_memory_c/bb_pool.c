@@ -38,7 +38,7 @@ static const char USAGE[] =
     "\n"
     "The status is 0, or 1 if the file can't be opened, or 2 if the arguments are wrong.\n";
 
-// What one look at the pool's parties has found.
+// The parties of the pool, as one look has found them.
 struct parties {
     bool *alive;
     uint32_t *held;

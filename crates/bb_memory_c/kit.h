@@ -1,15 +1,15 @@
-// What compiled Rattle code calls of C: the functions of the kit's libc/src/heap.rt and
+// The functions of C that compiled Rattle code calls: those of the kit's libc/src/heap.rt and
 // os/src/c.rt. The kit has them only as objects for x86-64. kit.c has those of the library, and
-// kit_program.c what a program such as memrun needs besides. They serve every processor, and are
-// outside the proofs, as the kit's objects are.
+// kit_program.c those that a program such as memrun needs besides. They serve every processor, and
+// are outside the proofs, as the kit's objects are.
 #ifndef BB_MEMORY_KIT_H
 #define BB_MEMORY_KIT_H
 
 #include <stdbool.h>
 #include <stddef.h>
 
-// Whether there is memory, and its address. If there is none, that is the address of a byte that
-// nobody uses.
+// The result of a request: whether there is memory, and its address. If there is none, that is the
+// address of a byte that nobody uses.
 struct tried {
     bool ok;
     void *place;

@@ -1,4 +1,4 @@
-// What compiled Rattle programs need besides kit.c: kit.h.
+// The functions that compiled Rattle programs need besides those of kit.c: kit.h.
 
 // For `sigaction` in C99.
 #define _POSIX_C_SOURCE 200809L

@@ -303,15 +303,10 @@ impl Drop for Detached<'_> {
     fn drop(&mut self) {
         let common = lock(&self.pool);
         let Some(keeper) = &common.keeper else { return };
-        // SAFETY: the functions are of this kind, no other call has the handle, and the owner of
-        // this bucket doesn't use it anymore.
-        unsafe {
-            let attached =
-                ffi::bb_pool_party_attach_number(keeper.handle(), self.number, self.from);
-            if attached.code == ffi::OK {
-                let _ = ffi::bb_pool_party_deallocate(keeper.handle(), attached.place);
-            }
-        }
+        // SAFETY: the function is of this kind, no other call has the handle, and the owner of this
+        // bucket doesn't use it anymore.
+        let _ =
+            unsafe { ffi::bb_pool_party_return_number(keeper.handle(), self.number, self.from) };
     }
 }
 

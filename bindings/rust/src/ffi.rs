@@ -1,6 +1,6 @@
 //! The functions of `bb_memory.h` that this crate calls. [`crate::owned`] keeps the rules that the
 //! header has for a caller.
-use core::ffi::c_void;
+use core::ffi::{c_char, c_void};
 use core::ptr;
 
 /// A handle: the kinds have the same fields.
@@ -137,6 +137,7 @@ pub type AllocateMemory = unsafe extern "C" fn(*mut c_void, usize, usize) -> *mu
 pub type ReleaseMemory = unsafe extern "C" fn(*mut c_void, *mut c_void);
 
 unsafe extern "C" {
+    pub safe fn bb_version() -> *const c_char;
     pub fn bb_use_memory(allocate: AllocateMemory, release: ReleaseMemory, context: *mut c_void);
 }
 

@@ -20,7 +20,7 @@ pub use error::{
     DetachError, InitError, JoinError, ResetError,
 };
 pub use ffi::{BumpInfo, OneChunkInfo, PoolInfo};
-pub use owned::use_memory;
+pub use owned::{use_memory, version};
 pub use owners::{BumpAllocator, OneChunkAllocator, PoolAllocator};
 pub use pool_file::{
     Bucket, FileHolder, Message, PartyId, PoolFile, PoolFileError, PoolFileInfo, PoolFileOptions,

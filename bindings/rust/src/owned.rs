@@ -4,7 +4,7 @@ use crate::error::{AllocationError, InitError, JoinError, no_such_answer};
 use crate::ffi::{self, Handle};
 use core::alloc::Layout;
 use core::cell::UnsafeCell;
-use core::ffi::c_void;
+use core::ffi::{CStr, c_void};
 use core::marker::PhantomData;
 use core::mem::MaybeUninit;
 use core::ops::Deref;
@@ -12,6 +12,15 @@ use core::ptr::NonNull;
 use core::slice;
 use std::alloc;
 use std::sync::{Arc, Mutex, MutexGuard, PoisonError};
+
+/// Returns the version of the C library that this program runs with, such as `"1.0.1"`. A shared
+/// library may be newer than the one that the program was linked with.
+#[must_use]
+pub fn version() -> &'static str {
+    // SAFETY: the library returns a static text.
+    let text = unsafe { CStr::from_ptr(ffi::bb_version()) };
+    text.to_str().expect("a version is ASCII")
+}
 
 /// Makes the library call `allocate` instead of `malloc`, and `release` instead of `free`. Each of
 /// them gets `context` as its first parameter.

@@ -136,7 +136,7 @@ pub struct PoolFileInfo {
     pub wrong: u32,
 }
 
-/// What a reap frees besides the buckets that dead parties held.
+/// The buckets that a reap frees besides those that dead parties held.
 #[derive(Clone, Copy, Debug, PartialEq, Eq)]
 pub enum Reap {
     /// Nothing else.

@@ -44,3 +44,8 @@ fn the_library_asks_the_functions_that_are_named() {
     drop((party, pool));
     assert_eq!(BLOCKS.load(Ordering::SeqCst), 0);
 }
+
+#[test]
+fn the_library_has_the_version_of_the_crate() {
+    assert_eq!(bb_memory::version(), env!("CARGO_PKG_VERSION"));
+}

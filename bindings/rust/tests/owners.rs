@@ -84,7 +84,7 @@ fn a_bump_returns_a_value_that_has_no_room() {
     assert_eq!(bump.alloc_str("a text of 17 byte"), Err(AllocationError::OutOfMemory));
     assert_eq!(bump.used_space(), 0);
     assert_eq!(bump.alloc_slice_copy(&[7u8; 16]), Ok(&mut [7u8; 16][..]));
-    // What has no bytes needs no room.
+    // A value without bytes needs no room.
     assert!(bump.alloc(()).is_ok());
     assert_eq!(bump.alloc_str(""), Ok(&mut *String::new()));
     let empty: &mut [u64] = bump.alloc_slice_copy(&[]).unwrap();

@@ -144,7 +144,7 @@ fn one_party_gets_the_bucket_of_a_number() {
     let seen = file.look(0).unwrap().unwrap();
     assert!(matches!(receiver.attach(seen.number), Err(PoolFileError::NotDetached)));
     receiver.take(0).unwrap().unwrap().done();
-    // What a party had detached that has left is freed by a reap.
+    // A bucket that a party had detached which has left is freed by a reap.
     let number = receiver.bucket().unwrap().detach();
     drop(receiver);
     assert_eq!(file.reap(Reap::Dead).unwrap(), 0);

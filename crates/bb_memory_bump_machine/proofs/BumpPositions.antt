@@ -1,4 +1,4 @@
--- What a log says about the position.
+-- Lemmas about the position that a log shows.
 use Rattle.bb_memory_bump_machine.proofs.BumpAllowed.{first_allowed, no_clear_when_allowed, rest_allowed}
 use Rattle.bb_memory_bump_machine.proofs.BumpRuns.{calls_stand, chunk_at-above}
 use Rattle.bb_memory_bump_machine.proofs.BumpSteps.{StepView, clears, exchanges, passes, reads, sees, step_view, wins}

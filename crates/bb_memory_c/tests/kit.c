@@ -1,4 +1,4 @@
-// What kit.c and kit_program.c do for compiled Rattle code, also if there is no memory.
+// Tests of kit.c and kit_program.c, also if there is no memory.
 #define _POSIX_C_SOURCE 200809L
 
 #include <errno.h>

@@ -1,11 +1,10 @@
-// What memory.c does with requests, releases and loans, also with those that the library doesn't
-// make today.
+// Tests of memory.c: requests, releases and loans, also those that the library doesn't make today.
 #include "../memory.c"
 
 #include <stdint.h>
 #include <stdio.h>
 
-// What the host's functions got.
+// The requests that reached the host's functions.
 struct host {
     unsigned allocated;
     unsigned released;

@@ -60,8 +60,9 @@ another party other apart same = apart (cc)
 
 -- WHAT OTHER PROCESSES DO
 
--- What a party, whose lock a process has, rests on while other processes take steps: the lock stays,
--- and the party's buckets stay its own, with their entries and the words of the slots that have them.
+-- The facts on which a party, whose lock a process has, rests while other processes take steps: the
+-- lock stays, and the party's buckets stay its own, with their entries and the words of the slots
+-- that have them.
 pub record Rests (words later : FileWords) (party process : ℕ) : Type 0 where
   pub lock : IsLock later party process
   pub kept : (bucket : ℕ) → IsHolder words bucket party → IsHolder later bucket party

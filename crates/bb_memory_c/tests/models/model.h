@@ -1,6 +1,6 @@
-// What the models of this folder share. A model is written from the words of bb_memory.h only: it
-// keeps what the words say about a handle, and compares each result of the library with that. Sums
-// have 128 bits. The places are only numbers: there is no memory at them.
+// The parts that the models of this folder share. A model is written from the words of bb_memory.h
+// only: it keeps what the words say about a handle, and compares each result of the library with
+// that. Sums have 128 bits. The places are only numbers: there is no memory at them.
 #ifndef MODEL_H
 #define MODEL_H
 

@@ -47,7 +47,7 @@ typedef struct {
     a_bucket bucket[MOST];
 } a_pool;
 
-// What a `bb_detached` has.
+// A `bb_detached`, and the bucket that is in it.
 typedef struct {
     bool made;
     uint32_t pool;

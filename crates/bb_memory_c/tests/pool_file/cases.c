@@ -67,7 +67,7 @@ static void expect(bool holds, const char *what, int line) {
 static size_t requested;
 static size_t most = MOST_BYTES;
 
-// Whether the file system allocates pages, or only says so.
+// False if the file system only says that it allocates pages.
 static bool allocates = true;
 
 int fstatfs(int fd, struct statfs *to) {
@@ -163,7 +163,7 @@ static bool intrudes_on;
 static unsigned char *others[200];
 static uint32_t others_count;
 
-// Whether the system knows the flag MAP_FIXED_NOREPLACE. Before Linux 4.17 it doesn't.
+// False if the system doesn't know the flag MAP_FIXED_NOREPLACE, as before Linux 4.17.
 static bool knows_the_flag = true;
 
 // Which files in memory the system refuses to make, for the error, or 0.
@@ -209,7 +209,7 @@ int memfd_create(const char *name, unsigned flags) {
     return memfd_error == 0 ? (int)syscall(SYS_memfd_create, name, flags) : -1;
 }
 
-// What the system says of a file: as it is, without pages, or with all pages.
+// The pages that the system reports for a file: as it is, none, or all.
 static enum {
     AS_IT_IS,
     NO_PAGES,
@@ -595,8 +595,8 @@ static void become_nobody(void) {
     EXPECT(setgid(65534) == 0 && setuid(65534) == 0);
 }
 
-// What a child returns that opens the file as this user, with this group as its own, and another
-// one as a further group.
+// Returns the code that a child gets which opens the file as this user, with this group as its own,
+// and another one as a further group.
 static uint32_t code_as(uid_t user, gid_t group, gid_t further, mode_t mode) {
     bb_pool_file_options options = OPTIONS;
     int status;
@@ -1564,7 +1564,7 @@ static void undone(uint32_t most_cached) {
     EXPECT(info_of(file).full_slots == 1 && bb_pool_file_look(file, 1).code == BB_DETACHED_EMPTY);
     EXPECT(bb_pool_file_look(file, 0).len == 6 && strcmp(message.place, "hello") == 0);
     EXPECT(bb_pool_file_take(file, sender, 0).code == BB_NOT_HELD);
-    // What isn't in a slot is freed and posted all the same, and so is the bucket once it is done.
+    // A bucket in no slot is freed and posted all the same, and so is this one once it is done.
     EXPECT(bb_pool_file_post(file, party, 1, after, 7) == BB_OK && held_by(party) == 1);
     EXPECT(bb_file_party_deallocate(sender, take_one(sender)) == BB_OK);
     EXPECT(bb_pool_file_done(file, party, 0) == BB_OK && held_by(party) == 1);
@@ -1912,13 +1912,13 @@ static void by_number(void) {
     EXPECT(bb_pool_file_attach(two, a, number).code == BB_NOT_HELD);
     close_it(two);
     EXPECT(info_of(one).held == 0);
-    // What a living party has detached stays so.
+    // A bucket that a living party has detached stays so.
     bucket = take_one(sender);
     EXPECT(bb_pool_file_detach(one, sender, bucket).code == BB_OK);
     two = open_it();
     EXPECT(reap(two, BB_REAP_DEAD | BB_REAP_LEFT) == 0 && info_of(two).detached == 1);
     close_it(one);
-    // What a party has detached that left since is freed only by BB_REAP_LEFT.
+    // A bucket that a party has detached which left since is freed only by BB_REAP_LEFT.
     EXPECT(reap(two, BB_REAP_HELD) == 0 && reap(two, BB_REAP_DEAD) == 0);
     EXPECT(info_of(two).detached == 1);
     EXPECT(reap(two, BB_REAP_LEFT) == 1 && info_of(two).detached == 0);
@@ -2143,7 +2143,7 @@ static void ping(void) {
     remove_it();
 }
 
-// What has to wake a process that waits: it is made ready before the process sleeps, and done then.
+// An act that has to wake a process that waits: it is prepared before the process sleeps.
 struct waking {
     uint32_t (*wait)(bb_pool_file *, uint32_t, uint32_t);
     uint32_t slot;
@@ -2464,7 +2464,7 @@ static void see_slot(bb_pool_file *file, uint32_t slot, uint32_t code) {
         usleep(1000);
 }
 
-// What wakes one of them, in the round with this number.
+// Wakes one of them, in the round with this number.
 static void post_in_round(bb_pool_file *file, bb_file_party *party, uint32_t round) {
     see_slot(file, round % 4, BB_DETACHED_EMPTY);
     post_into(file, party, round % 4);
@@ -2598,7 +2598,7 @@ static void watched(void) {
     EXPECT((fcntl(fd, F_GETFD) & FD_CLOEXEC) != 0 && other != fd);
     EXPECT(bb_pool_file_arm(file, fd, 4) == BB_INVALID_ARGUMENT);
     EXPECT(bb_pool_file_arm(file, -1, 0) == BB_FILE_SYSTEM && errno == EBADF);
-    // It is readable for the armed slot, and not for others, until it is armed again.
+    // The descriptor is readable for the armed slot, and not for others, until it is armed again.
     post_into(file, party, 0);
     EXPECT(!is_readable(fd, 0));
     arm(file, fd, 1);
@@ -2903,7 +2903,7 @@ static void forked(void) {
     if (child == 0) {
         for (size_t at = 0; at < size; at += page)
             EXPECT(mincore(first + at, page, pages) != 0 && errno == ENOMEM);
-        // What the child maps there stays its own when it closes the file.
+        // A mapping that the child makes there stays its own when it closes the file.
         EXPECT(system_mmap(first, page, PROT_READ | PROT_WRITE,
                            MAP_PRIVATE | MAP_ANONYMOUS | MAP_FIXED_NOREPLACE, -1, 0) == first);
         bb_pool_file_figures figures;

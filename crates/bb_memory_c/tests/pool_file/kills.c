@@ -48,13 +48,13 @@ static const bb_pool_file_options OPTIONS = {.bucket_size = SIZE,
                                              .slots = SLOTS,
                                              .mode = 0};
 
-// What a thread posts: how many messages it has begun to post, and how many it has posted.
+// The messages of a thread: how many it has begun to post, and how many it has posted.
 struct sent {
     uint32_t begun;
     uint32_t posted;
 };
 
-// What the driver and the workers count, in a memfd.
+// The counts of the driver and of the workers, in a memfd.
 struct counts {
     uint64_t wrong;
     uint64_t takings;
@@ -599,13 +599,13 @@ static void leave_dead_party(void) {
     EXPECT(waitpid(child, NULL, 0) == child);
 }
 
-// What an operation has before it begins.
+// The bucket, or its number, that an operation has before it begins.
 struct prepared {
     bb_place place;
     uint32_t number;
 };
 
-// What NOTES_TAKE, NOTES_LOOK or NOTES_OPEN has noted, in shared memory.
+// The note of NOTES_TAKE, NOTES_LOOK or NOTES_OPEN, in shared memory.
 static uint32_t *noted;
 
 static struct prepared prepare(int what, uint32_t number) {

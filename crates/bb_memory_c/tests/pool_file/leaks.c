@@ -406,7 +406,7 @@ int main(int argc, char **argv) {
     EXPECT(argc == 2);
     snprintf(path, sizeof path, "%s/bb-leaks-%d", argv[1], (int)getpid());
     bb_use_memory(allocate, release, NULL);
-    // What the C library keeps from its first calls isn't a leak.
+    // Memory that the C library keeps from its first calls isn't a leak.
     EXPECT(bb_pool_file_open(&file, path, &small) == BB_OK && bb_pool_file_close(file) == BB_OK);
     look(&before);
     // In the second round, addresses are a page further down. So in one round at least, the region

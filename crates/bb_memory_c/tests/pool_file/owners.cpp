@@ -17,7 +17,7 @@
 
 namespace {
 
-// Whether C++ has no memory left.
+// True if C++ has no memory left.
 bool is_out_of_memory = false;
 
 }  // namespace
@@ -51,7 +51,7 @@ struct alignas(16) aligned_order {
     order one;
 };
 
-// What the processes of this host share.
+// The bytes that the processes of this host share.
 struct shared {
     std::atomic<std::uint64_t> orders;
     std::atomic<std::uint32_t> clerks;
@@ -297,7 +297,7 @@ void run_in_any_order(const char *path) {
         done = second.take(1);
         EXPECT(bucket.code() == BB_OUT_OF_MEMORY && done.code() == BB_DETACHED_EMPTY);
         EXPECT(bb_file_party_holds(second.get(), places[18]).number == 1);
-        // What the party has given back isn't freed again by whoever had it.
+        // A bucket that the party has given back isn't freed again by whoever had it.
         EXPECT(second.give_all_back() == BB_OK && message.code() == BB_NOT_HELD);
         EXPECT(bb_file_party_take_many(second.get(), places, 20).number == 19);
         message = second.take(0);

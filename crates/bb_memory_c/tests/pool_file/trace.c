@@ -115,15 +115,15 @@ static const char *const NAMES[CALLS] = {
 
 // A call of a process, in memory that the process shares with this program.
 struct shared {
-    // What the process chose.
+    // The call that the process chose, and its arguments.
     enum call call;
     uint32_t party;
     uint32_t slot;
     uint32_t bucket;
     uint32_t len;
-    // What a reap with detached buckets frees.
+    // The detached buckets that a reap frees.
     uint32_t what;
-    // What the call returned.
+    // The result of the call.
     uint32_t code;
     uint32_t got;
     size_t got_len;
@@ -151,7 +151,7 @@ static uint32_t next(uint32_t *seed) {
 
 // PROCESSES
 
-// What a party has: for each bucket that it got and has not returned, whether it is in a slot.
+// A bucket as its party sees it: one that it got and has not returned may be in a slot.
 enum hand {
     NOTHING,
     OUT,
