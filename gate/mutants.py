@@ -416,7 +416,7 @@ def main(names: list[str]) -> None:
     built = libraries.libraries(workspace)
     with ExitStack() as locks:
         if built.work is None:
-            # What `./test` has built changes while it runs.
+            # The files that `./test` builds change while it runs.
             locks.enter_context(workspace.lock())
         found = Run(built, kept).judge_crates(names or list(workspace.crates))
     kept.remove_old()

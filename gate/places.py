@@ -32,7 +32,7 @@ SHARED = re.compile(r"bb_memory_(?:bump|c|c_calls|seats|shared_pools)/")
 # the depth of its calls, and so the stack that it needs, would follow from what callers pass.
 RECURSION = re.compile(r"crates/(bb_\w+/proofs/(?:.*/)?\+[^/]+)/.*")
 
-# What the libraries may name from crates outside this repository.
+# The names that the libraries may use from crates outside this repository.
 NAMED = frozenset(
     {
         "atomic_table::Join",
@@ -61,7 +61,7 @@ MODULE = re.compile(r"\bmod (\w+);")
 IMPORT = re.compile(r"\buse\s+([^;]+);")
 PATH = re.compile(r"(?<![\w:])(?:::\s*)?((?:std|core|alloc|atomic_table|thiserror)(?:::\w+)+)")
 
-# What may be called in the crates that threads share, besides the libraries' own functions.
+# The functions that may be called in the crates that threads share, besides the libraries' own.
 CALLED = frozenset(
     """
     close_with compare_exchange copied fill filter from_elem from_raw get

@@ -34,7 +34,7 @@ OF_MUTANT = (
 )
 # The traces of the code, the longest first.
 OF_CODE = (("duels", "7"), *reversed(OF_MUTANT))
-# What a mutant names instead of a program if only the machine refuses it.
+# The word that a mutant has instead of a program if only the machine refuses it.
 MACHINE = "machine"
 # The least number of instructions of each call that have to be stepped and compared.
 LEAST = 5000

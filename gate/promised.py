@@ -22,7 +22,8 @@ from gate import contracts, counts
 from gate.edits import Edit, Promise
 from gate.index import Definition, Index
 
-# What has no mutant. Each entry is a name in a line of its own; below it, indented, is the reason.
+# Promises without a mutant. Each entry is a name in a line of its own; below it, indented, is the
+# reason.
 EXCEPTIONS = "gate/promised.txt"
 HEADER = "crates/bb_memory_c/bb_memory.h"
 POOL_FILE_HEADER = "crates/bb_memory_c/bb_pool_file.h"

@@ -23,7 +23,7 @@ READ = (
     POOL + "stand_in.rt",
 )
 LINE = re.compile(r"([0-9a-f]{16})  (\S+)")
-# What to read before a new sum is written.
+# The advice on what to read before a new sum is written.
 TO_READ = (
     "read the whole file. Each call makes exactly the steps that its comment names, each once. No"
     " call waits, loops or retries, except as its comment says. No field is a new shared word"

@@ -22,7 +22,7 @@ MISNAMED = ROUND_UP.replace("layout::round_up", "layout::Layout::within")
 
 CRATE = "bb_memory_traits"
 WITHIN_PATH = f"{CRATE}::layout::Layout::within"
-# What a check says of an open goal, and of an answer that names what is gone.
+# The text of a check about an open goal, and about an answer that names what is gone.
 NOTE = "note: src/layout.rt:7:1: it is not proved that what the function ensures holds (`returns`)"
 NAME_IS_GONE = (
     "./proofs/layout/Layout/within/Answers.antt:3:4: error: `returns`: this has no field `next`\n"
