@@ -6,7 +6,7 @@
 #include <string.h>
 #include <unistd.h>
 
-#include "bb_pool_file.h"
+#include "pool_file.h"
 
 // The exit statuses besides 0.
 enum {
@@ -26,7 +26,8 @@ static const char USAGE[] =
     "Shows the shared pool in FILE: its figures, its parties, its full slots, and a map of its\n"
     "buckets. Each party is a letter, A for party 0, in lower case if the party is dead.\n"
     "\n"
-    "  --reap      first frees what dead parties hold; messages in slots stay\n"
+    "  --reap      first frees what dead parties hold; messages in slots stay. This needs the\n"
+    "              permission to write FILE; everything else needs only that to read it\n"
     "  --detached  with --reap: also frees what dead parties detached, if it is in no slot\n"
     "  --left      with --reap: the same for parties that have left\n"
     "  --watch     shows the pool every second, until it is interrupted\n"
@@ -274,10 +275,12 @@ int main(int argc, char **argv) {
         fputs(USAGE, stderr);
         return BAD_USAGE;
     }
-    // The user may look at any file that the system lets this process open.
+    // The user may look at any file that the system lets this process read, and reap in any file
+    // that it lets this process write.
     const bb_pool_file_options options = {.buckets = 0, .mode = 0666};
     bb_pool_file *file;
-    uint32_t code = bb_pool_file_open(&file, path, &options);
+    uint32_t code =
+        reaps ? bb_pool_file_open(&file, path, &options) : pool_file_open_to_look(&file, path);
     if (code != BB_OK)
         return fail(path, code);
     if (reaps)

@@ -138,6 +138,8 @@ struct bb_pool_file {
     // Locked by calls that join, leave or reap, and during a fork.
     pthread_mutex_t mutex;
     bb_pool_file *next;
+    // Whether this process may only read the file.
+    bool only_looks;
     // Whether this is a forked child's copy.
     bool is_copy;
 };
@@ -192,14 +194,22 @@ uint32_t pool_file_prepare(bb_pool_file *file, const char *path,
 // Returns whether a pool may have these options. NULL and options without figures are valid.
 bool pool_file_are_valid(const bb_pool_file_options *options);
 
-// Opens the file at the path, or makes an empty one. Returns its descriptor, or -1.
-int pool_file_open_path(const char *path, const bb_pool_file_options *options, mode_t mode);
+// Opens the file at the path, or makes an empty one. `access` is O_RDWR or O_RDONLY. Returns its
+// descriptor, or -1.
+int pool_file_open_path(const char *path, int access, const bb_pool_file_options *options,
+                        mode_t mode);
 
 // Returns a path of the open file.
 struct fd_path pool_file_path_of(int fd);
 
 // Opens the file anew. Two processes that have the same open file have the same locks.
 int pool_file_open_again(int fd);
+
+// Opens the pool in the file at `path` as `bb_pool_file_open` does, but only to read it, whoever
+// owns the file and may write it. Of the further calls, only `bb_pool_file_info`,
+// `bb_pool_file_holder`, `bb_pool_file_life`, `bb_pool_file_is_alive`, `bb_pool_file_look` and
+// `bb_pool_file_close` are allowed: others write the file, and crash. Only `bb-pool` calls this.
+uint32_t pool_file_open_to_look(bb_pool_file **file, const char *path);
 
 #pragma GCC visibility pop
 

@@ -408,7 +408,9 @@ uint32_t pool_file_prepare(bb_pool_file *file, const char *path,
     uint32_t code = path == NULL ? BB_OK : check_writers(&ours, mode);
     if (code != BB_OK)
         return code;
-    if (lock(file->fd, F_OFD_SETLK, F_WRLCK, LOCK_MAKE) != 0)
+    // A process that may only read the file makes none, and can't lock a byte for itself.
+    const short type = file->only_looks ? F_RDLCK : F_WRLCK;
+    if (lock(file->fd, F_OFD_SETLK, type, LOCK_MAKE) != 0)
         return errno == EAGAIN ? BUSY : BB_FILE_SYSTEM;
     if (path != NULL && stat(path, &there) != 0)
         return errno == ENOENT ? REPLACED : BB_FILE_SYSTEM;
@@ -431,8 +433,9 @@ bool pool_file_are_valid(const bb_pool_file_options *options) {
     return lay_out(&file) != 0;
 }
 
-int pool_file_open_path(const char *path, const bb_pool_file_options *options, mode_t mode) {
-    const int flags = O_RDWR | O_CLOEXEC | O_NOFOLLOW | O_NONBLOCK;
+int pool_file_open_path(const char *path, int access, const bb_pool_file_options *options,
+                        mode_t mode) {
+    const int flags = access | O_CLOEXEC | O_NOFOLLOW | O_NONBLOCK;
     const int fd = open(path, flags);
     if (fd >= 0 || errno != ENOENT || !says_figures(options))
         return fd;

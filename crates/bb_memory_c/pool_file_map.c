@@ -15,6 +15,7 @@
 #include "pool_file.h"
 
 #include <errno.h>
+#include <fcntl.h>
 #include <stdlib.h>
 #include <string.h>
 #include <sys/mman.h>
@@ -118,9 +119,9 @@ static bool reserve(bb_pool_file *file) {
 // Maps `size` bytes of the open file at this place, where this process has mapped nothing, or has
 // just unmapped what it had. If another thread has mapped something there since, it fails with
 // EEXIST. After a failure nothing there is of this function.
-static bool map_at(char *place, size_t size, int fd, off_t offset) {
+static bool map_at(char *place, size_t size, int protection, int fd, off_t offset) {
     const int flags = MAP_SHARED | MAP_FIXED_NOREPLACE;
-    char *pages = mmap(place, size, PROT_READ | PROT_WRITE, flags, fd, offset);
+    char *pages = mmap(place, size, protection, flags, fd, offset);
     if (pages == place)
         return true;
     // Linux before 4.17 doesn't know the flag, and maps them at another place.
@@ -140,7 +141,8 @@ static bool repeat(bb_pool_file *file, int fd, size_t part) {
     if (munmap(file->mapped, size) != 0)
         return false;
     for (size_t at = 0; at < size; at += part) {
-        if (map_at(file->mapped + at, smaller(part, size - at), fd, 0))
+        const size_t length = smaller(part, size - at);
+        if (map_at(file->mapped + at, length, PROT_READ | PROT_WRITE, fd, 0))
             continue;
         const size_t all = mapped_size(file);
         if (at > 0)
@@ -207,10 +209,11 @@ static uint32_t map_once(bb_pool_file *file) {
         return code;
     const size_t size = mapped_size(file);
     const off_t first = (off_t)(PAGE - file->lead);
+    const int protection = file->only_looks ? PROT_READ : PROT_READ | PROT_WRITE;
     char *place = file->mapped;
     if (!unmap(file))
         return BB_FILE_SYSTEM;
-    if (!map_at(place, size, file->fd, first))
+    if (!map_at(place, size, protection, file->fd, first))
         return errno == EEXIST ? TAKEN : BB_FILE_SYSTEM;
     file->mapped = place;
     return madvise(place, size, MADV_DONTFORK) == 0 ? BB_OK : BB_FILE_SYSTEM;
@@ -328,7 +331,7 @@ static uint32_t try_file(bb_pool_file *file, const char *path, const bb_pool_fil
 }
 
 // Opens the pool in the open file `fd`, which the `bb_pool_file` owns from then on.
-static uint32_t try_open(bb_pool_file **to, int fd, const char *path,
+static uint32_t try_open(bb_pool_file **to, int fd, const char *path, int access,
                          const bb_pool_file_options *options, mode_t mode) {
     bb_pool_file *file = calloc(1, sizeof *file);
     if (file == NULL) {
@@ -336,6 +339,7 @@ static uint32_t try_open(bb_pool_file **to, int fd, const char *path,
         return BB_MALLOC_REFUSED;
     }
     file->fd = fd;
+    file->only_looks = access == O_RDONLY;
     pthread_mutex_init(&file->mutex, NULL);
     const uint32_t code = try_file(file, path, options, mode);
     if (code != BB_OK) {
@@ -352,7 +356,8 @@ static uint32_t try_open(bb_pool_file **to, int fd, const char *path,
 
 // Opens a file by its path, or by its descriptor if the path is NULL. It tries again while another
 // process makes the file. It doesn't wait for a lock, which would block every fork meanwhile.
-static uint32_t open_any(bb_pool_file **to, const char *path, int fd,
+// `access` is O_RDWR, or O_RDONLY with a path.
+static uint32_t open_any(bb_pool_file **to, const char *path, int fd, int access,
                          const bb_pool_file_options *options) {
     mode_t mode = options == NULL ? 0 : options->mode;
     if (mode == 0)
@@ -367,10 +372,10 @@ static uint32_t open_any(bb_pool_file **to, const char *path, int fd,
     for (;;) {
         uint32_t code = BB_FILE_SYSTEM;
         lock_all();
-        const int own =
-            path == NULL ? pool_file_open_again(fd) : pool_file_open_path(path, options, mode);
+        const int own = path == NULL ? pool_file_open_again(fd)
+                                     : pool_file_open_path(path, access, options, mode);
         if (own >= 0)
-            code = try_open(to, own, path, options, mode);
+            code = try_open(to, own, path, access, options, mode);
         else if (errno == EEXIST)
             code = REPLACED;
         unlock_all();
@@ -385,11 +390,16 @@ static uint32_t open_any(bb_pool_file **to, const char *path, int fd,
 
 uint32_t bb_pool_file_open(bb_pool_file **to, const char *path,
                            const bb_pool_file_options *options) {
-    return open_any(to, path, -1, options);
+    return open_any(to, path, -1, O_RDWR, options);
 }
 
 uint32_t bb_pool_file_open_fd(bb_pool_file **to, int fd, const bb_pool_file_options *options) {
-    return open_any(to, NULL, fd, options);
+    return open_any(to, NULL, fd, O_RDWR, options);
+}
+
+uint32_t pool_file_open_to_look(bb_pool_file **to, const char *path) {
+    const bb_pool_file_options options = {.buckets = 0, .mode = 0666};
+    return open_any(to, path, -1, O_RDONLY, &options);
 }
 
 void *bb_pool_file_user(bb_pool_file *file) {
