@@ -58,7 +58,10 @@ class Release:
     @property
     def head(self) -> list[str]:
         """Returns the release's lines at the head of a page."""
-        return [f".Dd {self.day:%B} {self.day.day}, {self.day.year}", f".Os bb_memory {self.version}"]
+        return [
+            f".Dd {self.day:%B} {self.day.day}, {self.day.year}",
+            f".Os bb_memory {self.version}",
+        ]
 
 
 @dataclass(frozen=True)
@@ -222,7 +225,10 @@ def blocks_of(lines: Sequence[str]) -> Iterator[tuple[str, list[str]]]:
             inside = [not other or other.startswith(indent) for other in others]
             end = at + 1 + [*inside, False].index(False)
             kind = "literal" if entry is None else entry[1]
-            yield kind, [line[len(indent) :], *(other[len(indent) :] for other in lines[at + 1 : end])]
+            yield kind, [
+                line[len(indent) :],
+                *(other[len(indent) :] for other in lines[at + 1 : end]),
+            ]
         else:
             ends = [not each or LISTED.match(each) is not None for each in lines[at:]]
             end = at + max([*ends, True].index(True), 1)

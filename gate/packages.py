@@ -185,7 +185,9 @@ def files_of(root: Path) -> list[Path]:
     return sorted(file for file in root.rglob("*") if file.is_file() and not file.is_symlink())
 
 
-def control_files(release: Release, fields: Mapping[str, str], root: Path) -> Iterator[tuple[str, str]]:
+def control_files(
+    release: Release, fields: Mapping[str, str], root: Path
+) -> Iterator[tuple[str, str]]:
     """Yields the names and the texts of what `dpkg` reads of a package."""
     sizes = [-(-file.stat().st_size // 1024) for file in files_of(root)]
     others = len(list(root.rglob("*"))) - len(sizes)
@@ -225,7 +227,14 @@ def build(release: Release, roots: Path, folder: Path) -> None:
         for name, text in made.items():
             (root / "DEBIAN" / name).write_text(text, encoding="utf-8")
         settle(release, root)
-        words: list[str | Path] = ["dpkg-deb", "--root-owner-group", "-Zxz", "--build", root, folder]
+        words: list[str | Path] = [
+            "dpkg-deb",
+            "--root-owner-group",
+            "-Zxz",
+            "--build",
+            root,
+            folder,
+        ]
         epoch = str(int(release.day.timestamp()))
         must_run(words, folder, {**os.environ, "SOURCE_DATE_EPOCH": epoch})
 

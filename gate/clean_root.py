@@ -1,0 +1,122 @@
+"""Tests the Debian packages and the manual pages, for `.ci/run-c`.
+
+Lintian finds no error in the packages, and mandoc nothing in the pages. In a clean root of Debian's
+stable release, `debian/check` installs the packages, builds a program over them, and removes them.
+debootstrap makes the root, as root only, with packages of the network. It is kept for a month. What
+isn't installed or can't be made is skipped, and a line says so.
+"""
+
+import hashlib
+import os
+import re
+import shutil
+import time
+from collections.abc import Mapping
+from pathlib import Path
+
+from gate.kept import MONTH, cache
+from gate.process import Failed, has, must_run, run, say
+
+CRATE = "crates/bb_memory_c"
+SUITE = "stable"
+# What a user has before the library is installed.
+INSTALLED = ("cmake", "gcc", "libc6-dev", "make", "man-db", "pkgconf")
+DEBOOTSTRAP = ("debootstrap", "--variant=minbase", f"--include={','.join(INSTALLED)}", SUITE)
+# The environment of a command in the root.
+IN_ROOT = {"PATH": "/usr/sbin:/usr/bin:/sbin:/bin", "HOME": "/root", "LC_ALL": "C.UTF-8"}
+COMMANDS = ("bb-pool", "memrun")
+# A long option, in the usage of a command and in its manual page.
+IN_USAGE = re.compile(r"(?<![\w-])--([a-z]+)")
+IN_PAGE = re.compile(r"^\.It (?:Fl h , )?Fl \\-([a-z]+)$", re.M)
+# What groff prints of an error in a page.
+WARNING = re.compile(r"^.*(?:warning|error): .*$", re.M)
+PROGRAM = re.compile(r"^This is `hello\.c`:\n\n```c\n(.*?)^```$", re.M | re.S)
+
+
+def check_pages(prefix: Path, environment: Mapping[str, str]) -> None:
+    """Checks the manual pages of an installation, and compares those of commands with the usage.
+
+    Raises Failed if mandoc finds something, or if `man` warns of it. mandoc's level `style` has all
+    findings but those about the pages of an operating system.
+    """
+    pages = prefix / "share/man"
+    lint = ("mandoc", "-T", "lint", "-W", "style")
+    show = ("man", "--warnings", "-E", "UTF-8", "-l", "-Tutf8", "-Z")
+    tools = [words for words in (lint, show) if has(words[0], environment)]
+    for file in sorted(file for file in pages.glob("man?/*") if not file.is_symlink()):
+        for words in tools:
+            text = must_run([*words, file], pages, {**environment, "MANPATH": str(pages)})
+            found = WARNING.findall(text)
+            if found:
+                raise Failed("\n".join(found))
+    for command in COMMANDS:
+        check_options(prefix / "bin" / command, pages / f"man1/{command}.1")
+    say(f"manual pages: {', '.join(words[0] for words in tools)} find nothing")
+
+
+def check_options(command: Path, page: Path) -> None:
+    """Raises Failed unless a page has the options that its command prints as its usage."""
+    usage = set(IN_USAGE.findall(run([command, "--help"], page.parent).text))
+    named = set(IN_PAGE.findall(page.read_text(encoding="utf-8")))
+    different = sorted(f"--{name}" for name in usage ^ named)
+    if different:
+        raise Failed(f"{page.name} and {command.name} --help differ: {' '.join(different)}")
+
+
+def root_archive(work: Path, environment: Mapping[str, str]) -> Path | None:
+    """Returns an archive of a clean root, which is made if none is kept. None if it can't be made."""
+    key = hashlib.sha256(" ".join(DEBOOTSTRAP).encode()).hexdigest()
+    kept = cache() / f"bb_memory/roots/{key}.tar"
+    if kept.exists() and kept.stat().st_mtime > time.time() - MONTH:
+        return kept
+    if not has(DEBOOTSTRAP[0], environment):
+        return None
+    root = work / "made_root"
+    ran = run([*DEBOOTSTRAP, root], work, environment)
+    if not ran.is_ok:
+        say(f"debootstrap: {ran.last_line}, skipped")
+        return None
+    must_run(["chroot", root, "apt-get", "clean"], work, IN_ROOT)
+    made = kept.with_suffix(f".{os.getpid()}")
+    made.parent.mkdir(parents=True, exist_ok=True)
+    must_run(["tar", "-C", root, "--numeric-owner", "-cf", made, "."], work)
+    made.replace(kept)
+    shutil.rmtree(root)
+    return kept
+
+
+def check_in_root(top: Path, debs: Path, work: Path, environment: Mapping[str, str]) -> None:
+    """Installs and removes packages in a clean root, and builds the README's first program there."""
+    if os.geteuid() != 0:
+        say("debootstrap: only root can make a clean root, skipped")
+        return
+    archive = root_archive(work, environment)
+    if archive is None:
+        return
+    root = work / "root"
+    root.mkdir()
+    must_run(["tar", "-C", root, "--numeric-owner", "-xpf", archive], work)
+    folder = root / "tmp/packages"
+    shutil.copytree(debs, folder)
+    shutil.copy(top / CRATE / "debian/check", folder)
+    program = PROGRAM.search((top / "README.md").read_text(encoding="utf-8"))
+    if program is None:
+        raise Failed("README.md: has no `hello.c`")
+    (folder / "hello.c").write_text(program[1], encoding="utf-8")
+    must_run(["chroot", root, "/tmp/packages/check"], work, IN_ROOT)
+    say("Debian packages: installed in a clean root, pkg-config and CMake find them, and removed")
+
+
+def check(top: Path, prefix: Path, work: Path, environment: Mapping[str, str]) -> None:
+    """Checks the manual pages of an installation, and the packages of the releases in `work/dist`."""
+    check_pages(prefix, environment)
+    if not has("dpkg-deb", environment):
+        return
+    debs = work / "debs"
+    make = ["make", "-s", "-C", CRATE, "deb", f"DIST={work / 'dist'}", f"DEBS={debs}"]
+    must_run(make, top, environment)
+    if has("lintian", environment):
+        words = ["lintian", "--allow-root", "--fail-on", "error", *sorted(debs.iterdir())]
+        must_run(words, work, environment)
+        say("Debian packages: lintian finds no error")
+    check_in_root(top, debs, work, environment)
