@@ -26,8 +26,8 @@ DEBOOTSTRAP = ("debootstrap", "--variant=minbase", f"--include={','.join(INSTALL
 IN_ROOT = {"PATH": "/usr/sbin:/usr/bin:/sbin:/bin", "HOME": "/root", "LC_ALL": "C.UTF-8"}
 COMMANDS = ("bb-pool", "memrun")
 # A long option, in the usage of a command and in its manual page.
-IN_USAGE = re.compile(r"(?<![\w-])--([a-z]+)")
-IN_PAGE = re.compile(r"^\.It (?:Fl h , )?Fl \\-([a-z]+)$", re.M)
+IN_USAGE = re.compile(r"(?<![\w-])--([a-z][a-z-]*)")
+IN_PAGE = re.compile(r"^\.It (?:Fl h , )?Fl \\-([a-z][a-z\\-]*)$", re.M)
 # What groff prints of an error in a page.
 WARNING = re.compile(r"^.*(?:warning|error): .*$", re.M)
 PROGRAM = re.compile(r"^This is `hello\.c`:\n\n```c\n(.*?)^```$", re.M | re.S)
@@ -57,36 +57,44 @@ def check_pages(prefix: Path, environment: Mapping[str, str]) -> None:
 def check_options(command: Path, page: Path) -> None:
     """Raises Failed unless a page has the options that its command prints as its usage."""
     usage = set(IN_USAGE.findall(run([command, "--help"], page.parent).text))
-    named = set(IN_PAGE.findall(page.read_text(encoding="utf-8")))
+    named = {name.replace("\\", "") for name in IN_PAGE.findall(page.read_text(encoding="utf-8"))}
     different = sorted(f"--{name}" for name in usage ^ named)
     if different:
         raise Failed(f"{page.name} and {command.name} --help differ: {' '.join(different)}")
 
 
-def root_archive(work: Path, environment: Mapping[str, str]) -> Path | None:
-    """Returns an archive of a clean root, which is made if none is kept. None if it can't be made."""
+def kept_root() -> Path:
+    """Returns where the archive of a clean root is kept."""
     key = hashlib.sha256(" ".join(DEBOOTSTRAP).encode()).hexdigest()
-    kept = cache() / f"bb_memory/roots/{key}.tar"
+    return cache() / f"bb_memory/roots/{key}.tar"
+
+
+def root_archive(work: Path, environment: Mapping[str, str]) -> Path | None:
+    """Returns an archive of a clean root, which is made if none is kept.
+
+    Returns None if it can't be made.
+    """
+    kept = kept_root()
     if kept.exists() and kept.stat().st_mtime > time.time() - MONTH:
         return kept
     if not has(DEBOOTSTRAP[0], environment):
         return None
     root = work / "made_root"
-    ran = run([*DEBOOTSTRAP, root], work, environment)
+    ran = run([*DEBOOTSTRAP, str(root)], work, environment)
     if not ran.is_ok:
         say(f"debootstrap: {ran.last_line}, skipped")
         return None
     must_run(["chroot", root, "apt-get", "clean"], work, IN_ROOT)
     made = kept.with_suffix(f".{os.getpid()}")
     made.parent.mkdir(parents=True, exist_ok=True)
-    must_run(["tar", "-C", root, "--numeric-owner", "-cf", made, "."], work)
+    must_run(["tar", "-C", str(root), "--numeric-owner", "-cf", str(made), "."], work)
     made.replace(kept)
     shutil.rmtree(root)
     return kept
 
 
 def check_in_root(top: Path, debs: Path, work: Path, environment: Mapping[str, str]) -> None:
-    """Installs and removes packages in a clean root, and builds the README's first program there."""
+    """Installs packages in a clean root, builds the README's first program, and removes them."""
     if os.geteuid() != 0:
         say("debootstrap: only root can make a clean root, skipped")
         return
@@ -108,7 +116,7 @@ def check_in_root(top: Path, debs: Path, work: Path, environment: Mapping[str, s
 
 
 def check(top: Path, prefix: Path, work: Path, environment: Mapping[str, str]) -> None:
-    """Checks the manual pages of an installation, and the packages of the releases in `work/dist`."""
+    """Checks the pages of an installation, and the packages of the releases in `work/dist`."""
     check_pages(prefix, environment)
     if not has("dpkg-deb", environment):
         return
@@ -116,7 +124,7 @@ def check(top: Path, prefix: Path, work: Path, environment: Mapping[str, str]) -
     make = ["make", "-s", "-C", CRATE, "deb", f"DIST={work / 'dist'}", f"DEBS={debs}"]
     must_run(make, top, environment)
     if has("lintian", environment):
-        words = ["lintian", "--allow-root", "--fail-on", "error", *sorted(debs.iterdir())]
-        must_run(words, work, environment)
+        lintian = ("lintian", "--allow-root", "--fail-on", "error")
+        must_run([*lintian, *sorted(debs.iterdir())], work, environment)
         say("Debian packages: lintian finds no error")
     check_in_root(top, debs, work, environment)

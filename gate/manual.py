@@ -199,7 +199,7 @@ def filled(lines: Sequence[str]) -> Iterator[str]:
 
 
 def table(rows: Sequence[str]) -> Iterator[str]:
-    """Yields the roff of a table: each row is an entry, which has its other cells with their heads."""
+    """Yields the roff of a table: a row is an entry, which has its cells with their heads."""
     cells = [[cell.strip() for cell in row.strip("|").split("|")] for row in rows]
     yield ".Bl -tag -width Ds"
     for first, *others in cells[2:]:

@@ -29,8 +29,8 @@ DEVELOPMENT = "libbb-memory-dev"
 TOOLS = "bb-memory-tools"
 # Debian's names of a processor, and of its folder of libraries.
 ARCHITECTURES = {"x86_64": "amd64", "aarch64": "arm64"}
-# The packages and folders of a release's files. The first pattern that fits a file counts. `ABI` and
-# `PROCESSOR` stand for a release's own.
+# The packages and folders of a release's files. The first pattern that fits a file counts. `ABI`
+# and `PROCESSOR` stand for a release's own.
 PLACES = (
     ("bin/*", TOOLS, "usr/bin"),
     ("include/*", DEVELOPMENT, "usr/include"),
@@ -45,6 +45,8 @@ PLACES = (
     ("share/doc/bb_memory/README.md", DEVELOPMENT, f"usr/share/doc/{DEVELOPMENT}"),
     ("share/doc/bb_memory/script-format.md", TOOLS, f"usr/share/doc/{TOOLS}"),
 )
+# A field of `debian/control`, with its further lines.
+FIELD = re.compile(r"^([\w-]+): (.*(?:\n .*)*)$", re.M)
 # Files of the release from which the packages' copyright files are made.
 LICENSES = ("NOTICE", "LICENSE-MIT", "LICENSE-APACHE")
 # What files of the release have, and what replaces it: the folders of a Debian system.
@@ -105,11 +107,6 @@ def place_of(release: Release, path: str) -> tuple[str, str] | None:
     raise Failed(f"packages: no package has {path}: name it in PLACES of gate/packages.py")
 
 
-def is_compressed(folder: str) -> bool:
-    """Returns whether Debian has the files of a folder compressed: those of manual pages."""
-    return "/man/" in folder
-
-
 def content_of(release: Release, file: Path) -> bytes:
     """Returns what a package has of a file. Raises Failed if a folder in it isn't where it was."""
     if file.name not in FOLDERS:
@@ -131,7 +128,7 @@ def lay_out(release: Release, roots: Path) -> None:
         if place is None:
             continue
         package, folder = place
-        ending = ".gz" if is_compressed(folder) else ""
+        ending = ".gz" if "/man/" in folder else ""
         made = roots / package / folder / f"{file.name}{ending}"
         made.parent.mkdir(parents=True, exist_ok=True)
         if file.is_symlink():
@@ -146,31 +143,29 @@ def compressed(content: bytes) -> bytes:
     return gzip.compress(content, 9, mtime=0)
 
 
-def stanzas(release: Release) -> tuple[dict[str, str], list[dict[str, str]]]:
-    """Returns the fields of the source, and those of each package, from `debian/control`."""
+def stanzas(release: Release) -> list[dict[str, str]]:
+    """Returns the fields of each package, with those of the source, from `debian/control`."""
     text = (TOP / CRATE / "debian/control").read_text(encoding="utf-8")
-    values = {
-        "@ABI@": release.abi,
-        "@LIBC@": release.libc,
-        "@VERSION@": release.version,
-    }
+    values = {"@ABI@": release.abi, "@LIBC@": release.libc, "@VERSION@": release.version}
     for name, value in values.items():
         text = text.replace(name, value)
-    field = re.compile(r"^([\w-]+): (.*(?:\n .*)*)$", re.M)
-    source, *packages = (dict(field.findall(each)) for each in text.split("\n\n"))
-    return source, packages
+    source, *packages = (dict(FIELD.findall(each)) for each in text.split("\n\n"))
+    source["Version"] = release.version
+    source["Architecture"] = ARCHITECTURES[release.processor]
+    return [{**source, **fields} for fields in packages]
 
 
-def add_documents(release: Release, source: str, package: str, root: Path) -> None:
+def add_documents(release: Release, fields: Mapping[str, str], root: Path) -> None:
     """Adds to a package what each one has: its licenses, and a list of changes in Debian's form."""
+    package = fields["Package"]
     folder = root / "usr/share/doc" / package
     folder.mkdir(parents=True, exist_ok=True)
     text = release.text_of("NOTICE") + COPYRIGHT + release.text_of("LICENSE-MIT")
     (folder / "copyright").write_text(text, encoding="utf-8")
     changes = (
-        f"{source} ({release.version}) unstable; urgency=medium\n\n"
+        f"{fields['Source']} ({release.version}) unstable; urgency=medium\n\n"
         f"  * Release {release.version}: CHANGELOG.md of the sources says what changed.\n\n"
-        f" -- {stanzas(release)[0]['Maintainer']}  {format_datetime(release.day)}\n"
+        f" -- {fields['Maintainer']}  {format_datetime(release.day)}\n"
     )
     (folder / "changelog.gz").write_bytes(compressed(changes.encode()))
     overrides = TOP / CRATE / f"debian/{package}.lintian-overrides"
@@ -191,10 +186,8 @@ def control_files(
     """Yields the names and the texts of what `dpkg` reads of a package."""
     sizes = [-(-file.stat().st_size // 1024) for file in files_of(root)]
     others = len(list(root.rglob("*"))) - len(sizes)
-    size = {"Installed-Size": str(sum(sizes) + others)}
-    description = {"Description": fields["Description"]}
-    ordered = {**fields, **size, **description}
-    yield "control", "".join(f"{name}: {value}\n" for name, value in ordered.items())
+    sized = {"Installed-Size": str(sum(sizes) + others), **fields}
+    yield "control", "".join(f"{name}: {value}\n" for name, value in sized.items())
     sums = ((file, hashlib.md5(file.read_bytes()).hexdigest()) for file in files_of(root))
     yield "md5sums", "".join(f"{each}  {file.relative_to(root)}\n" for file, each in sums)
     if fields["Package"] == f"libbb-memory{release.abi}":
@@ -215,26 +208,15 @@ def settle(release: Release, root: Path) -> None:
 
 def build(release: Release, roots: Path, folder: Path) -> None:
     """Builds all packages of a release, whose files are laid out, into a folder."""
-    source, packages = stanzas(release)
-    for fields in packages:
+    for fields in stanzas(release):
         root = roots / fields["Package"]
-        add_documents(release, source["Source"], fields["Package"], root)
-        every = {**source, "Version": release.version}
-        every["Architecture"] = ARCHITECTURES[release.processor]
-        description = fields.pop("Description")
-        made = dict(control_files(release, {**fields, **every, "Description": description}, root))
+        add_documents(release, fields, root)
+        made = dict(control_files(release, fields, root))
         (root / "DEBIAN").mkdir()
         for name, text in made.items():
             (root / "DEBIAN" / name).write_text(text, encoding="utf-8")
         settle(release, root)
-        words: list[str | Path] = [
-            "dpkg-deb",
-            "--root-owner-group",
-            "-Zxz",
-            "--build",
-            root,
-            folder,
-        ]
+        words = ["dpkg-deb", "--root-owner-group", "-Zxz", "--build", str(root), str(folder)]
         epoch = str(int(release.day.timestamp()))
         must_run(words, folder, {**os.environ, "SOURCE_DATE_EPOCH": epoch})
 

@@ -4,6 +4,8 @@ import re
 from collections.abc import Iterator, Mapping
 from datetime import date
 
+from gate.process import Failed
+
 HEADER = "crates/bb_memory_c/bb_memory.h"
 VERSION = re.compile(r'^#define BB_VERSION "([\d.]+)"', re.M)
 CHANGES = "CHANGELOG.md"
@@ -35,7 +37,7 @@ def date_of(texts: Mapping[str, str]) -> date:
     version = version_of(texts)
     match = re.search(rf"^## {re.escape(version)}{DAY.pattern}$", texts[CHANGES], re.M)
     if match is None:
-        raise ValueError(f"{CHANGES}: has no heading `## {version} (YEAR-MONTH-DAY)`")
+        raise Failed(f"{CHANGES}: has no heading `## {version} (YEAR-MONTH-DAY)`")
     return date.fromisoformat(match[1])
 
 
