@@ -50,6 +50,11 @@ typedef void *bb_place;
 
 #endif
 
+// A handle.
+typedef struct bb_pool {
+    int at;
+} bb_pool;
+
 // clang-format off
 
 // Fills a handle. It
@@ -126,7 +131,7 @@ class Sections(unittest.TestCase):
         )
         names = [[item.names for item in each.items] for each in found]
         pool = [("BB_LEAST",), ("bb_least",), ("bb_pool_init",), ("bb_pool_figures",)]
-        places = [("bb_place",), ("BB_EMPTY",)]
+        places = [("bb_place",), ("bb_pool",), ("BB_EMPTY",)]
         expected = [[], places, [*pool, ("bb_pool_get",)], [(), ("bb_name",)]]
         self.assertEqual(names, expected)
 
@@ -257,7 +262,7 @@ Returns the name.
         heads = [line for line in lines if line.startswith((".Sh", ".Ss", ".Nm", ".Xr"))]
         names = [".Nm bb_memory ,", ".Nm bb_place ,", ".Nm BB_EMPTY"]
         titles = [".Sh SYNOPSIS", ".Sh DESCRIPTION", ".Sh EXAMPLES", ".Sh RULES", ".Sh PLACES"]
-        items = [".Ss bb_place", ".Ss BB_EMPTY"]
+        items = [".Ss bb_place", ".Ss bb_pool", ".Ss BB_EMPTY"]
         seen = [".Xr bb_name 3 ,", ".Xr bb_pool 3 ,", ".Xr bb_pool_file 3"]
         expected = [".Sh NAME", *names, *titles, *items, ".Sh SEE ALSO", *seen]
         self.assertEqual(heads, expected)

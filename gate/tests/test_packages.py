@@ -5,6 +5,7 @@ import re
 import shutil
 import tarfile
 import unittest
+from dataclasses import replace
 from datetime import datetime, timezone
 from pathlib import Path
 
@@ -121,9 +122,9 @@ class LaidOut(unittest.TestCase):
 class Built(unittest.TestCase):
     """Packages that dpkg-deb has built."""
 
-    def build(self, work: Path, name: str) -> dict[str, Path]:
+    def build(self, work: Path, name: str, day: datetime = DAY) -> dict[str, Path]:
         """Builds the packages in a folder of this name. Returns their files by their names."""
-        release = write(work / name / "release")
+        release = replace(write(work / name / "release"), day=day)
         made = work / name / "made"
         made.mkdir()
         packages.lay_out(release, work / name / "roots")
@@ -148,7 +149,7 @@ class Built(unittest.TestCase):
             texts = {each.name: text_of(each) for each in (work / "raw/DEBIAN").iterdir()}
             licenses = text_of(work / f"raw/usr/share/doc/{LIBRARY}/copyright")
             changes = text_of(work / f"raw/usr/share/doc/{LIBRARY}/changelog.gz")
-            with tarfile.open(fileobj=None, name=self.data_of(file, work)) as data:
+            with tarfile.open(self.data_of(file, work)) as data:
                 entries = {each.name: each for each in data.getmembers()}
         self.assertEqual(fields["Package"], LIBRARY)
         self.assertEqual(fields["Version"], "1.2.3")
@@ -172,10 +173,13 @@ class Built(unittest.TestCase):
         must_run(["sh", "-c", f"dpkg-deb --fsys-tarfile '{file}' > data.tar"], work)
         return work / "data.tar"
 
-    def test_commands_can_be_run(self) -> None:
+    def test_commands_can_be_run_and_all_files_are_of_one_day(self) -> None:
+        tomorrow = datetime(2199, 1, 1, tzinfo=timezone.utc)
         with temporary_folder() as work:
-            file = self.build(work, "built")[f"{TOOLS}_1.2.3_arm64.deb"]
+            file = self.build(work, "built", tomorrow)[f"{TOOLS}_1.2.3_arm64.deb"]
             with tarfile.open(self.data_of(file, work)) as data:
+                times = {each.mtime for each in data.getmembers()}
+                self.assertEqual(times, {tomorrow.timestamp()})
                 self.assertEqual(data.getmember("./usr/bin/memrun").mode, 0o755)
                 data.getmember(f"./usr/share/lintian/overrides/{TOOLS}")
 
