@@ -19,8 +19,8 @@ from gate.process import Failed, has, must_run, run, say
 
 CRATE = "crates/bb_memory_c"
 SUITE = "stable"
-# What a user has before the library is installed.
-INSTALLED = ("cmake", "gcc", "libc6-dev", "make", "man-db", "pkgconf")
+# What a user has before the library is installed, and mandoc.
+INSTALLED = ("cmake", "gcc", "libc6-dev", "make", "man-db", "mandoc", "pkgconf")
 DEBOOTSTRAP = ("debootstrap", "--variant=minbase", f"--include={','.join(INSTALLED)}", SUITE)
 # The environment of a command in the root.
 IN_ROOT = {"PATH": "/usr/sbin:/usr/bin:/sbin:/bin", "HOME": "/root", "LC_ALL": "C.UTF-8"}

@@ -4,7 +4,7 @@ Section 3 is made from the comments of the headers for C. A header has an overvi
 its head, and its sections that declare no function. Each other section of a header has a page of
 its own, named for the handle that its `init` fills, or for its first function. Each further name
 that a page describes is a link to the page. The pages of the commands are in `man`, beside the
-headers. The version and its date are those of CHANGELOG.md.
+headers. All pages are of the day of the release, in CHANGELOG.md.
 """
 
 import re
@@ -46,22 +46,6 @@ ESCAPES = {"\\": "\\e", "-": "\\-", "'": "\\(aq", "`": "\\(ga", "^": "\\(ha", "~
 # The columns of a line of text, and the spaces before a line that stays as it is.
 WIDTH = 78
 INDENT = "    "
-
-
-@dataclass(frozen=True)
-class Release:
-    """What each page says of the release that it is part of."""
-
-    version: str
-    day: date
-
-    @property
-    def head(self) -> list[str]:
-        """Returns the release's lines at the head of a page."""
-        return [
-            f".Dd {self.day:%B} {self.day.day}, {self.day.year}",
-            f".Os bb_memory {self.version}",
-        ]
 
 
 @dataclass(frozen=True)
@@ -324,6 +308,11 @@ def prototype(item: Item) -> Iterator[str]:
     yield ".Fc"
 
 
+def line_of_day(day: date) -> str:
+    """Returns the line of a page with its day."""
+    return f".Dd {day:%B} {day.day}, {day.year}"
+
+
 def page_of(
     name: str,
     header: str,
@@ -331,12 +320,11 @@ def page_of(
     sections: Sequence[Section],
     names: Iterable[str],
     others: Iterable[str],
-    release: Release,
+    day: date,
 ) -> str:
     """Returns a page of section 3 about sections of a header, by these names."""
     items = [item for section in sections for item in section.items]
-    day, system = release.head
-    lines = [day, f".Dt {name.upper()} 3", system, ".Sh NAME"]
+    lines = [line_of_day(day), f".Dt {name.upper()} 3", ".Os", ".Sh NAME"]
     lines += [f".Nm {each} ," for each in names]
     lines[-1] = lines[-1].removesuffix(" ,")
     lines += [f".Nd {about.rstrip('.')}", ".Sh SYNOPSIS", f".In {header}"]
@@ -355,7 +343,7 @@ def page_of(
     return "\n".join([*lines, ""])
 
 
-def pages_of(header: str, text: str, release: Release) -> dict[str, str]:
+def pages_of(header: str, text: str, day: date) -> dict[str, str]:
     """Returns the pages about a header, and the links to them, by their names.
 
     A page is a text of several lines, and a link is the name of a page's file. Raises Failed if two
@@ -376,27 +364,20 @@ def pages_of(header: str, text: str, release: Release) -> dict[str, str]:
         found |= {name: f"{page}.3" for name in own}
         seen = [*others, *(f"{each} 3" for each in (names[1:] if page == overview else names[:1]))]
         shown = dict.fromkeys([page, *own])
-        found[page] = page_of(page, header, page_about, described, shown, seen, release)
+        found[page] = page_of(page, header, page_about, described, shown, seen, day)
     return found
-
-
-def release_of(texts: Mapping[str, str]) -> Release:
-    """Returns the version of the header, and its date."""
-    version = versions.version_of(texts)
-    return Release(version, versions.date_of(texts))
 
 
 def write(folder: Path, texts: Mapping[str, str], commands: Mapping[str, str]) -> None:
     """Writes all pages and links below a folder, as `man1` and `man3`."""
-    release = release_of(texts)
+    day = versions.date_of(texts)
     for name in ("man1", "man3"):
         (folder / name).mkdir(parents=True)
     for name, text in commands.items():
-        filled_in = text.replace(".Dd @DATE@\n", f"{release.head[0]}\n")
-        filled_in = filled_in.replace(".Os @RELEASE@\n", f"{release.head[1]}\n")
-        (folder / "man1" / name).write_text(filled_in, encoding="utf-8")
+        dated = text.replace(".Dd @DATE@\n", f"{line_of_day(day)}\n")
+        (folder / "man1" / name).write_text(dated, encoding="utf-8")
     for header in HEADERS:
-        for name, text in pages_of(header, texts[f"{CRATE}/{header}"], release).items():
+        for name, text in pages_of(header, texts[f"{CRATE}/{header}"], day).items():
             file = folder / f"man3/{name}.3"
             if "\n" in text:
                 file.write_text(text, encoding="utf-8")

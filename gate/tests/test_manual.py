@@ -5,11 +5,10 @@ from datetime import date
 from pathlib import Path
 
 from gate import manual
-from gate.manual import Release
 from gate.process import Failed
 from gate.temporary import temporary_folder
 
-RELEASE = Release("1.2.3", date(2001, 2, 3))
+DAY = date(2001, 2, 3)
 HEADER = """\
 // demo: two kinds of things.
 
@@ -109,6 +108,9 @@ enum {
     BB_LAST = BB_OK
 };
 
+// The library, of which there is a page.
+typedef struct bb_memory bb_memory;
+
 // Returns the name.
 const char *bb_name(uint32_t code);
 
@@ -132,7 +134,8 @@ class Sections(unittest.TestCase):
         names = [[item.names for item in each.items] for each in found]
         pool = [("BB_LEAST",), ("bb_least",), ("bb_pool_init",), ("bb_pool_figures",)]
         places = [("bb_place",), ("bb_pool",), ("BB_EMPTY",)]
-        expected = [[], places, [*pool, ("bb_pool_get",)], [(), ("bb_name",)]]
+        codes = [(), ("bb_memory",), ("bb_name",)]
+        expected = [[], places, [*pool, ("bb_pool_get",)], codes]
         self.assertEqual(names, expected)
 
     def test_the_page_is_named_for_the_handle_or_the_first_function(self) -> None:
@@ -210,7 +213,7 @@ class Pages(unittest.TestCase):
     """The pages about a header, and the links."""
 
     def setUp(self) -> None:
-        self.pages = manual.pages_of("bb_memory.h", HEADER, RELEASE)
+        self.pages = manual.pages_of("bb_memory.h", HEADER, DAY)
 
     def test_pages_and_links(self) -> None:
         links = {name: text for name, text in self.pages.items() if "\n" not in text}
@@ -231,7 +234,7 @@ class Pages(unittest.TestCase):
         codes = """\
 .Dd February 3, 2001
 .Dt BB_NAME 3
-.Os bb_memory 1.2.3
+.Os
 .Sh NAME
 .Nm bb_name
 .Nd codes
@@ -249,6 +252,11 @@ Done.
 .It BB_LAST = BB_OK
 The last one.
 .El
+.Ss bb_memory
+The library, of which there is a page.
+.Bd -literal -offset indent
+typedef struct bb_memory bb_memory;
+.Ed
 .Ss bb_name
 Returns the name.
 .Sh SEE ALSO
@@ -279,7 +287,7 @@ Returns the name.
 
     def test_two_pages_of_one_name(self) -> None:
         with self.assertRaisesRegex(Failed, "one name"):
-            manual.pages_of("bb_memory.h", HEADER.replace("bb_name", "bb_memory"), RELEASE)
+            manual.pages_of("bb_memory.h", HEADER.replace("bb_name", "bb_pool"), DAY)
 
 
 class Written(unittest.TestCase):
@@ -292,13 +300,13 @@ class Written(unittest.TestCase):
             f"{manual.CRATE}/bb_pool_file.h": "// A file.\n\n",
             "CHANGELOG.md": "## 1.2.3 (2001-02-03)\n",
         }
-        command = ".Dd @DATE@\n.Dt X 1\n.Os @RELEASE@\n"
+        command = ".Dd @DATE@\n.Dt X 1\n"
         with temporary_folder() as work:
             manual.write(work, texts, {"x.1": command})
             names = {str(file.relative_to(work)) for file in work.rglob("*.?")}
             self.assertEqual(Path(work / "man3/bb_place.3").readlink(), Path("bb_memory.3"))
             page = (work / "man1/x.1").read_text(encoding="utf-8")
-        self.assertEqual(page, ".Dd February 3, 2001\n.Dt X 1\n.Os bb_memory 1.2.3\n")
+        self.assertEqual(page, ".Dd February 3, 2001\n.Dt X 1\n")
         pages = {"man1/x.1", "man3/bb_pool_file.3", "man3/bb_memory.3", "man3/bb_name.3"}
         self.assertLess(pages, names)
 

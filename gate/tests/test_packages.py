@@ -148,7 +148,9 @@ class Built(unittest.TestCase):
             fields = dict(re.findall(r"^([\w-]+): (.*)$", control, re.M))
             texts = {each.name: text_of(each) for each in (work / "raw/DEBIAN").iterdir()}
             licenses = text_of(work / f"raw/usr/share/doc/{LIBRARY}/copyright")
-            changes = text_of(work / f"raw/usr/share/doc/{LIBRARY}/changelog.gz")
+            compressed = work / f"raw/usr/share/doc/{LIBRARY}/changelog.gz"
+            changes = text_of(compressed)
+            time = compressed.read_bytes()[4:8]
             with tarfile.open(self.data_of(file, work)) as data:
                 entries = {each.name: each for each in data.getmembers()}
         self.assertEqual(fields["Package"], LIBRARY)
@@ -163,6 +165,7 @@ class Built(unittest.TestCase):
         self.assertEqual(len(texts["md5sums"].splitlines()), 3)
         for part in ("Copyright 2026 Somebody", "MIT", "common-licenses/Apache-2.0"):
             self.assertIn(part, licenses)
+        self.assertEqual(time, bytes(4))
         self.assertIn("bb-memory (1.2.3) ", changes)
         self.assertIn("  Sat, 03 Feb 2001 00:00:00 +0000\n", changes)
         library = entries[f"./{FOLDER}/libbb_memory.so.1.2.3"]
