@@ -10,11 +10,10 @@ import hashlib
 import os
 import re
 import shutil
-import time
 from collections.abc import Mapping
 from pathlib import Path
 
-from gate.kept import MONTH, cache
+from gate.kept import Kept, cache
 from gate.process import Failed, has, must_run, run, say
 
 CRATE = "crates/bb_memory_c"
@@ -75,7 +74,8 @@ def root_archive(work: Path, environment: Mapping[str, str]) -> Path | None:
     Returns None if it can't be made.
     """
     kept = kept_root()
-    if kept.exists() and kept.stat().st_mtime > time.time() - MONTH:
+    Kept(kept.parent, False).remove_old()
+    if kept.exists():
         return kept
     if not has(DEBOOTSTRAP[0], environment):
         return None
