@@ -2,8 +2,8 @@
 
 The test programs are in crates/bb_memory_c/tests/pool_file. They run with the archive and with the
 shared library, and `cases` also under the compiler's checkers. So does `bb-pool`, over files that
-are almost pools. There are also mutants of bb_pool_file.c. Each has to be refused by the program
-that its file names:
+are almost pools. There are also mutants of SOURCES, the C files of pools in files. Each has to be
+refused by the program that its file names:
 
     # function: bb_pool_file_look
     # refused by: kills pause 499
@@ -36,6 +36,8 @@ from gate.process import Failed, has, must_run, run_within, say
 from gate.verdicts import Control
 
 CRATE = "crates/bb_memory_c"
+# The C files of pools in files.
+SOURCES = ("bb_pool_file.c", "pool_file_format.c", "pool_file_map.c")
 FLAGS = ("-O2", "-Wall", "-Wextra", "-Werror", "-pedantic", "-Wshadow", "-Wconversion")
 CHECKERS = ("-fsanitize=address,undefined", "-fno-sanitize-recover=all")
 PROGRAMS = ("cases", "kills", "leaks", "shown", "trace")
@@ -111,6 +113,10 @@ class PoolFile:
         if not self.folders:
             raise Failed("no folder has room for the files of pools")
 
+    def code(self) -> list[Path]:
+        """Returns the paths of SOURCES."""
+        return [self.crate / source for source in SOURCES]
+
     def compile(self, words: Sequence[str | Path], compiler: str = "cc") -> None:
         """Runs a compiler that finds the installed headers."""
         includes: list[str | Path] = [f"-I{self.prefix / 'include'}", f"-I{self.crate}"]
@@ -154,7 +160,7 @@ class PoolFile:
     def run_checked(self) -> str:
         """Runs `cases` under the checkers of addresses and undefined behavior."""
         program = self.work / "cases.checked"
-        sources = [self.crate / "bb_pool_file.c", self.sources / "cases.c"]
+        sources = [*self.code(), self.sources / "cases.c"]
         flags = ["-std=c11", "-g", "-O1", *CHECKERS]
         self.compile([*flags, "-o", program, *sources, self.work / "bb_memory.o"])
         return f"{self.run_program(program, self.folders)}, under the checkers"
@@ -174,7 +180,7 @@ class PoolFile:
         flags = ["-std=c11", "-g", "-O1", *CHECKERS]
         main = ["-D_DEFAULT_SOURCE", "-Dmain=run_bb_pool"]
         self.compile([*flags, *main, "-c", "-o", command, self.crate / "bb_pool.c"])
-        sources = [self.crate / "bb_pool_file.c", self.sources / "fuzz.c"]
+        sources = [*self.code(), self.sources / "fuzz.c"]
         self.compile([*flags, "-o", program, *sources, command, self.work / "bb_memory.o"])
         return self.run_program(program, [self.folders[0] / "fuzz", str(FUZZED)])
 
@@ -273,29 +279,29 @@ class PoolFile:
         path.unlink()
         return f"producers and consumers, {len(programs)} programs of each: {came}"
 
-    def build_over(self, text: str, name: str, folder: Path) -> Path:
-        """Builds a program over a text of bb_pool_file.c, in a folder that it makes.
+    def build_over(self, changed: Mapping[str, str], name: str, folder: Path) -> Path:
+        """Builds a program over SOURCES, of which some have other texts, in a folder that it makes.
 
         Returns the program.
         """
         folder.mkdir()
-        source = folder / "bb_pool_file.c"
-        source.write_text(text, encoding="utf-8")
+        for source, text in changed.items():
+            (folder / source).write_text(text, encoding="utf-8")
+        sources = [folder / it.name if it.name in changed else it for it in self.code()]
         program = folder / name
         objects = [self.work / f"{name}.o", self.work / "bb_memory.o"]
-        self.compile(["-std=c99", "-O2", "-w", "-o", program, source, *objects])
+        self.compile(["-std=c99", "-O2", "-w", "-o", program, *sources, *objects])
         return program
 
     def build_mutant(self, file: Path, name: str) -> Path:
         """Builds a program with a mutant, in a folder of its own. Returns the program."""
         edit = edits.parse_edit(file, file.read_text(encoding="utf-8"))
         changed = edits.apply(edit, lambda name: (self.crate / name).read_text(encoding="utf-8"))
-        return self.build_over(changed["bb_pool_file.c"], name, self.work / f"{file.stem}.{name}")
+        return self.build_over(changed, name, self.work / f"{file.stem}.{name}")
 
     def build_unmodified(self, name: str) -> Path:
         """Builds a program with the unmodified code, as one with a mutant. Returns the program."""
-        text = (self.crate / "bb_pool_file.c").read_text(encoding="utf-8")
-        return self.build_over(text, name, self.work / f"unmodified.{name}")
+        return self.build_over({}, name, self.work / f"unmodified.{name}")
 
     def words_for(self, program: Path, words: Sequence[str]) -> list[str | Path]:
         """Returns the words that run a program with its arguments, in the first folder."""
@@ -333,7 +339,7 @@ class PoolFile:
 
         controls = dict(zip(commands, pool.map(check_control, commands.values())))
         refused = pool.map(lambda file: self.check_mutant(file, controls[" ".join(by[file])]), by)
-        say(f"mutants of bb_pool_file.c: programs refuse {len(list(refused))}")
+        say(f"mutants of pools in files: programs refuse {len(list(refused))}")
 
     def check_traces(self, pool: ThreadPoolExecutor) -> None:
         """Compares the code and its mutants with the machine."""
@@ -346,7 +352,7 @@ class PoolFile:
                 traces.check_mutant(self.build_mutant(file, "trace"), file.name, controls)
 
         list(pool.map(check, steps))
-        say(f"mutants of bb_pool_file.c: the machine refuses {len(steps)}")
+        say(f"mutants of pools in files: the machine refuses {len(steps)}")
 
     def jobs(self) -> dict[str, Callable[[], str]]:
         """Returns the tests by name, the longest first. Each returns the text to print."""

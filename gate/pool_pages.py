@@ -1,6 +1,6 @@
 """Tests pools in files on simulated systems with pages of 16 and 64 KiB, for `.ci/run-c`.
 
-crates/bb_memory_c/tests/pool_file/pages has the simulation, and mutants of bb_pool_file.c that are
+crates/bb_memory_c/tests/pool_file/pages has the simulation, and mutants of the C files that are
 right only where pages have 4 KiB. `cases` has to refuse each of them on each of the systems.
 """
 
@@ -14,7 +14,7 @@ from dataclasses import dataclass
 from pathlib import Path
 
 from gate import edits, verdicts
-from gate.pool_file import CRATE, ROOM
+from gate.pool_file import CRATE, ROOM, SOURCES
 from gate.process import Failed, must_run, run_within, say
 from gate.verdicts import Control
 
@@ -66,9 +66,9 @@ class Pages:
         includes: list[str | Path] = [f"-I{self.prefix / 'include'}", f"-I{self.crate}"]
         must_run(["cc", "-O2", "-w", *includes, *words, "-pthread"], self.work, self.environment)
 
-    def simulated(self, source: Path, name: str) -> Path:
-        """Compiles a source for the simulated system. Returns the object."""
-        compiled = self.work / f"{name}.o"
+    def simulated(self, source: Path) -> Path:
+        """Compiles a source for the simulated system. Returns the object, which is in `work`."""
+        compiled = self.work / f"{source.stem}.simulated.o"
         header = self.crate / "tests/pool_file/pages/large_pages.h"
         flags: list[str | Path] = [
             "-std=gnu99",
@@ -78,6 +78,13 @@ class Pages:
         ]
         self.compile([*flags, "-c", "-o", compiled, source])
         return compiled
+
+    def compile_code(self, changed: Mapping[str, Path]) -> list[Path]:
+        """Compiles SOURCES for the simulated system, some of them as changed in other files.
+
+        Returns the objects.
+        """
+        return [self.simulated(changed.get(source, self.crate / source)) for source in SOURCES]
 
     def link(self, name: str, objects: Sequence[Path]) -> Path:
         """Links a test program, or another one, with the library's own object."""
@@ -89,19 +96,19 @@ class Pages:
         """Builds `cases` and `kills`, and `bb-pool` and `shown` for a file of two systems."""
         archive = self.prefix / "lib/libbb_memory.a"
         must_run(["ar", "x", archive, "bb_memory.o", "bb_pool_file.o"], self.work)
-        pools = self.simulated(self.crate / "bb_pool_file.c", "pools")
+        pools = self.compile_code({})
         for name in ("cases", "kills", "shown"):
             compiled = self.work / f"{name}.o"
             source = self.crate / f"tests/pool_file/{name}.c"
             self.compile(["-std=c11", "-c", "-o", compiled, source])
-        cases = self.link("cases", [self.work / "cases.o", pools])
-        kills = self.link("kills", [self.work / "kills.o", pools])
+        cases = self.link("cases", [self.work / "cases.o", *pools])
+        kills = self.link("kills", [self.work / "kills.o", *pools])
         self.link("shown", [self.work / "shown.o", self.work / "bb_pool_file.o"])
         command = self.work / "bb-pool.o"
         self.compile(
             ["-std=c99", "-D_DEFAULT_SOURCE", "-c", "-o", command, self.crate / "bb_pool.c"]
         )
-        self.link("bb-pool", [command, pools])
+        self.link("bb-pool", [command, *pools])
         return cases, kills
 
     def run(self, program: Path, words: Sequence[str | Path]) -> str:
@@ -131,11 +138,11 @@ class Pages:
         """Raises Failed unless `cases` refuses a mutant: at an expectation that doesn't hold."""
         edit = edits.read_edit(file)
         changed = edits.apply(edit, lambda name: (self.crate / name).read_text(encoding="utf-8"))
-        source = self.work / f"{file.stem}.c"
-        source.write_text(changed["bb_pool_file.c"], encoding="utf-8")
-        mutant = self.link(
-            f"{file.stem}.mutant", [self.work / "cases.o", self.simulated(source, file.stem)]
-        )
+        sources = {source: self.work / f"{file.stem}.{source}" for source in changed}
+        for source, text in changed.items():
+            sources[source].write_text(text, encoding="utf-8")
+        objects = [self.work / "cases.o", *self.compile_code(sources)]
+        mutant = self.link(f"{file.stem}.mutant", objects)
         ran = run_within(passed.most, [mutant, folder], self.work)
         verdicts.must_refuse(file.name, ran, passed)
         if ran is None or NOT_SO not in ran.errors:

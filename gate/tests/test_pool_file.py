@@ -35,7 +35,7 @@ class Mutants(unittest.TestCase):
                 self.assertIn(pool_file.refused_by(text)[0], (*pool_file.PROGRAMS, MACHINE))
                 edit = edits.parse_edit(file, text)
                 changed = edits.apply(edit, lambda name: (CRATE / name).read_text("utf-8"))
-                self.assertIn("bb_pool_file.c", changed)
+                self.assertLessEqual(changed.keys(), set(pool_file.SOURCES))
 
 
 class Folders(unittest.TestCase):

@@ -155,7 +155,7 @@ int madvise(void *at, size_t size, int advice) {
 
 // MEMORY
 
-// How many blocks the library has, and how many bb_pool_file.c has.
+// How many blocks the library has, and how many the C files of pools in files have.
 static size_t blocks;
 
 void *__libc_calloc(size_t count, size_t size);

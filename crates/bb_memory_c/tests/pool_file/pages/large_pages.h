@@ -1,5 +1,5 @@
 // Calls of the system as a kernel with pages of SIMULATED_PAGE bytes answers them: it refuses what
-// isn't a multiple of its page, and rounds lengths up. Compile bb_pool_file.c or another source
+// isn't a multiple of its page, and rounds lengths up. Compile pool_file_map.c or another source
 // with `-include large_pages.h -DSIMULATED_PAGE=65536`. What the C library maps by itself is as it
 // was.
 #ifndef LARGE_PAGES_H
