@@ -27,30 +27,31 @@ COMMANDS = ("bb-pool", "memrun")
 # A long option, in the usage of a command and in its manual page.
 IN_USAGE = re.compile(r"(?<![\w-])--([a-z][a-z-]*)")
 IN_PAGE = re.compile(r"^\.It (?:Fl h , )?Fl \\-([a-z][a-z\\-]*)$", re.M)
-# What groff prints of an error in a page.
-WARNING = re.compile(r"^.*(?:warning|error): .*$", re.M)
+# Commands of shell that check a page. mandoc's level `style` has all findings but those that rest
+# on the pages of the system; `debian/check` looks for these, too. `man` only prints its warnings.
+PAGE_TOOLS = {
+    "mandoc": "mandoc -T lint -W style",
+    "man": "2>&1 > /dev/null MANWIDTH=80 man --warnings -E UTF-8 -l",
+}
 PROGRAM = re.compile(r"^This is `hello\.c`:\n\n```c\n(.*?)^```$", re.M | re.S)
 
 
 def check_pages(prefix: Path, environment: Mapping[str, str]) -> None:
     """Checks the manual pages of an installation, and compares those of commands with the usage.
 
-    Raises Failed if mandoc finds something, or if `man` warns of it. mandoc's level `style` has all
-    findings but those about the pages of an operating system.
+    Raises Failed if a tool finds something.
     """
     pages = prefix / "share/man"
-    lint = ("mandoc", "-T", "lint", "-W", "style")
-    show = ("man", "--warnings", "-E", "UTF-8", "-l", "-Tutf8", "-Z")
-    tools = [words for words in (lint, show) if has(words[0], environment)]
+    tools = [tool for tool in PAGE_TOOLS if has(tool, environment)]
     for file in sorted(file for file in pages.glob("man?/*") if not file.is_symlink()):
-        for words in tools:
-            text = must_run([*words, file], pages, {**environment, "MANPATH": str(pages)})
-            found = WARNING.findall(text)
-            if found:
-                raise Failed("\n".join(found))
+        for tool in tools:
+            words = ["sh", "-c", f'{PAGE_TOOLS[tool]} "$0"', str(file)]
+            ran = run(words, pages, {**environment, "MANPATH": str(pages)})
+            if not ran.is_ok or (tool == "man" and ran.text):
+                raise Failed(f"{ran.text}{tool}: {file.name} has the findings above")
     for command in COMMANDS:
         check_options(prefix / "bin" / command, pages / f"man1/{command}.1")
-    say(f"manual pages: {', '.join(words[0] for words in tools)} find nothing")
+    say(f"manual pages: {' and '.join(tools)} find nothing")
 
 
 def check_options(command: Path, page: Path) -> None:

@@ -38,7 +38,8 @@ TITLE = re.compile(r"[A-Z ]+")
 # How manual pages name a section, if a header has another name for it.
 STANDARD = {"EXAMPLE": "EXAMPLES"}
 CODE = re.compile(r"`([^`]*)`")
-NAME = re.compile(r"\b([A-Za-z]\w*_\w*)")
+# A word with a name, which may not be hyphenated.
+NAME = re.compile(r"\S*\w_\w\S*")
 SENTENCE_END = re.compile(r"(?<=[.!?])\)? +(?=[A-Z`(])")
 # A member of a struct or an enum.
 MEMBER = re.compile(r"\s+([^/\s].*[;,]|BB_\w+ = \w+)")
@@ -174,10 +175,8 @@ def filled(lines: Sequence[str]) -> Iterator[str]:
     text = " ".join(line.strip() for line in lines)
     for sentence in SENTENCE_END.sub(lambda end: f"{end[0].rstrip()}\n", text).split("\n"):
         spans = CODE.split(sentence.replace("\\", "\\e"))
-        spans[1::2] = [code(span) for span in CODE.findall(sentence)]
-        spans = [NAME.sub(r"\\%\1", span) for span in spans]
-        spans[1::2] = [f"\\fB{span}\\fP" for span in spans[1::2]]
-        shown = "".join(spans)
+        spans[1::2] = [f"\\fB{code(span)}\\fP" for span in CODE.findall(sentence)]
+        shown = NAME.sub(lambda word: f"\\%{word[0]}", "".join(spans))
         for line in textwrap.wrap(shown, WIDTH, break_long_words=False, break_on_hyphens=False):
             yield line_of_text(line)
 
@@ -285,26 +284,18 @@ def description(parts: Sequence[tuple[str, ...] | Item]) -> Iterator[str]:
             yield from members(part.lines)
 
 
-def parameters(text: str) -> Iterator[str]:
-    """Yields the parameters of a function, from the text between its parentheses."""
-    depth = 0
-    begin = 0
-    for at, letter in enumerate(f"{text},"):
-        depth += {"(": 1, ")": -1}.get(letter, 0)
-        if letter == "," and depth == 0:
-            yield text[begin:at].strip()
-            begin = at + 1
-
-
 def prototype(item: Item) -> Iterator[str]:
-    """Yields the roff of a function in the synopsis."""
+    """Yields the roff of a function in the synopsis.
+
+    Lines may break after each comma, also between the parameters of a parameter.
+    """
     text = " ".join(line.strip() for line in item.lines)
     match = FUNCTION.match(text)
     assert match is not None
     yield f".Ft {match['type'].strip()}"
     yield f".Fo {match['name']}"
-    for parameter in parameters(text[match.end() : text.rindex(")")]):
-        yield f'.Fa "{parameter}"'
+    for parameter in text[match.end() : text.rindex(")")].split(", "):
+        yield f'.Fa "{parameter}"' if parameter[-1] != ")" else f'.Fa "{parameter}\\&"'
     yield ".Fc"
 
 
@@ -327,7 +318,7 @@ def page_of(
     lines = [line_of_day(day), f".Dt {name.upper()} 3", ".Os", ".Sh NAME"]
     lines += [f".Nm {each} ," for each in names]
     lines[-1] = lines[-1].removesuffix(" ,")
-    lines += [f".Nd {about.rstrip('.')}", ".Sh SYNOPSIS", f".In {header}"]
+    lines += [f".Nd {about.rstrip('.').replace('`', '')}", ".Sh SYNOPSIS", f".In {header}"]
     for item in items:
         if item.is_function:
             lines += prototype(item)

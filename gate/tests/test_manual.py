@@ -62,7 +62,7 @@ typedef struct bb_pool {
                   false}
 
 //
-// POOL: buckets of one size.
+// POOL: buckets of `size`.
 //
 
 // The least size.
@@ -129,7 +129,7 @@ class Sections(unittest.TestCase):
         found = manual.sections_of(HEADER)
         self.assertEqual(
             [(each.title, each.about) for each in found],
-            [("", ""), ("PLACES", "places"), ("POOL", "buckets of one size."), ("CODES", "codes")],
+            [("", ""), ("PLACES", "places"), ("POOL", "buckets of `size`."), ("CODES", "codes")],
         )
         names = [[item.names for item in each.items] for each in found]
         pool = [("BB_LEAST",), ("bb_least",), ("bb_pool_init",), ("bb_pool_figures",)]
@@ -156,8 +156,9 @@ class Roff(unittest.TestCase):
     """Comments and declarations as roff."""
 
     def test_sentences_names_and_code(self) -> None:
-        lines = ["Frees `a-b` of bb_f (once.) Twice", "is refused. e.g. not"]
-        expected = [r"Frees \fBa\-b\fP of \%bb_f (once.)", "Twice is refused. e.g. not"]
+        lines = ["Frees `a-b` of (`bb_f` or bb_g.) Twice", "is refused. e.g. not"]
+        first = r"Frees \fBa\-b\fP of \%(\fBbb_f\fP or \%bb_g.)"
+        expected = [first, "Twice is refused. e.g. not"]
         self.assertEqual(manual.roff(lines), expected)
 
     def test_a_line_that_looks_like_a_request(self) -> None:
@@ -200,10 +201,6 @@ class Roff(unittest.TestCase):
         codes = manual.sections_of(HEADER)[3].items[0]
         expected = [".It BB_OK = 0", "Done.", ".It BB_LAST = BB_OK", "The last one."]
         self.assertEqual(list(manual.members(codes.lines))[1:-1], expected)
-
-    def test_parameters(self) -> None:
-        given = "void *(*a)(int, int), int b"
-        self.assertEqual(list(manual.parameters(given)), ["void *(*a)(int, int)", "int b"])
 
 
 LITERAL = (".Bd -literal -offset indent",)
@@ -278,12 +275,14 @@ Returns the name.
     def test_prototypes(self) -> None:
         lines = self.pages["bb_pool"].splitlines()
         init = [".Ft BB_MUST_USE uint32_t", ".Fo bb_pool_init", '.Fa "bb_pool *pool"']
-        get = [".Ft BB_MUST_USE void *", ".Fo bb_pool_get", '.Fa "void (*free)(int, int)"', ".Fc"]
+        free = ['.Fa "void (*free)(int"', r'.Fa "int)\&"']
+        get = [".Ft BB_MUST_USE void *", ".Fo bb_pool_get", *free, ".Fc"]
         least = [".Ft size_t", ".Fo bb_least", '.Fa "size_t size"', ".Fc"]
         at = lines.index(".Sh SYNOPSIS") + 2
         expected = [*least, *init, '.Fa "size_t size"', ".Fc", *get, ".Sh DESCRIPTION"]
         self.assertEqual(lines[at : lines.index(".Sh DESCRIPTION") + 1], expected)
         self.assertIn(".Ss BB_LEAST(size)", lines)
+        self.assertIn(".Nd buckets of size", lines)
 
     def test_two_pages_of_one_name(self) -> None:
         with self.assertRaisesRegex(Failed, "one name"):
