@@ -2,6 +2,7 @@
 
 import io
 import os
+import shutil
 import unittest
 from contextlib import redirect_stdout
 from pathlib import Path
@@ -23,6 +24,19 @@ First.
 .It Fl h , Fl \\-help
 Second, with
 .Fl \\-gone .
+"""
+PLAIN = """\
+.Dd February 3, 2001
+.Dt X 3
+.Os
+.Sh NAME
+.Nm x
+.Nd a page
+.Sh SYNOPSIS
+.Ft int
+.Fo x
+.Fa one
+.Fc
 """
 
 
@@ -53,6 +67,36 @@ class Options(unittest.TestCase):
     def test_an_option_that_the_command_lacks(self) -> None:
         with self.assertRaisesRegex(Failed, "differ: --one$"):
             self.check("usage: x [--help]\n", PAGE)
+
+
+class Pages(unittest.TestCase):
+    """Manual pages that a tool finds fault with."""
+
+    def check(self, tool: str, text: str) -> None:
+        """Checks a page by one of the tools, unless that isn't installed."""
+        if shutil.which(tool) is None:
+            self.skipTest(f"{tool} is not installed")
+        tools = {tool: clean_root.PAGE_TOOLS[tool]}
+        with temporary_folder() as work, redirect_stdout(io.StringIO()):
+            pages = work / "share/man/man3"
+            pages.mkdir(parents=True)
+            (pages / "x.3").write_text(text, encoding="utf-8")
+            (pages / "y.3").symlink_to("x.3")
+            with mock.patch.multiple(clean_root, COMMANDS=(), PAGE_TOOLS=tools):
+                clean_root.check_pages(work, os.environ)
+
+    def test_a_page_without_fault(self) -> None:
+        for tool in clean_root.PAGE_TOOLS:
+            with self.subTest(tool):
+                self.check(tool, PLAIN)
+
+    def test_mandoc_finds_a_page_that_is_not_there(self) -> None:
+        with self.assertRaisesRegex(Failed, "(?s)Xr gone 3.*mandoc: x.3 has the findings"):
+            self.check("mandoc", f"{PLAIN}.Sh SEE ALSO\n.Xr gone 3\n")
+
+    def test_man_finds_a_line_that_is_too_long(self) -> None:
+        with self.assertRaisesRegex(Failed, "(?s)break line.*man: x.3 has the findings"):
+            self.check("man", PLAIN.replace("one", "a" * 90))
 
 
 class Roots(unittest.TestCase):
