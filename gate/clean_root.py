@@ -21,6 +21,8 @@ SUITE = "stable"
 # What a user has before the library is installed, and mandoc.
 INSTALLED = ("cmake", "gcc", "libc6-dev", "make", "man-db", "mandoc", "pkgconf")
 DEBOOTSTRAP = ("debootstrap", "--variant=minbase", f"--include={','.join(INSTALLED)}", SUITE)
+# The seconds after which debootstrap is ended, since the network doesn't answer.
+LONGEST = "300"
 # The environment of a command in the root.
 IN_ROOT = {"PATH": "/usr/sbin:/usr/bin:/sbin:/bin", "HOME": "/root", "LC_ALL": "C.UTF-8"}
 COMMANDS = ("bb-pool", "memrun")
@@ -81,7 +83,7 @@ def root_archive(work: Path, environment: Mapping[str, str]) -> Path | None:
     if not has(DEBOOTSTRAP[0], environment):
         return None
     root = work / "made_root"
-    ran = run([*DEBOOTSTRAP, str(root)], work, environment)
+    ran = run(["timeout", LONGEST, *DEBOOTSTRAP, str(root)], work, environment)
     if not ran.is_ok:
         say(f"debootstrap: {ran.last_line}, skipped")
         return None

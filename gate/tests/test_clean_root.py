@@ -108,7 +108,7 @@ class Roots(unittest.TestCase):
         tools.mkdir()
         if debootstrap is not None:
             write_script(tools / "debootstrap", debootstrap)
-        environment = {"PATH": str(tools)}
+        environment = {"PATH": f"{tools}:/usr/bin:/bin" if debootstrap else str(tools)}
         printed = io.StringIO()
         with mock.patch.dict(os.environ, {"XDG_CACHE_HOME": str(work / "cache")}):
             with redirect_stdout(printed):
@@ -131,6 +131,11 @@ class Roots(unittest.TestCase):
         with temporary_folder() as work:
             found = self.archive(work, "echo first; echo 'E: no network' >&2; exit 1")
         self.assertEqual(found, (None, "debootstrap: E: no network, skipped\n"))
+
+    def test_debootstrap_hangs(self) -> None:
+        with temporary_folder() as work, mock.patch.object(clean_root, "LONGEST", "0.1"):
+            found = self.archive(work, "echo 'I: Retrieving'; exec sleep 60")
+        self.assertEqual(found, (None, "debootstrap: I: Retrieving, skipped\n"))
 
     def test_a_kept_root(self) -> None:
         with temporary_folder() as work:
