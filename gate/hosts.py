@@ -2,10 +2,11 @@
 
 FILE is the built library for this machine. Without FILE, it is compiled from the proofs.
 
-These are tests of its installation, of the releases in dist, of the examples, of pools in files, of
-the Rust crate, of other targets than this machine, and of the programs that GUIDE.md and README.md
-show, in a copy of the tree. Once the releases are made, no test may call the toolchain. If the same
-kit and tools made the releases in dist, they have to have the same bytes.
+These are tests of its installation, of the releases in dist, of the manual pages and the Debian
+packages, of the examples, of pools in files, of the Rust crate, of other targets than this machine,
+and of the programs that GUIDE.md and README.md show, in a copy of the tree. Once the releases are
+made, no test may call the toolchain. If the same kit and tools made the releases in dist, they have
+to have the same bytes.
 """
 
 import os
@@ -13,7 +14,7 @@ import shutil
 from collections.abc import Mapping
 from pathlib import Path
 
-from gate import libraries, other_targets, pool_file, pool_pages, releases, times
+from gate import clean_root, libraries, other_targets, pool_file, pool_pages, releases, times
 from gate.crates import TOP
 from gate.files import MADE
 from gate.process import Failed, has, must_run, must_show, say
@@ -74,6 +75,10 @@ class Hosts:
             self.top,
             environment,
         )
+
+    def check_packages(self, environment: Mapping[str, str]) -> None:
+        """Checks the manual pages, and the Debian packages of the releases."""
+        clean_root.check(self.top, self.prefix, self.work, environment)
 
     def run_examples(self, environment: Mapping[str, str]) -> None:
         """Builds and runs the examples with each installed compiler, and under each checker."""
@@ -140,6 +145,8 @@ def run(library: Path | None) -> None:
         environment = hosts.environment()
         with times.part("hosts: the installation"):
             hosts.check_installation(environment)
+        with times.part("hosts: Debian packages"):
+            hosts.check_packages(environment)
         with times.part("hosts: examples"):
             hosts.run_examples(environment)
         with times.part("hosts: pools in files"):

@@ -18,12 +18,16 @@ from gate.files import MADE, files_below
 from gate.process import Failed, has, say
 from gate.temporary import temporary_folder
 
-# The Debian packages of the tools, and of those by which `.ci/run-c` tests other targets.
+# The Debian packages of the tools, and of those by which `.ci/run-c` tests packages, manual pages
+# and other targets.
 PACKAGES = {
     "clang-format": ("clang-format",),
     "black": ("black",),
     "mypy": ("mypy",),
     "shellcheck": ("shellcheck",),
+    "debootstrap": ("debootstrap",),
+    "lintian": ("lintian",),
+    "mandoc": ("mandoc",),
     "aarch64-linux-gnu-gcc": ("gcc-aarch64-linux-gnu", "libc6-dev-arm64-cross"),
     "aarch64-linux-gnu-g++": ("g++-aarch64-linux-gnu",),
     "qemu-aarch64": ("qemu-user",),

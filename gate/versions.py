@@ -2,6 +2,9 @@
 
 import re
 from collections.abc import Iterator, Mapping
+from datetime import date
+
+from gate.process import Failed
 
 HEADER = "crates/bb_memory_c/bb_memory.h"
 VERSION = re.compile(r'^#define BB_VERSION "([\d.]+)"', re.M)
@@ -13,6 +16,8 @@ COPIES = {
 }
 # The same for the name of a release file, which a page may have.
 RELEASE = re.compile(r"(\bbb_memory-|libbb_memory\.so\.)(\d+\.\d+\.\d+)()")
+# What follows the newest version in its heading: the day of the release.
+DAY = re.compile(r" \((\d{4}-\d\d-\d\d)\)")
 PARTS = ("MAJOR", "MINOR", "PATCH")
 PAGE = re.compile(r"[A-Z]+\.md|docs/\w+\.md|bindings/rust/\w+\.md|crates/\w+/\w+\.md")
 # The version of the ported crate, and the last version before those in CHANGELOG.md.
@@ -25,6 +30,15 @@ def version_of(texts: Mapping[str, str]) -> str:
     if match is None:
         raise ValueError(f"{HEADER}: has no BB_VERSION")
     return match[1]
+
+
+def date_of(texts: Mapping[str, str]) -> date:
+    """Returns the day of the header's version, by the heading of the version in CHANGELOG.md."""
+    version = version_of(texts)
+    match = re.search(rf"^## {re.escape(version)}{DAY.pattern}$", texts[CHANGES], re.M)
+    if match is None:
+        raise Failed(f"{CHANGES}: has no heading `## {version} (YEAR-MONTH-DAY)`")
+    return date.fromisoformat(match[1])
 
 
 def pages(texts: Mapping[str, str]) -> Iterator[str]:
@@ -60,13 +74,16 @@ def wrong(texts: Mapping[str, str]) -> Iterator[str]:
 def wrong_changes(texts: Mapping[str, str]) -> Iterator[str]:
     """Yields the errors in the versions that CHANGELOG.md lists.
 
-    The newest one has to be the header's, and each older one has to name its commit. Pages may name
-    no other version.
+    The newest one has to be the header's, with its day, and each older one has to name its commit.
+    Pages may name no other version.
     """
     headings = re.findall(r"^## (\d+\.\d+\.\d+)(.*)$", texts[CHANGES], re.M)
     versions = [version for version, _ in headings]
     if versions[:1] != [version_of(texts)]:
         yield f"{CHANGES}: the newest version isn't {version_of(texts)}"
+    for version, rest in headings[:1]:
+        if DAY.fullmatch(rest) is None:
+            yield f"{CHANGES}: {version} has no day, as in `## {version} (2000-01-31)`"
     for version, rest in headings[1:]:
         if re.fullmatch(r" \(commit [0-9a-f]{8}\)", rest) is None:
             yield f"{CHANGES}: {version} has no `(commit ..)`"

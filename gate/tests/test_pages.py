@@ -122,6 +122,11 @@ class Faults(unittest.TestCase):
     def test_version_without_a_commit(self) -> None:
         self.finds(changed("CHANGELOG.md", " (commit 0123abcd)", ""), "1.2.2 has no `(commit ..)`")
 
+    def test_newest_version_without_a_day(self) -> None:
+        for rest in ("", " (commit 0123abcd)", " (2001-2-3)"):
+            with self.subTest(rest):
+                self.finds(changed("CHANGELOG.md", " (2001-02-03)", rest), "1.2.3 has no day")
+
     def test_edit_in_a_folder_that_nobody_reads(self) -> None:
         edit = TEXTS["crates/high/must-fail/counts_one.edit"]
         self.finds({"crates/high/mutants/counts_two.edit": edit}, "no check reads edits")
