@@ -101,6 +101,18 @@ def test_any_bytes_are_posted(file: PoolFile) -> None:
     assert (party.take(3), file.info().held) == (None, 0)
 
 
+def test_a_message_that_is_too_long_is_written_nowhere(file: PoolFile) -> None:
+    party = file.join()
+    first, *others = (party.bucket() for _ in range(20))
+    for bucket in others:
+        view(bucket)[:] = bytes([7]) * 64
+    first.free()
+    with pytest.raises(bb_memory.SizeTooLargeError):
+        party.post(0, bytes(128))
+    assert all(text(bucket) == bytes([7]) * 64 for bucket in others)
+    assert file.info().held == 19
+
+
 def test_with_finishes_a_message(file: PoolFile) -> None:
     party = file.join()
     party.post(0, b"one")

@@ -1,6 +1,7 @@
 """Views of buckets: what they refuse, and what they keep alive."""
 
 import gc
+import os
 from pathlib import Path
 from typing import Any, Callable, cast
 
@@ -165,6 +166,22 @@ def test_a_bucket_without_views_is_freed_with_the_object(file: PoolFile) -> None
     for _ in range(100):
         view(party.bucket())[0] = 1
     assert file.info().held == 0
+
+
+def test_a_file_is_closed_with_the_object(path: Path) -> None:
+    def descriptors() -> int:
+        return len(os.listdir("/proc/self/fd"))
+
+    before = descriptors()
+    file = PoolFile(path, **FIGURES)
+    bucket = file.join().bucket()
+    seen = view(bucket)
+    del file, bucket
+    assert descriptors() > before
+    seen.release()
+    assert descriptors() == before
+    PoolFile(path).close()
+    assert descriptors() == before
 
 
 def test_arrays_are_the_buckets_memory(file: PoolFile, other: PoolFile) -> None:
