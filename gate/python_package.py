@@ -115,6 +115,10 @@ class Package:
         found = {} if site is None else {"PYTHONPATH": str(site), "MYPYPATH": str(site)}
         return {**kept, "PYTHONDONTWRITEBYTECODE": "1", **found, **more}
 
+    def environment_for(self, prefix: Path) -> dict[str, str]:
+        """Returns an environment in which a build finds the library below a prefix."""
+        return self.environment(PKG_CONFIG_PATH=str(prefix / "lib/pkgconfig"))
+
     def has(self, module: str) -> bool:
         """Returns whether the interpreter has a module. If not, prints a line."""
         words = [self.interpreter, "-c", f"import {module}"]
@@ -158,13 +162,13 @@ class Package:
         self.check_missing()
         site = self.install("release", self.environment(), with_release=True)
         self.run_tests("the release", site)
-        shared = self.work / "shared_library"
+        shared = self.work / "shared"
         shutil.copytree(self.prefix, shared, symlinks=True)
         (shared / "lib/libbb_memory.a").unlink()
-        for name, prefix in (("the shared library", shared), ("the archive", self.prefix)):
-            environment = self.environment(PKG_CONFIG_PATH=str(prefix / "lib/pkgconfig"))
-            site = self.install(name.replace(" ", "_"), environment, with_release=False)
-            self.run_tests(name, site, LD_LIBRARY_PATH=str(prefix / "lib") * (prefix == shared))
+        site = self.install("over_shared", self.environment_for(shared), with_release=False)
+        self.run_tests("the shared library", site, LD_LIBRARY_PATH=str(shared / "lib"))
+        site = self.install("over_archive", self.environment_for(self.prefix), with_release=False)
+        self.run_tests("the archive", site)
         return site
 
     def check_types(self, site: Path) -> None:

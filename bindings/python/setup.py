@@ -59,9 +59,9 @@ def extension(work: Path) -> Extension:
     """Returns the extension, which links the archive, or the shared library if there is none."""
     include, lib = folders(work)
     archive = lib / "libbb_memory.a"
-    found = Extension("bb_memory._native", ["src/bb_memory/_native.c"])
+    found = Extension("bb_memory._native", ["src/native.c"])
     found.include_dirs.append(str(include))
-    found.extra_compile_args += ["-std=c99", "-D_POSIX_C_SOURCE=200809L"]
+    found.extra_compile_args += ["-std=c11", "-D_POSIX_C_SOURCE=200809L"]
     if archive.exists():
         found.extra_objects.append(str(archive))
         found.extra_link_args += ["-Wl,--exclude-libs,ALL", "-pthread"]

@@ -56,9 +56,6 @@ enum {
     ERRORS = sizeof errors / sizeof *errors
 };
 
-// The base of all of them.
-static PyObject *base_error;
-
 // Raises the exception of a code. The path, which may be NULL, is that of the file.
 static PyObject *raise_code(uint32_t code, PyObject *path) {
     if (code == BB_FILE_SYSTEM)
@@ -76,13 +73,13 @@ static PyObject *raise_code(uint32_t code, PyObject *path) {
 
 // Makes the exceptions, with the code and its name as attributes, and adds them to the module.
 static bool add_errors(PyObject *module) {
-    base_error = PyErr_NewException("bb_memory.Error", PyExc_Exception, NULL);
-    if (base_error == NULL || PyObject_SetAttrString(module, "Error", base_error) != 0)
+    PyObject *base = PyErr_NewException("bb_memory.Error", PyExc_Exception, NULL);
+    if (base == NULL || PyObject_SetAttrString(module, "Error", base) != 0)
         return false;
     for (size_t at = 0; at < ERRORS; at++) {
         struct error *error = &errors[at];
-        PyObject *bases = error->is_value_error ? PyTuple_Pack(2, base_error, PyExc_ValueError)
-                                                : PyTuple_Pack(1, base_error);
+        PyObject *bases =
+            error->is_value_error ? PyTuple_Pack(2, base, PyExc_ValueError) : PyTuple_Pack(1, base);
         PyObject *attributes = Py_BuildValue("{s:I,s:s}", "code", (unsigned int)error->code, "name",
                                              bb_pool_file_name(error->code));
         if (bases != NULL && attributes != NULL)
@@ -169,7 +166,7 @@ static PyStructSequence_Desc info_description = {
     "bb_memory.Info",
     "The figures of a file.",
     info_fields,
-    13,
+    sizeof info_fields / sizeof *info_fields - 1,
 };
 
 static PyStructSequence_Field holder_fields[] = {
@@ -182,7 +179,7 @@ static PyStructSequence_Desc holder_description = {
     "bb_memory.Holder",
     "The holder of a bucket.",
     holder_fields,
-    3,
+    sizeof holder_fields / sizeof *holder_fields - 1,
 };
 
 static PyStructSequence_Field seen_fields[] = {
@@ -194,7 +191,7 @@ static PyStructSequence_Desc seen_description = {
     "bb_memory.SeenMessage",
     "A message that is in a slot.",
     seen_fields,
-    2,
+    sizeof seen_fields / sizeof *seen_fields - 1,
 };
 
 // Fills an object of figures with the items of a tuple, and frees the tuple. If the tuple is NULL,
@@ -219,10 +216,10 @@ static PyObject *figures_of(PyTypeObject *type, PyObject *items) {
 
 // An open file. It is closed once `close` was called and nothing pins it, or with the object.
 typedef struct file_object {
-    PyObject_HEAD
+    PyObject ob_base;
 
-        // The library's file, or NULL after it was closed.
-        bb_pool_file *file;
+    // The library's file, or NULL after it was closed.
+    bb_pool_file *file;
 
     // The path or the descriptor by which the file was opened.
     PyObject *path;
@@ -257,7 +254,8 @@ static bool close_now(file_object *self) {
     return code == BB_OK;
 }
 
-// As `close_now`, where no caller can get an exception. One that is on its way stays.
+// Closes the file if no caller can get an exception: one that is on its way stays, and a new one is
+// printed.
 static void close_at_last(file_object *self) {
     PyObject *type = NULL;
     PyObject *value = NULL;
@@ -282,8 +280,8 @@ static bool check_open(const file_object *self) {
     return false;
 }
 
-// Stores in `to` the figures that the arguments name. Returns false with an exception if they name
-// only some of those that a file is made with.
+// Stores the figures that the arguments name, or their defaults, in `to`. Returns false with an
+// exception if a file is to be made, and one of those is missing that have no default.
 static bool read_options(PyObject *args, PyObject *keywords, PyObject **path,
                          bb_pool_file_options *to) {
     static char *names[] = {"",      "bucket_size", "bucket_align", "buckets", "parties",
@@ -432,7 +430,7 @@ static PyObject *file_info(file_object *self, PyObject *nothing) {
     return figures_of(&info_type, items);
 }
 
-// Makes one of the library's waits. `slot` is of no use to that for a bucket.
+// One of the library's waits. The one for a bucket ignores the slot.
 typedef uint32_t wait_call(bb_pool_file *file, uint32_t slot, uint32_t milliseconds);
 
 static uint32_t wait_bucket(bb_pool_file *file, uint32_t slot, uint32_t milliseconds) {
@@ -623,7 +621,8 @@ static PyTypeObject file_type = {
 
 // What a memoryview of the host's own bytes refers to.
 typedef struct user_object {
-    PyObject_HEAD file_object *owner;
+    PyObject ob_base;
+    file_object *owner;
 } user_object;
 
 static int user_get(user_object *self, Py_buffer *view, int flags) {
@@ -633,8 +632,8 @@ static int user_get(user_object *self, Py_buffer *view, int flags) {
         PyErr_SetString(PyExc_BufferError, "the file has no bytes of the host, or isn't open here");
         return -1;
     }
-    if (PyBuffer_FillInfo(view, (PyObject *)self, place, (Py_ssize_t)owner->user_bytes, 0, flags) !=
-        0)
+    const Py_ssize_t len = (Py_ssize_t)owner->user_bytes;
+    if (PyBuffer_FillInfo(view, (PyObject *)self, place, len, 0, flags) != 0)
         return -1;
     owner->pins++;
     return 0;
@@ -685,7 +684,8 @@ static PyObject *file_user(file_object *self, PyObject *nothing) {
 // A party, which leaves once `leave` was called and no view of its buckets is alive, or with the
 // object.
 typedef struct party_object {
-    PyObject_HEAD file_object *owner;
+    PyObject ob_base;
+    file_object *owner;
 
     // The library's party, or NULL after it left. It is also gone once the file is closed.
     bb_file_party *party;
@@ -823,7 +823,8 @@ enum state {
 
 // A bucket that a party holds. With the object, its message is put back, or the bucket is freed.
 typedef struct bucket_object {
-    PyObject_HEAD party_object *party;
+    PyObject ob_base;
+    party_object *party;
     void *place;
     size_t len;
     uint32_t slot;  // of the message that is still in it
@@ -997,7 +998,7 @@ static bool check_held(const bucket_object *self) {
     return false;
 }
 
-// As `check_held`, and raises BufferError if a view is alive.
+// Raises what `check_held` raises, or BufferError if a view is alive.
 static bool check_unseen(const bucket_object *self) {
     if (!check_held(self))
         return false;
@@ -1106,7 +1107,7 @@ static PyObject *bucket_nbytes(bucket_object *self, void *nothing) {
 }
 
 // Makes a view. It can't be written before the message is done, since another process may take the
-// message again. In a forked child there is no memory to see.
+// message again. A forked child has no memory to show.
 static int bucket_get(bucket_object *self, Py_buffer *view, int flags) {
     party_object *party = self->party;
     const bool is_left = party->has_left || party->owner->is_closed || self->is_dropped;
@@ -1115,8 +1116,8 @@ static int bucket_get(bucket_object *self, Py_buffer *view, int flags) {
         return -1;
     }
     const int is_readonly = self->state == IN_SLOT;
-    if (PyBuffer_FillInfo(view, (PyObject *)self, self->place, (Py_ssize_t)self->len, is_readonly,
-                          flags) != 0)
+    const Py_ssize_t len = (Py_ssize_t)self->len;
+    if (PyBuffer_FillInfo(view, (PyObject *)self, self->place, len, is_readonly, flags) != 0)
         return -1;
     self->views++;
     party->pins++;
