@@ -55,7 +55,7 @@ LONGEST = 120.0
 def missing_in(interpreter: str, environment: Mapping[str, str]) -> list[str]:
     """Returns what an interpreter is without, of what the build and the tests need."""
     if not os.access(interpreter, os.X_OK):
-        return [interpreter]
+        return ["any interpreter"]
     return must_run([interpreter, "-c", NEEDS], Path("/"), environment).split()
 
 
@@ -209,20 +209,19 @@ class Package:
         consumer = start(["consumer.py", path])
         producer = start(["producer.py", path, str(ARRAYS)])
         try:
-            wait_for_lines(output, ARRAYS // 3)
+            wait_for_array(output, ARRAYS // 3)
             consumer.kill()
             consumer.wait()
             consumer = start(["consumer.py", path])
-            status = producer.wait(LONGEST)
-            wait_for_lines(output, ARRAYS)
-            time.sleep(0.2)
+            wait_for_array(output, ARRAYS - 1)
+            producer.wait(LONGEST)
         finally:
             for started in (consumer, producer):
                 started.kill()
                 started.wait()
         path.unlink()
         found = wrong_sums(output.read_text(encoding="utf-8"), ARRAYS)
-        if status != 0 or consumer.returncode != -signal.SIGKILL or found:
+        if (producer.returncode, consumer.returncode) != (0, -signal.SIGKILL) or found:
             raise Failed(f"{PACKAGE}/README.md: its programs fail: {' '.join(found)}")
         say("Python package: the programs of its page run, and one of them was killed")
 
@@ -258,12 +257,12 @@ class Package:
         must_run(words, self.top / PACKAGE, self.environment(site))
 
 
-def wait_for_lines(output: Path, count: int) -> None:
-    """Waits until a file has that many lines. Raises Failed if that takes too long."""
+def wait_for_array(output: Path, number: int) -> None:
+    """Waits until the page's consumer has printed an array. Raises Failed if that takes too long."""
     end = time.monotonic() + LONGEST
-    while output.read_bytes().count(b"\n") < count:
+    while f"\n{number}.0 " not in output.read_text(encoding="utf-8"):
         if time.monotonic() > end:
-            raise Failed(f"{output}: less than {count} lines after {LONGEST:.0f} s")
+            raise Failed(f"{output}: array {number} doesn't come in {LONGEST:.0f} s")
         time.sleep(0.01)
 
 

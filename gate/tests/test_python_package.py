@@ -43,7 +43,7 @@ class Interpreters(unittest.TestCase):
         found, printed = self.find("missing", "poor")
         self.assertIsNone(found)
         self.assertRegex(printed, r"^Python package: .*poor is without pytest, Python.h, skipped$")
-        self.assertRegex(self.find("missing")[1], "is without .*missing, skipped")
+        self.assertRegex(self.find("missing")[1], "missing is without any interpreter, skipped")
 
 
 class Sums(unittest.TestCase):
