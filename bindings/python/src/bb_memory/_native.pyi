@@ -161,7 +161,7 @@ class PoolFile:
     is lost. Whoever may write the file is trusted: rule 4 of bb_pool_file.h.
 
     A forked child has to open the file again. There, an array or another view that was made before
-    the fork has no memory, and any access to it kills the child.
+    the fork has no memory, and must not be used: an access usually kills the child.
     """
 
     def __new__(
