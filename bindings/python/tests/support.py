@@ -3,8 +3,9 @@
 import ctypes
 import subprocess
 import sys
+from contextlib import contextmanager
 from pathlib import Path
-from typing import Any, cast
+from typing import Any, Iterator, cast
 
 from bb_memory import Bucket
 
@@ -30,19 +31,21 @@ def address(bucket: Bucket) -> int:
     return ctypes.addressof(ctypes.c_char.from_buffer(cast(Any, bucket)))
 
 
-def start(program: str, path: Path) -> "subprocess.Popen[str]":
-    """Starts another interpreter with a program, which finds `path` in `sys.argv[1]`."""
+@contextmanager
+def started(program: str, path: Path) -> "Iterator[subprocess.Popen[str]]":
+    """Starts another interpreter with a program, which finds `path` in `sys.argv[1]`.
+
+    At the end of the block, kills it if it still runs.
+    """
     words = [sys.executable, "-c", program, str(path)]
-    return subprocess.Popen(words, stdout=subprocess.PIPE, text=True)
+    with subprocess.Popen(words, stdout=subprocess.PIPE, text=True) as child:
+        try:
+            yield child
+        finally:
+            child.kill()
 
 
 def line_of(child: "subprocess.Popen[str]") -> str:
     """Returns the next line that a child prints."""
     assert child.stdout is not None
     return child.stdout.readline().rstrip("\n")
-
-
-def kill(child: "subprocess.Popen[str]") -> None:
-    """Kills a child as `kill -9` does, and waits for its end."""
-    child.kill()
-    child.communicate()

@@ -13,7 +13,7 @@ from typing import Callable
 import bb_memory
 import pytest
 from bb_memory import PoolFile
-from support import LONGEST, kill, line_of, start, text, view
+from support import LONGEST, line_of, started, text, view
 
 # Sends in all slots until it is killed: a copy, or the bucket in which the message is built.
 SENDER = """
@@ -66,10 +66,9 @@ def test_a_killed_sender_loses_nothing(file: PoolFile, path: Path) -> None:
     party = file.join()
     received = 0
     for _ in range(8):
-        child = start(SENDER, path)
-        came = file.wait_full(3, LONGEST)
-        time.sleep(0.01)
-        kill(child)
+        with started(SENDER, path):
+            came = file.wait_full(3, LONGEST)
+            time.sleep(0.01)
         assert came
         file.reap(dead=True)
         for slot in range(4):
@@ -86,12 +85,11 @@ def test_a_killed_sender_loses_nothing(file: PoolFile, path: Path) -> None:
 def test_what_a_killed_receiver_held_comes_back(file: PoolFile, path: Path) -> None:
     party = file.join()
     party.post(0, b"once more")
-    child = start(RECEIVER, path)
-    other, life, number = (int(word) for word in line_of(child).split())
-    assert file.is_alive(other, life)
-    assert party.take(0) is None
-    assert (file.info().held, file.info().lost, file.info().detached) == (2, 0, 1)
-    kill(child)
+    with started(RECEIVER, path) as child:
+        other, life, number = (int(word) for word in line_of(child).split())
+        assert file.is_alive(other, life)
+        assert party.take(0) is None
+        assert (file.info().held, file.info().lost, file.info().detached) == (2, 0, 1)
     assert not file.is_alive(other, life)
     assert file.info().lost == 2
     assert file.reap() == 1
@@ -102,13 +100,13 @@ def test_what_a_killed_receiver_held_comes_back(file: PoolFile, path: Path) -> N
 
 
 def test_ctrl_c_ends_a_wait(file: PoolFile, path: Path) -> None:
-    child = start(WAITER, path)
-    assert line_of(child) == "waits"
-    time.sleep(0.2)
-    assert child.poll() is None
-    began = time.monotonic()
-    child.send_signal(signal.SIGINT)
-    output, _ = child.communicate(timeout=LONGEST)
+    with started(WAITER, path) as child:
+        assert line_of(child) == "waits"
+        time.sleep(0.2)
+        assert child.poll() is None
+        began = time.monotonic()
+        child.send_signal(signal.SIGINT)
+        output, _ = child.communicate(timeout=LONGEST)
     assert time.monotonic() - began < 10
     assert (output, child.returncode) == ("interrupted\n", 0)
 
