@@ -7,7 +7,9 @@ from pathlib import Path
 from gate.process import Failed
 
 # Folders that tools make and that hold no source. Lanes in `out` come and go while the gate runs.
-MADE = frozenset({".git", "__pycache__", ".mypy_cache", "out", "target"})
+MADE = frozenset(
+    {".git", "__pycache__", ".mypy_cache", "build", "bb_memory.egg-info", "out", "target"}
+)
 
 
 class TreeChanged(Failed):

@@ -3,10 +3,10 @@
 FILE is the built library for this machine. Without FILE, it is compiled from the proofs.
 
 These are tests of its installation, of the releases in dist, of the manual pages and the Debian
-packages, of the examples, of pools in files, of the Rust crate, of other targets than this machine,
-and of the programs that GUIDE.md and README.md show, in a copy of the tree. Once the releases are
-made, no test may call the toolchain. If the same kit and tools made the releases in dist, they have
-to have the same bytes.
+packages, of the examples, of pools in files, of the Rust crate, of the Python package, of other
+targets than this machine, and of the programs that GUIDE.md and README.md show, in a copy of the
+tree. Once the releases are made, no test may call the toolchain. If the same kit and tools made the
+releases in dist, they have to have the same bytes.
 """
 
 import os
@@ -14,7 +14,16 @@ import shutil
 from collections.abc import Mapping
 from pathlib import Path
 
-from gate import clean_root, libraries, other_targets, pool_file, pool_pages, releases, times
+from gate import (
+    clean_root,
+    libraries,
+    other_targets,
+    pool_file,
+    pool_pages,
+    python_package,
+    releases,
+    times,
+)
 from gate.crates import TOP
 from gate.files import MADE
 from gate.process import Failed, has, must_run, must_show, say
@@ -106,6 +115,12 @@ class Hosts:
         if has("cargo", environment):
             must_show([self.top / "bindings/rust/check", self.prefix], self.top, environment)
 
+    def check_python(self, environment: Mapping[str, str]) -> None:
+        """Tests the Python package."""
+        work = self.work / "python"
+        with pool_pages.folder_for_pools() as folder:
+            python_package.check(self.top, self.prefix, work, folder, environment)
+
     def compare_releases(self) -> None:
         """Compares the releases in dist with those of this library, if the same tools made both."""
         releases.compare(self.top / "dist", self.work / "dist")
@@ -155,6 +170,8 @@ def run(library: Path | None) -> None:
             hosts.check_other_targets(environment)
         with times.part("hosts: the Rust crate"):
             hosts.check_rust(environment)
+        with times.part("hosts: the Python package"):
+            hosts.check_python(environment)
         hosts.compare_releases()
         with times.part("hosts: the pages"):
             hosts.run_pages(environment)

@@ -18,8 +18,8 @@ from gate.files import MADE, files_below
 from gate.process import Failed, has, say
 from gate.temporary import temporary_folder
 
-# The Debian packages of the tools, and of those by which `.ci/run-c` tests packages, manual pages
-# and other targets.
+# The Debian packages of the tools, and of those by which `.ci/run-c` tests packages, manual pages,
+# other targets and the Python package.
 PACKAGES = {
     "clang-format": ("clang-format",),
     "black": ("black",),
@@ -32,7 +32,11 @@ PACKAGES = {
     "aarch64-linux-gnu-g++": ("g++-aarch64-linux-gnu",),
     "qemu-aarch64": ("qemu-user",),
     "musl-gcc": ("musl-tools",),
+    "pytest-3": ("python3-pytest", "python3-dev", "python3-pip", "python3-wheel"),
+    "f2py3": ("python3-numpy",),
 }
+# The folder of the Python package. mypy needs the built package, so `.ci/run-c` runs it there.
+PYTHON_PACKAGE = Path("bindings/python")
 # The versions that laid out the files, as the tools print them.
 LAYOUT_OF = {"clang-format": r"\b14\.", "black": r"\b23\."}
 C_ENDINGS = {".c", ".h", ".cpp", ".hpp"}
@@ -91,7 +95,9 @@ def checks(top: Path) -> list[Check]:
     if sources.python:
         words = ["black", "--check", "--quiet", "--diff", *sources.python]
         found.append(Check("black", words, top))
-        found.append(Check("mypy", ["mypy", "--scripts-are-modules", *sources.python], top))
+        package = top / PYTHON_PACKAGE
+        scripts = [file for file in sources.python if package not in file.parents]
+        found.append(Check("mypy", ["mypy", "--scripts-are-modules", *scripts], top))
     if sources.shell:
         found.append(Check("shellcheck", ["shellcheck", *sources.shell], top))
     rust = top / "bindings/rust"

@@ -22,10 +22,11 @@ from pathlib import Path
 
 from gate.process import Failed, must_run
 
-# The number of senders, and of receivers, that run at one time, and of processes that are killed.
+# The number of senders, and of receivers, that run at one time, and of processes that are killed
+# unless the caller says how many.
 ALIVE = 3
 KILLS = 300
-# The most seconds to wait between two kills.
+# The most seconds to wait between two kills, unless the caller says how long.
 PAUSE = 0.01
 # The number of messages for a sender that will be killed, and for one of the last senders.
 ENDLESS = 1_000_000_000
@@ -187,13 +188,16 @@ class Messages:
         """Returns what each sender has printed, or each receiver."""
         return [started.text() for started in self.started if started.sends == sends]
 
-    def run(self) -> str:
-        """Runs and kills the processes. Raises Failed if a message or a bucket is lost."""
+    def run(self, kills: int = KILLS, pause: float = PAUSE) -> str:
+        """Runs and kills the processes. Raises Failed if a message or a bucket is lost.
+
+        `kills` is how many are killed, and `pause` the most seconds to wait between two kills.
+        """
         try:
             for at in range(2 * ALIVE):
                 self.start_any(at < ALIVE)
-            for _ in range(KILLS):
-                time.sleep(self.random.uniform(0, PAUSE))
+            for _ in range(kills):
+                time.sleep(self.random.uniform(0, pause))
                 started = self.random.choice(self.alive)
                 self.kill_one(started)
                 self.start_any(started.sends)
@@ -213,4 +217,4 @@ class Messages:
         if found:
             raise Failed("\n".join(found[:10]))
         count = sum(text.count("\n") for text in received)
-        return f"{count} messages were received, with {KILLS} kills"
+        return f"{count} messages were received, with {kills} kills"

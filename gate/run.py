@@ -2,9 +2,9 @@
 
 That is `rt ci`, the gate of the toolchain, which proves all crates and tests, and runs the tests.
 Beside it run the gate's own tests, `.ci/pages` and the checks of layout; the mutants; and the tests
-of memrun, of C without and with each checker, and of the Rust crate. Each of these begins as soon
-as `rt ci` has built what it needs, since nothing is proved twice (gate/libraries.py). Last, the OOM
-tests run on what `rt ci` has built.
+of memrun, of C without and with each checker, of the Rust crate and of the Python package. Each of
+these begins as soon as `rt ci` has built what it needs, since nothing is proved twice
+(gate/libraries.py). Last, the OOM tests run on what `rt ci` has built.
 
 A toolchain may keep what `rt ci` proved. `.ci/mutants` keeps what it judged, and the gate what it
 compiled for C. With `--anew`, as for a release, nothing is read that is kept. The gate prints what
@@ -226,7 +226,7 @@ def run_commands(top: Path, work: Path, anew: bool) -> str:
         commands: dict[str, list[str | Path]] = {
             "mutants": [*nice, top / ".ci/mutants", *["--anew"] * anew],
             "memrun on scripts": [top / ".ci/run-memrun"],
-            "hosts: C, C++ and Rust": [top / ".ci/run-c"],
+            "hosts: C, C++, Rust and Python": [top / ".ci/run-c"],
         }
         others = [
             parts.enter_context(background(part, words, top)) for part, words in commands.items()

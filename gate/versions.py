@@ -13,13 +13,16 @@ CHANGES = "CHANGELOG.md"
 COPIES = {
     "bindings/rust/Cargo.toml": re.compile(r'(^\[package\]\nname = .*\nversion = ")(.*)(")', re.M),
     "bindings/rust/Cargo.lock": re.compile(r'(^name = "bb_memory"\nversion = ")(.*)(")', re.M),
+    "bindings/python/pyproject.toml": re.compile(
+        r'(^\[project\]\nname = .*\nversion = ")(.*)(")', re.M
+    ),
 }
 # The same for the name of a release file, which a page may have.
 RELEASE = re.compile(r"(\bbb_memory-|libbb_memory\.so\.)(\d+\.\d+\.\d+)()")
 # What follows the newest version in its heading: the day of the release.
 DAY = re.compile(r" \((\d{4}-\d\d-\d\d)\)")
 PARTS = ("MAJOR", "MINOR", "PATCH")
-PAGE = re.compile(r"[A-Z]+\.md|docs/\w+\.md|bindings/rust/\w+\.md|crates/\w+/\w+\.md")
+PAGE = re.compile(r"[A-Z]+\.md|docs/\w+\.md|bindings/\w+/\w+\.md|crates/\w+/\w+\.md")
 # The version of the ported crate, and the last version before those in CHANGELOG.md.
 OTHERS = ("0.9.3", "0.14.0")
 

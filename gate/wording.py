@@ -62,6 +62,8 @@ PAGE = re.compile(r".*\.md")
 CHANGES = "CHANGELOG.md"
 HEADER = re.compile(r"crates/bb_memory_c/bb_\w+\.(?:h|hpp)")
 DOCUMENTED = re.compile(r"crates/.*/src/.*\.rt|bindings/rust/src/.*\.rs")
+# Types for Python, with their comments in strings.
+TYPES = re.compile(r"bindings/python/src/.*\.pyi")
 
 
 def blank(text: str) -> str:
@@ -95,6 +97,8 @@ def prose_of(path: str, text: str) -> str:
         prose = prose_of_comments(text, r"(?:^|\s)//")
     elif DOCUMENTED.fullmatch(path):
         prose = prose_of_comments(text, r"^\s*//[/!]")
+    elif TYPES.fullmatch(path):
+        prose = text
     # Code in a sentence is a name, and not a word.
     return re.sub(r"`[^`\n]+`", "`_`", prose)
 

@@ -139,6 +139,7 @@ TEXTS = {
     "crates/bb_memory_c/bb_memory.h": HEADER,
     "bindings/rust/Cargo.toml": '[package]\nname = "bb_memory"\nversion = "1.2.3"\n',
     "bindings/rust/Cargo.lock": '[[package]]\nname = "bb_memory"\nversion = "1.2.3"\n',
+    "bindings/python/pyproject.toml": '[project]\nname = "bb_memory"\nversion = "1.2.3"\n',
     "CHANGELOG.md": "# Changes\n\n## 1.2.3 (2001-02-03)\n\n## 1.2.2 (commit 0123abcd)\n",
     "PROMISES.md": PROMISES,
     "README.md": "# Read\n\nSee [the words](docs/words.md#what-it-is), `Pool::count` of 1.2.3.\n",

@@ -5,6 +5,7 @@ import os
 import shutil
 import unittest
 from contextlib import redirect_stdout
+from pathlib import Path
 from unittest.mock import patch
 
 from gate import layout
@@ -67,6 +68,14 @@ class LayoutTest(CheckoutTest):
         self.assertEqual([file.name for file in found.c], ["a.hpp"])
         self.assertEqual([file.name for file in found.python], ["b.py", "c"])
         self.assertEqual([file.name for file in found.shell], ["d", "e.sh"])
+
+    def test_mypy_reads_the_python_package_elsewhere(self) -> None:
+        self.write({"a.py": "", f"{layout.PYTHON_PACKAGE}/tests/b.py": ""})
+        found = {
+            check.tool: [Path(it).name for it in check.words] for check in layout.checks(self.top)
+        }
+        self.assertEqual(found["mypy"][2:], ["a.py"])
+        self.assertEqual(found["black"][-2:], ["a.py", "b.py"])
 
     def test_a_tool_that_is_missing_or_of_another_version(self) -> None:
         self.write({"one.c": WRONG["clang-format"][1]})

@@ -117,6 +117,11 @@ class Places(unittest.TestCase):
         self.assertIn(":4: ", self.one("bindings/rust/src/pools.rs", source))
         self.none("crates/high/specs/Words.antt", source)
 
+    def test_types_for_python(self) -> None:
+        types = 'def post(self) -> None:\n    """Posts.\n\n    It is behind.\n    """\n'
+        self.assertIn(":4: ", self.one("bindings/python/src/bb_memory/_native.pyi", types))
+        self.none("bindings/python/src/native.c", types)
+
     def test_two_comments_are_no_sentence(self) -> None:
         self.none("crates/high/src/pools.rt", "/// Returns so\nfn a() {}\n/// many\nfn b() {}\n")
 
