@@ -2,10 +2,11 @@
 
 FILE is the built library for this machine. Without FILE, it is compiled from the proofs.
 
-These are tests of its installation, of the releases in dist, of the examples, of pools in files, of
-the Rust crate, of other targets than this machine, and of the programs that GUIDE.md and README.md
-show, in a copy of the tree. Once the releases are made, no test may call the toolchain. If the same
-kit and tools made the releases in dist, they have to have the same bytes.
+These are tests of its installation, of the releases in dist, of the examples, of programs of other
+people, of pools in files, of the Rust crate, of other targets than this machine, and of the
+programs that GUIDE.md and README.md show, in a copy of the tree. Once the releases are made, no
+test may call the toolchain. If the same kit and tools made the releases in dist, they have to have
+the same bytes.
 """
 
 import os
@@ -13,7 +14,7 @@ import shutil
 from collections.abc import Mapping
 from pathlib import Path
 
-from gate import libraries, other_targets, pool_file, pool_pages, releases, times
+from gate import adopted, libraries, other_targets, pool_file, pool_pages, releases, times
 from gate.crates import TOP
 from gate.files import MADE
 from gate.process import Failed, has, must_run, must_show, say
@@ -86,6 +87,10 @@ class Hosts:
             work = f"WORK={self.work / 'clang'}"
             must_show([*make, "refused", "plain", *compilers, prefix, work], self.top, environment)
 
+    def run_adopted(self, environment: Mapping[str, str]) -> None:
+        """Runs programs of other people over the library."""
+        adopted.check(self.top, self.prefix, self.work / "adopted", environment)
+
     def check_pool_file(self, environment: Mapping[str, str]) -> None:
         """Tests pools in files."""
         replay = self.build_replay()
@@ -142,6 +147,8 @@ def run(library: Path | None) -> None:
             hosts.check_installation(environment)
         with times.part("hosts: examples"):
             hosts.run_examples(environment)
+        with times.part("hosts: programs of other people"):
+            hosts.run_adopted(environment)
         with times.part("hosts: pools in files"):
             hosts.check_pool_file(environment)
         with times.part("hosts: other targets"):
