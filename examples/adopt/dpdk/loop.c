@@ -117,12 +117,18 @@ static double run(struct task *task, bool on_all) {
     return sum;
 }
 
-static struct rte_mempool *make(const char *handler, unsigned cached) {
+// Makes a mempool without memory.
+static struct rte_mempool *make_empty(const char *handler, unsigned cached) {
     struct rte_mempool *made =
         rte_mempool_create_empty(handler, OBJECTS, OBJECT_SIZE, cached, 0, SOCKET_ID_ANY, 0);
-    if (made == NULL || rte_mempool_set_ops_byname(made, handler, NULL) != 0 ||
-        rte_mempool_populate_default(made) != OBJECTS)
-        rte_exit(EXIT_FAILURE, "loop: no mempool of %s\n", handler);
+    expect(made != NULL, "there is memory for a mempool");
+    expect(rte_mempool_set_ops_byname(made, handler, NULL) == 0, "EAL has loaded the handler");
+    return made;
+}
+
+static struct rte_mempool *make(const char *handler, unsigned cached) {
+    struct rte_mempool *made = make_empty(handler, cached);
+    expect(rte_mempool_populate_default(made) == OBJECTS, "there is memory for all objects");
     return made;
 }
 
@@ -199,6 +205,7 @@ static void check(uint64_t cycles) {
     for (unsigned cache = 0; cache < RTE_DIM(caches); cache++)
         check_threads(caches[cache], cycles);
     check_puts();
+    rte_mempool_free(make_empty("bb", 0));
     puts("DPDK: no object is given twice, any lcore may put it, and wrong puts change nothing");
 }
 

@@ -149,12 +149,12 @@ static unsigned bb_get_count(const struct rte_mempool *mempool) {
     return (unsigned)sum;
 }
 
+// Frees a piece. DPDK has taken out the objects before, so their buckets are detached, and the pool
+// can only be abandoned. Its memory is freed all the same, since no party is left.
 static void destroy(struct piece *piece) {
     for (unsigned number = 0; number < PARTIES; number++)
-        bb_shared_pool_leave(&piece->pool, &piece->parties[number]);
-    // An application may free a mempool whose objects it hasn't put back.
-    if (bb_shared_pool_destroy(&piece->pool) == BB_BUCKET_DETACHED)
-        bb_shared_pool_abandon(&piece->pool);
+        bb_shared_pool_forget(&piece->pool, &piece->parties[number]);
+    bb_shared_pool_abandon(&piece->pool);
     rte_free(piece);
 }
 
@@ -205,9 +205,12 @@ static int bb_alloc(struct rte_mempool *mempool) {
     return 0;
 }
 
+// A mempool that was never populated has no data.
 static void bb_free(struct rte_mempool *mempool) {
     struct pieces *pieces = mempool->pool_data;
     struct piece *next;
+    if (pieces == NULL)
+        return;
     for (struct piece *at = pieces->first; at != NULL; at = next) {
         next = at->next;
         destroy(at);

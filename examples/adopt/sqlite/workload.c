@@ -1,10 +1,11 @@
 // Does the same work with SQLite's own allocators and with those over pools.
 //
-//     workload MODE ROWS
+//     workload MODE ROWS    prints a hash of all that SQLite answers
+//     workload twice        frees an allocation of the heap over pools twice, which ends the program
 //
-// MODE is `default`, `heap`, `pages` or `both`. Prints a hash of all that SQLite answers, which
-// does not depend on the mode. Each of two threads has a database of its own in a temporary file,
-// with a cache that is too small for it, and a second one in memory.
+// MODE is `default`, `heap`, `pages` or `both`, and the hash does not depend on it. Each of two
+// threads has a database of its own in a temporary file, with a cache that is too small for it, and
+// a second one in memory.
 #include <pthread.h>
 #include <sqlite3.h>
 #include <stdbool.h>
@@ -146,20 +147,30 @@ static void *work_on(void *argument) {
 // small requests before they get to the heap.
 static void configure(const char *mode) {
     const bool is_both = strcmp(mode, "both") == 0;
+    const bool is_heap = strcmp(mode, "heap") == 0 || strcmp(mode, "twice") == 0;
     expect(sqlite3_config(SQLITE_CONFIG_LOOKASIDE, 0, 0) == SQLITE_OK, "lookaside is off");
-    if (is_both || strcmp(mode, "heap") == 0)
+    if (is_both || is_heap)
         expect(sqlite_bb_heap(heap, sizeof(heap)) == SQLITE_OK, "the heap is over pools");
     if (is_both || strcmp(mode, "pages") == 0)
         expect(sqlite_bb_pages() == SQLITE_OK, "the cache is over pools");
     expect(sqlite3_initialize() == SQLITE_OK, "SQLite starts");
 }
 
+static int free_twice(void) {
+    void *place = sqlite3_malloc(100);
+    sqlite3_free(place);
+    sqlite3_free(place);
+    return 0;
+}
+
 int main(int count, char **words) {
     pthread_t threads[THREADS];
     struct work works[THREADS];
     uint64_t hash = 0;
-    expect(count == 3, "usage: workload MODE ROWS");
+    expect(count == 2 || count == 3, "usage: workload MODE ROWS, or workload twice");
     configure(words[1]);
+    if (count == 2)
+        return free_twice();
     for (int at = 0; at < THREADS; at++) {
         works[at] = (struct work){atoi(words[2]), 88172645463325252u + (unsigned)at,
                                   0xcbf29ce484222325, NULL};
