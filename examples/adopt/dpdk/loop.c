@@ -5,6 +5,7 @@
 //
 // This is the loop of DPDK's own mempool_perf_autotest: an lcore gets `keep` objects, `bulk` at a
 // time, and puts them back in the same way.
+#include <malloc.h>
 #include <pthread.h>
 #include <rte_cycles.h>
 #include <rte_debug.h>
@@ -201,11 +202,19 @@ static void check_puts(void) {
     rte_mempool_free(mempool);
 }
 
+// Checks that the memory of a mempool is freed, and that one without memory may be freed.
+static void check_free(void) {
+    const size_t before = mallinfo2().uordblks;
+    rte_mempool_free(make("bb", 0));
+    rte_mempool_free(make_empty("bb", 0));
+    expect(mallinfo2().uordblks == before, "nothing is lost");
+}
+
 static void check(uint64_t cycles) {
     for (unsigned cache = 0; cache < RTE_DIM(caches); cache++)
         check_threads(caches[cache], cycles);
     check_puts();
-    rte_mempool_free(make_empty("bb", 0));
+    check_free();
     puts("DPDK: no object is given twice, any lcore may put it, and wrong puts change nothing");
 }
 
