@@ -1,4 +1,4 @@
-// Has lcores get objects from a mempool and put them back.
+// Makes lcores get objects from a mempool and put them back.
 //
 //     loop EAL-OPTIONS -- MILLISECONDS    prints how many objects go round in a second, in a table
 //     loop EAL-OPTIONS -- check           checks the handler of bb_memory

@@ -143,7 +143,7 @@ static void *work_on(void *argument) {
     return NULL;
 }
 
-// Has SQLite allocate as the mode says. The lookaside buffers of connections would take most of the
+// Makes SQLite allocate as the mode says. The lookaside buffers of connections would take most of the
 // small requests before they get to the heap.
 static void configure(const char *mode) {
     const bool is_both = strcmp(mode, "both") == 0;
