@@ -3,10 +3,10 @@
 FILE is the built library for this machine. Without FILE, it is compiled from the proofs.
 
 These are tests of its installation, of the releases in dist, of the manual pages and the Debian
-packages, of the examples, of pools in files, of the Rust crate, of the Python package, of other
-targets than this machine, and of the programs that GUIDE.md and README.md show, in a copy of the
-tree. Once the releases are made, no test may call the toolchain. If the same kit and tools made the
-releases in dist, they have to have the same bytes.
+packages, of the examples, of programs of other people, of pools in files, of the Rust crate, of the
+Python package, of other targets than this machine, and of the programs that GUIDE.md and README.md
+show, in a copy of the tree. Once the releases are made, no test may call the toolchain. If the same
+kit and tools made the releases in dist, they have to have the same bytes.
 """
 
 import os
@@ -15,6 +15,7 @@ from collections.abc import Mapping
 from pathlib import Path
 
 from gate import (
+    adopted,
     clean_root,
     libraries,
     other_targets,
@@ -100,6 +101,10 @@ class Hosts:
             work = f"WORK={self.work / 'clang'}"
             must_show([*make, "refused", "plain", *compilers, prefix, work], self.top, environment)
 
+    def run_adopted(self, environment: Mapping[str, str]) -> None:
+        """Runs programs of other people over the library."""
+        adopted.check(self.top, self.prefix, self.work / "adopted", environment)
+
     def check_pool_file(self, environment: Mapping[str, str]) -> None:
         """Tests pools in files."""
         replay = self.build_replay()
@@ -164,6 +169,8 @@ def run(library: Path | None) -> None:
             hosts.check_packages(environment)
         with times.part("hosts: examples"):
             hosts.run_examples(environment)
+        with times.part("hosts: programs of other people"):
+            hosts.run_adopted(environment)
         with times.part("hosts: pools in files"):
             hosts.check_pool_file(environment)
         with times.part("hosts: other targets"):

@@ -135,7 +135,11 @@ def install() -> None:
     A tool that can't be installed is skipped later.
     """
     without = [packages for tool, packages in PACKAGES.items() if shutil.which(tool) is None]
-    missing = [package for packages in without for package in packages]
+    install_packages([package for packages in without for package in packages])
+
+
+def install_packages(missing: Sequence[str]) -> None:
+    """Installs Debian packages, if run by root on a machine with apt-get."""
     if not missing or os.geteuid() != 0 or shutil.which("apt-get") is None:
         return
     say(f"installing {' '.join(missing)}")

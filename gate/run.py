@@ -7,8 +7,9 @@ these begins as soon as `rt ci` has built what it needs, since nothing is proved
 (gate/libraries.py). Last, the OOM tests run on what `rt ci` has built.
 
 A toolchain may keep what `rt ci` proved. `.ci/mutants` keeps what it judged, and the gate what it
-compiled for C. With `--anew`, as for a release, nothing is read that is kept. The gate prints what
-each part took.
+compiled for C. With `--anew`, as for a release, nothing is read that is kept, and the packages are
+installed over which other people's programs run (gate/adopted.py). The gate prints what each part
+took.
 """
 
 import os
@@ -23,7 +24,7 @@ from contextlib import ExitStack, contextmanager
 from pathlib import Path
 from types import FrameType
 
-from gate import layout, libraries, out_of_memory, process, rt_output, times
+from gate import adopted, layout, libraries, out_of_memory, process, rt_output, times
 from gate.crates import TOP, Workspace
 from gate.process import Failed, must_run, must_show, say, status_of, wait_for
 from gate.temporary import temporary_folder
@@ -214,8 +215,8 @@ def ci_words(anew: bool) -> list[str]:
 def run_commands(top: Path, work: Path, anew: bool) -> str:
     """Runs `rt ci`, and beside it the parts of the gate that don't need all of its results.
 
-    The tools that hosts look for are installed before the parts that use them begin. Returns the
-    output of `rt ci`. Raises Failed if a command fails.
+    The tools and packages that hosts look for are installed before the parts that use them begin.
+    Returns the output of `rt ci`. Raises Failed if a command fails.
     """
     copy = work / libraries.COPY
     log = work / libraries.LOG
@@ -223,6 +224,8 @@ def run_commands(top: Path, work: Path, anew: bool) -> str:
     with ExitStack() as parts:
         rt_ci = parts.enter_context(background("rt ci", ci_words(anew), copy, log))
         layout.install()
+        if anew:
+            layout.install_packages(adopted.missing_packages())
         commands: dict[str, list[str | Path]] = {
             "mutants": [*nice, top / ".ci/mutants", *["--anew"] * anew],
             "memrun on scripts": [top / ".ci/run-memrun"],

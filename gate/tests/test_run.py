@@ -53,6 +53,8 @@ class GateTest(CheckoutTest):
         self.ran_oom_tests = self.enterContext(patch("gate.run.out_of_memory.run"))
         self.ran_layout = self.enterContext(patch("gate.run.layout.run"))
         self.enterContext(patch("gate.run.layout.install"))
+        self.installed = self.enterContext(patch("gate.run.layout.install_packages"))
+        self.enterContext(patch("gate.run.adopted.missing_packages", lambda: ["dpdk-dev"]))
 
     def run_gate(self, anew: bool = False) -> str:
         """Runs the gate and returns what it prints."""
@@ -92,6 +94,12 @@ class GateTest(CheckoutTest):
         self.assertEqual((self.top / "words").read_text(encoding="utf-8"), "\n")
         self.assertIn("rt: ci --anew\n", self.run_gate(anew=True))
         self.assertEqual((self.top / "words").read_text(encoding="utf-8"), "--anew\n")
+
+    def test_only_anew_installs_what_programs_of_other_people_need(self) -> None:
+        self.run_gate()
+        self.installed.assert_not_called()
+        self.run_gate(anew=True)
+        self.installed.assert_called_once_with(["dpdk-dev"])
 
     def test_a_kit_that_keeps_nothing(self) -> None:
         with self.tool("rt", "#!/bin/sh\necho rt ci\n"):
