@@ -25,7 +25,7 @@ DEBOOTSTRAP = ("debootstrap", "--variant=minbase", f"--include={','.join(INSTALL
 LONGEST = "300"
 # The environment of a command in the root.
 IN_ROOT = {"PATH": "/usr/sbin:/usr/bin:/sbin:/bin", "HOME": "/root", "LC_ALL": "C.UTF-8"}
-COMMANDS = ("bb-pool", "memrun")
+COMMANDS = ("bb-pool",)
 # A long option, in the usage of a command and in its manual page.
 IN_USAGE = re.compile(r"(?<![\w-])--([a-z][a-z-]*)")
 IN_PAGE = re.compile(r"^\.It (?:Fl h , )?Fl \\-([a-z][a-z\\-]*)$", re.M)
