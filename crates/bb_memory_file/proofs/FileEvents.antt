@@ -15,9 +15,6 @@ gets_on old middle new first next one two =
     two ∙ ap (λ (log : FileLog). record log { events = next ++ log.events }) one
     ∙ ap (λ events. record old { events = events }) (sym (append_assoc next first old.events))
 
-pub gets_none : (log : FileLog) → Gets log [] log
-gets_none log = refl
-
 pub freed_on : (next first : List Event) → freed_in (next ++ first) ≡ freed_in next + freed_in first
 freed_on [] first = omega arith
 freed_on (event ∷ next) first = let rest = freed_on next first in omega (arith, rest)

@@ -6,7 +6,7 @@ use Rattle.bb_memory_file.specs.FileCalls.{Gets, IsFound, IsLifeOf, IsOver, IsRe
 use Rattle.bb_memory_file.specs.FileCalls as calls
 use Rattle.bb_memory_file.specs.FileCalls.whereabouts as whereabouts
 use Rattle.bb_memory_file.specs.FileCode.{Event, ExchangeFlag, FileLog, HasNot, Holds, IsStep, IsWalk, Known, LoadFlag, LoadLife, MissFlag, StoreEntry, StoreFlag, StoreLife, Unknown, known_of, life_by, told}
-use Rattle.bb_memory_file.specs.FileLog.{held_still, is_held, with_entry}
+use Rattle.bb_memory_file.specs.FileLog.{with_entry}
 use Rattle.bb_memory_file.specs.FileNames.{Count, Counting, DetachedBy, FileFlag, FileStep, Flags, Free, HeldBy, Leave, Next, Nowhere, Outside, Place, Recover, SentTo, Settled}
 use Rattle.bb_memory_file.specs.FileSettlers.{IsCounted, IsCountedOn, IsRecover, IsSettledAt}
 use Rattle.bb_memory_file_machine.specs.FileMachine.{same_flag}
@@ -70,10 +70,6 @@ module _ (process : ℕ) (old : FileLog) (bucket : ℕ) where
       }
 
 -- ONE BUCKET
-
-pub held_by_flag : (known : Known) → is_held (held_still known) ≡ true
-held_by_flag Unknown = refl
-held_by_flag (Holds entry seen) = refl
 
 module _ (process : ℕ) (old : FileLog) (bucket : ℕ) (below : bucket < old.scene.buckets) where
   abbrev at : Place
@@ -344,9 +340,6 @@ settled_all process old new detached bucket freed settling past =
 
 abbrev pub max_life : ℕ
 max_life = 18446744073709551615
-
-pub is_over : (old new : FileLog) (life : ℕ) → new ≡ told old (LoadLife life) → 18446744073709551612 ≤ life → IsOver old new
-is_over old new life is most = (life, is, omega (arith, most))
 
 module _ (process : ℕ) (old : FileLog) (life : ℕ) where
   abbrev loaded : FileLog

@@ -257,7 +257,7 @@ fn settle_bucket<W: Words>(words: &mut W, bucket: u32) -> bool
 
 // LOOKS
 
-/// Looks where a bucket is that the party holds.
+/// Finds out whether a slot has a bucket that the party holds.
 fn find<W: Words>(words: &mut W, bucket: u32) -> Whereabouts
     requires below { bucket < (W.log words.old).scene.buckets }
     requires held { is_held (known_of (W.log words.old) bucket) ≡ true }

@@ -1,4 +1,4 @@
-//! What the walks of calls have to do with the machine of a pool in a file.
+//! Laws that lead from the calls' contracts to the machine of a pool in a file.
 ghost use Rattle.bb_memory_file.specs.FileCode.{FileLog, Path};
 ghost use Rattle.bb_memory_file.specs.FileFormat.{IsGeometry};
 ghost use Rattle.bb_memory_file.specs.FileNames.{FileStep, Place};
