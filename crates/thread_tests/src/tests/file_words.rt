@@ -13,7 +13,7 @@ use std::alloc::{AllocError, Global};
 use std::process::Abort;
 
 /// Three buckets, one slot and two parties, whose words are next to each other.
-const GEOMETRY: FileGeometry = FileGeometry {
+pub(super) const GEOMETRY: FileGeometry = FileGeometry {
     buckets: 3,
     slots: 1,
     parties: 2,
@@ -285,6 +285,21 @@ fn a_bucket_goes_to_another_party(rt: HostRuntime) {
     same(rt, exchange_flag(&mut taker, 2, sent, taken), Some(true));
     same(rt, exchange_flag(&mut sender, 2, sent, held), Some(false));
     same(rt, flag(&mut sender, 2), Some(taken));
+}
+
+#[test]
+fn a_new_file_is_empty(rt: HostRuntime) {
+    let rt = &rt;
+    let table = FileTable::of_zeros(rt.alloc(), 40, GEOMETRY).ok();
+    let table = table.expect(rt, "there is memory for the words");
+    same(rt, table.geometry().buckets, 3);
+    let mut last = party(rt, &table, 1);
+    same(rt, last.party(), 1);
+    same(rt, (last.buckets(), last.slots()), (3, 1));
+    same(rt, flag(&mut last, 2), Some(FileFlag::Free));
+    same(rt, entry(&mut last, 2), Some(Entry::Nowhere));
+    same(rt, slot(&mut last, 0), Some(Slot::Empty { lap: 0 }));
+    same(rt, last.load_life(), 0);
 }
 
 /// The taker leaves before it is done, so the message is taken once more.
