@@ -6,7 +6,7 @@ use bb_memory_file::table::FileTable;
 
 #[test]
 fn the_words_of_a_file_are_made_or_refused(rt: HostRuntime) {
-    match table(rt.alloc(), [0; 9]) {
+    match table(rt.alloc(), [0; 10]) {
         Ok(table) => check(&rt, table.party(1).is_some()),
         Err(_) => refused(&rt),
     }
@@ -14,7 +14,7 @@ fn the_words_of_a_file_are_made_or_refused(rt: HostRuntime) {
 
 #[test]
 fn the_words_of_a_new_file_are_made_or_refused(rt: HostRuntime) {
-    match FileTable::of_zeros(rt.alloc(), 40, GEOMETRY) {
+    match FileTable::of_zeros(rt.alloc(), 56, GEOMETRY) {
         Ok(table) => check(&rt, table.party(1).is_some()),
         Err(_) => refused(&rt),
     }
