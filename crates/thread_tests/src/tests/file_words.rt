@@ -3,7 +3,7 @@ ghost use Rattle.bb_memory_file.specs.FileLog.{IsLap, IsSaid};
 ghost use Rattle.std.specs.Prelude.{IfOk, ◌<◌, ◌≡◌};
 
 use super::checks::{check, same};
-use bb_memory_file::calls::{Taken, allocate, join, leave, post, take};
+use bb_memory_file::calls::{allocate, join, leave, post};
 use bb_memory_file::geometry::FileGeometry;
 use bb_memory_file::party::FileParty;
 use bb_memory_file::table::FileTable;
@@ -114,14 +114,6 @@ fn post_first(party: &mut FileParty, slot: u32) -> Option<u32> {
     }
     let bucket = allocate(party, 0)?;
     post(party, slot, bucket, 7).then_some(bucket)
-}
-
-/// Takes the message in a slot, if there is one.
-fn take_from(party: &mut FileParty, slot: u32) -> Option<Taken> {
-    if slot >= party.slots() {
-        return None;
-    }
-    Some(take(party, slot, 100))
 }
 
 /// Takes a value that several threads may use at the same time.
@@ -305,7 +297,7 @@ fn a_new_file_is_empty(rt: HostRuntime) {
     same(rt, last.load_life(), 0);
 }
 
-/// The taker leaves before it is done, so the message is taken once more.
+/// The taker leaves before it is done with the message, so the message is sent again.
 #[test]
 fn a_message_goes_to_another_party(rt: HostRuntime) {
     let rt = &rt;
@@ -313,22 +305,31 @@ fn a_message_goes_to_another_party(rt: HostRuntime) {
     let mut sender = party(rt, &table, 0);
     check(rt, join(&mut sender));
     same(rt, sender.load_life(), 3);
-    same(rt, post_first(&mut sender, 0), Some(0));
-    same(rt, post_first(&mut sender, 0), None);
+    same(rt, post_first(&mut sender, 1), Some(0));
+    same(rt, post_first(&mut sender, 1), None);
     let mut taker = party(rt, &table, 1);
     check(rt, join(&mut taker));
-    let message = Taken::Message {
-        bucket: 0,
-        length: 7,
-    };
-    same(rt, take_from(&mut taker, 0), Some(message));
-    same(rt, take_from(&mut taker, 0), Some(Taken::NotSent));
+    let sent = FileFlag::SentTo { slot: 1, lap: 0 };
+    same(
+        rt,
+        slot(&mut taker, 1),
+        Some(Slot::Message { lap: 0, bucket: 0 }),
+    );
+    same(
+        rt,
+        exchange_flag(&mut taker, 0, sent, FileFlag::HeldBy(1)),
+        Some(true),
+    );
+    same(
+        rt,
+        entry(&mut taker, 0),
+        Some(Entry::In { slot: 1, length: 7 }),
+    );
     same(rt, leave(&mut taker), 0);
-    let mut last = party(rt, &table, 1);
-    check(rt, join(&mut last));
-    same(rt, take_from(&mut last, 0), Some(message));
+    same(rt, flag(&mut taker, 0), Some(sent));
     same(rt, leave(&mut sender), 1);
     same(rt, sender.load_life(), 4);
+    same(rt, flag(&mut sender, 1), Some(FileFlag::Free));
 }
 
 #[test]
