@@ -3,7 +3,7 @@ ghost use Rattle.bb_memory_file.specs.FileLog.{IsLap, IsSaid};
 ghost use Rattle.std.specs.Prelude.{IfOk, ◌<◌, ◌≡◌};
 
 use super::checks::{check, same};
-use bb_memory_file::calls::{allocate, join, leave, post};
+use bb_memory_file::calls::{join, leave};
 use bb_memory_file::geometry::FileGeometry;
 use bb_memory_file::party::FileParty;
 use bb_memory_file::table::FileTable;
@@ -104,16 +104,6 @@ fn count(party: &mut FileParty) -> u64 {
     }
     party.store_life(life + 1);
     life
-}
-
-/// Posts a message of 7 bytes in the first free bucket, if there are such a slot and bucket. Returns the
-/// bucket if the slot was empty.
-fn post_first(party: &mut FileParty, slot: u32) -> Option<u32> {
-    if slot >= party.slots() {
-        return None;
-    }
-    let bucket = allocate(party, 0)?;
-    post(party, slot, bucket, 7).then_some(bucket)
 }
 
 /// Takes a value that several threads may use at the same time.
@@ -297,39 +287,48 @@ fn a_new_file_is_empty(rt: HostRuntime) {
     same(rt, last.load_life(), 0);
 }
 
-/// The taker leaves before it is done with the message, so the message is sent again.
+/// Party 0 holds bucket 0, whose entry names a slot that doesn't have the bucket, and bucket 1, which is
+/// in its slot. It has detached bucket 2.
 #[test]
-fn a_message_goes_to_another_party(rt: HostRuntime) {
+fn a_party_leaves_what_it_holds(rt: HostRuntime) {
     let rt = &rt;
-    let table = made(rt, [0; 10]);
-    let mut sender = party(rt, &table, 0);
-    check(rt, join(&mut sender));
-    same(rt, sender.load_life(), 3);
-    same(rt, post_first(&mut sender, 1), Some(0));
-    same(rt, post_first(&mut sender, 1), None);
-    let mut taker = party(rt, &table, 1);
-    check(rt, join(&mut taker));
-    let sent = FileFlag::SentTo { slot: 1, lap: 0 };
+    let (held_by_0, detached_by_0) = (1, 2);
+    let (in_slot_0, in_slot_1) = (30064771073, 30064771074);
+    let bucket_1_at_lap_5 = 21474836482;
+    let table = made(
+        rt,
+        [
+            held_by_0,
+            held_by_0,
+            detached_by_0,
+            3,
+            0,
+            in_slot_1,
+            in_slot_0,
+            0,
+            bucket_1_at_lap_5,
+            0,
+        ],
+    );
+    let mut leaver = party(rt, &table, 0);
+    same(rt, leave(&mut leaver), 1);
+    same(rt, leaver.load_life(), 4);
+    let mut other = party(rt, &table, 1);
+    check(rt, join(&mut other));
+    same(rt, other.load_life(), 3);
+    same(rt, flag(&mut other, 0), Some(FileFlag::Free));
+    same(rt, entry(&mut other, 0), Some(Entry::Nowhere));
     same(
         rt,
-        slot(&mut taker, 1),
-        Some(Slot::Message { lap: 0, bucket: 0 }),
+        flag(&mut other, 1),
+        Some(FileFlag::SentTo { slot: 0, lap: 5 }),
     );
     same(
         rt,
-        exchange_flag(&mut taker, 0, sent, FileFlag::HeldBy(1)),
-        Some(true),
+        entry(&mut other, 1),
+        Some(Entry::In { slot: 0, length: 7 }),
     );
-    same(
-        rt,
-        entry(&mut taker, 0),
-        Some(Entry::In { slot: 1, length: 7 }),
-    );
-    same(rt, leave(&mut taker), 0);
-    same(rt, flag(&mut taker, 0), Some(sent));
-    same(rt, leave(&mut sender), 1);
-    same(rt, sender.load_life(), 4);
-    same(rt, flag(&mut sender, 1), Some(FileFlag::Free));
+    same(rt, flag(&mut other, 2), Some(FileFlag::DetachedBy(0)));
 }
 
 #[test]
