@@ -1,3 +1,4 @@
+pub mod FileBeginnings
 pub mod FileBuckets
 pub mod FileEvents
 pub mod FileFlagWords
