@@ -2,7 +2,7 @@
 ghost use Rattle.bb_memory_pool_machine.specs.PoolLogs.{PoolLog};
 ghost use Rattle.bb_memory_seats.specs.Seats.{Stays, number_of, view_log};
 ghost use Rattle.bb_memory_shared_pools.specs.SharedPool.{ServesAlone, taken_bucket};
-ghost use Rattle.bb_memory_shared_pools.specs.SharedPoolNextFit.{MayTakeFrom, hint_of, part_of, probed, refused_search};
+ghost use Rattle.bb_memory_shared_pools.specs.SharedPoolNextFit.{MayTakeFrom, hint_of, least_walk, part_of, probed, refused_search};
 ghost use Rattle.bb_memory_shared_pools.specs.SharedPoolRule.{AfterRefusal, AfterSearchWin, IsIdleAt, IsInSearch, probes_before};
 ghost use Rattle.std.specs.Prelude.{IfSome, IsTrue, MatchBool, MatchOption, ℕ, ◌+◌, ◌<◌, ◌^◌, ◌≡◌, ◌≤◌};
 
@@ -37,6 +37,21 @@ impl<const CAPPED: usize, const MOST: usize> SharedBucketPool<CAPPED, MOST> {
     {
         let before = number as u64 * self.number_of_buckets() as u64;
         (before / self.number_of_parties() as u64) as u32
+    }
+
+    /// Returns how many buckets a rover walks over at least before it comes home: 64, or as many as fit into 1 MiB if those are
+    /// fewer, but at least one.
+    pub(super) fn least_walk(&self) -> u32
+        ensures { result ≡ least_walk self.now.scene.geometry.bucket.size }
+    {
+        let size = self.bucket_size();
+        if size <= 16384 {
+            64
+        } else if size <= 1048576 {
+            (1048576 / size) as u32
+        } else {
+            1
+        }
     }
 
     /// Makes the first probe of a search that begins at bucket `first`, if the pool has that bucket.
@@ -100,8 +115,8 @@ impl<const CAPPED: usize, const MOST: usize> SharedBucketPool<CAPPED, MOST> {
     ///
     /// The search begins at the party's hint, goes on to the last bucket, and then from bucket 0 up. The hint is the bucket that
     /// the party gave back last, or one at most 128 before it that it gave back earlier, or otherwise its rover. The rover is just
-    /// after the bucket that the party took last, or at one that it gave back before. Before the party's first step, it is the
-    /// first bucket of the party's own part of the pool.
+    /// after the bucket that the party took last, or at one that it gave back before. Before the party's first step, and each time
+    /// that the rover has come to its limit, it is the first bucket of the party's own part of the pool.
     ///
     /// Fails with `OutOfMemory` if each probe misses. If other parties step meanwhile, that doesn't mean that all buckets were held
     /// at one moment. The party has to be this pool's.
