@@ -4,15 +4,16 @@ use Rattle.bb_memory_index_set.specs.IndexSets.{Has}
 use Rattle.bb_memory_lists.proofs.SliceGets.{length-set_at, slice_get-replicated, slice_get-set, slice_get-set_other, slice_get-set_same}
 use Rattle.bb_memory_pool_machine.specs.PoolLogs.{IsHeldAfter}
 use Rattle.bb_memory_shared_pools.proofs.SharedPoolLaws.{held_below}
-use Rattle.bb_memory_shared_pools.specs.SharedPool.{IsParty, SharedPool, TakenBucket}
-use Rattle.bb_memory_shared_pools.specs.SharedPoolCaching.{CachingParty, IsOut, ServesCaching}
+use Rattle.bb_memory_shared_pools.specs.SharedPool.{IsParty, PoolParty, SharedPool, TakenBucket}
+use Rattle.bb_memory_shared_pools.specs.SharedPoolCaching.{CachingParty, IsOut, MissesFirst, ServesCaching}
 use Rattle.bb_memory_shared_pools.specs.SharedPoolLeaving.{HoldsSome}
+use Rattle.bb_memory_traits.specs.declared.allocator.AllocationError.{AllocationError}
 use Rattle.bb_memory_traits.specs.declared.layout.Layout.{Layout}
 use Rattle.std.proofs.Common.{Bool, List, None, Ok, Some, [], ap, arith, false, inl, inr, length, refl, replicate, set, subst, sym, true, ℕ, ◌+◌, ◌<◌, ◌↔◌, ◌∙◌, ◌≡◌, ◌≢◌, ◌≤◌}
 use Rattle.std.proofs.lemmas.Bool.{cases_eq, cases_lt, false≢true}
 use Rattle.std.proofs.lemmas.List.{length-replicate}
 use Rattle.std.proofs.lemmas.Option.{same_Some, slice_get-get_or}
-use Rattle.std.specs.Prelude.{IsTrue, slice_get}
+use Rattle.std.specs.Prelude.{Err, IsTrue, slice_get}
 
 -- a list of no entry has none for any number
 no-entry : (list : List Bool) (number : ℕ) (is : Bool) → list ≡ [] → ¬ (slice_get list number ≡ Some is)
@@ -182,6 +183,24 @@ joined-same at same most outs = joined-after at same most (λ are. record {
     λ out. (are.exact bucket).1 ((outs bucket).1 out),
   );
 }) (λ none. none)
+
+-- after the first probe of a taking, which missed, and the other way round
+pub joined-misses : {pool : SharedPool} {joined after : CachingParty} {list : List Bool} → IsJoinedAt pool joined list →
+    MissesFirst joined after → IsJoinedAt pool after list
+joined-misses at missed = joined-same at (ap (λ (p : PoolParty). p.allocator) missed.party.logged)
+    (ap (λ (c : CachingParty). c.most) missed.unchanged) missed.out
+
+pub joined-missed : {pool : SharedPool} {joined after : CachingParty} {list : List Bool} → IsJoinedAt pool after list →
+    MissesFirst joined after → IsJoinedAt pool joined list
+joined-missed at missed = joined-same at (sym (ap (λ (p : PoolParty). p.allocator) missed.party.logged))
+    (sym (ap (λ (c : CachingParty). c.most) missed.unchanged)) (λ bucket. ((missed.out bucket).1, (missed.out bucket).0))
+
+-- after a request that took no bucket
+pub joined-refused : {pool : SharedPool} {joined after : CachingParty} {list : List Bool} {layout : Layout}
+    (error : AllocationError) → IsJoinedAt pool joined list → ServesCaching joined layout (Err error) after →
+    IsJoinedAt pool after list
+joined-refused error at serves =
+    joined-same at serves.party serves.most (λ other. (serves.others_kept other, serves.others other tt))
 
 -- a party that holds none, and whose list has no entry of a bucket in use
 pub joined-cleared : {pool : SharedPool} {joined : CachingParty} (after : CachingParty) {list : List Bool} →

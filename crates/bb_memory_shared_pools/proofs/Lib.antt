@@ -4,6 +4,7 @@ mod SharedPoolDetached
 mod SharedPoolDetaching
 mod SharedPoolFlagSteps
 mod SharedPoolKeeps
+mod SharedPoolLater
 pub mod SharedPoolLaws
 mod SharedPoolLeaving
 mod SharedPoolLooks

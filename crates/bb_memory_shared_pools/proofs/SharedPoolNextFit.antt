@@ -7,8 +7,8 @@ use Rattle.bb_memory_pool_machine.specs.declared.steps.pool.PoolOutcome.TheVaria
 use Rattle.bb_memory_seats.specs.Seats.{number_of, view_log}
 use Rattle.bb_memory_shared_pools.proofs.SharedPoolRequests.{HasAsked}
 use Rattle.bb_memory_shared_pools.proofs.SharedPoolTries.{held-append, hint-append, hint_through, test_below, test_not_below}
-use Rattle.bb_memory_shared_pools.specs.SharedPoolNextFit.{hint_after, miss_at, misses, probed, refused_search, start_of, taking_at, taking_search}
-use Rattle.bb_memory_shared_pools.specs.SharedPoolRule.{AfterGain, AfterMiss, AfterProbe, AfterRefusal, AfterSearchWin, IsInSearch, IsSeatOfIdle, SeatView, probes_before}
+use Rattle.bb_memory_shared_pools.specs.SharedPoolNextFit.{hint_after, miss_at, misses, probed, probes_before, refused_search, start_of, taking_at, taking_search}
+use Rattle.bb_memory_shared_pools.specs.SharedPoolRule.{AfterGain, AfterMiss, AfterProbe, AfterRefusal, AfterSearchWin, IsInSearch, IsSeatOfIdle, SeatView}
 use Rattle.bb_memory_shared_pools.specs.declared.shared_pool.party.Hint.{Hint}
 use Rattle.std.proofs.Common.{Bool, None, Some, add-one, ap, append-nil, append_assoc, arith, false, inl, inr, refl, subst, suc, sym, true, zero, ℕ, ◌%◌, ◌++◌, ◌+◌, ◌-◌, ◌<◌, ◌∙◌, ◌≡◌, ◌≤◌}
 use Rattle.std.proofs.Math.Nat.{add-mod_left, add-zero, mod-eq_of_lt}

@@ -1,6 +1,6 @@
 -- Next fit: requests of a shared pool's party that probe each bucket from the party's hint on, what they add to the party's
 -- log, and which answers they may have.
-use Rattle.bb_memory_pool_machine.specs.PoolLogs.{IsHeldInRun, MissesAt, PoolLog, entries_by, entry_of, history_of}
+use Rattle.bb_memory_pool_machine.specs.PoolLogs.{IsHeldAfter, IsHeldInRun, MissesAt, PoolLog, entries_by, entry_of, history_of}
 use Rattle.bb_memory_pool_machine.specs.PoolMachine.{PoolScene}
 use Rattle.bb_memory_pool_machine.specs.declared.steps.pool.PoolOutcome.{PoolOutcome}
 use Rattle.bb_memory_pool_machine.specs.declared.steps.pool.PoolOutcome.TheVariants.{Gives, Misses, Takes}
@@ -158,6 +158,10 @@ abbrev pub misses : ℕ → ℕ → ℕ → ℕ → PoolLog
 misses buckets party first zero = []
 misses buckets party first (suc probe) = misses buckets party first probe ++ miss_at party (probed buckets first probe)
 
+-- how many probes a search makes before its later ones: one of bucket `first`, if the pool has that bucket
+abbrev pub probes_before : ℕ → ℕ → ℕ
+probes_before buckets first = if nat_lt first buckets then 1 else 0
+
 -- a search that takes a bucket at a probe: misses at the probes before, and the taking
 abbrev pub taking_search : ℕ → ℕ → ℕ → ℕ → PoolLog
 taking_search buckets party first probe = misses buckets party first probe ++ taking_at party (probed buckets first probe)
@@ -184,6 +188,16 @@ MayTakeFrom first party layout (Ok bucket) new =
     × TakesBySearch party first bucket.number new
 MayTakeFrom first party layout (Err error) new =
     MayRefuse party (refused_search party.allocator.scene.geometry.buckets party.number first) layout error new
+
+-- The first probe of the party's search missed, and the search isn't over: the log has the miss, if the pool has a bucket at the
+-- hint. If the party is the pool's only one, it holds that bucket.
+pub record BeginsSearch (old new : PoolParty) : Type 0 where
+  pub is_party : IsParty old
+  pub logged : let buckets = old.allocator.scene.geometry.buckets in
+      new ≡ with_entries old (misses buckets old.number (hint_of old) (probes_before buckets (hint_of old)))
+  pub held : old.allocator.scene.parties ≡ 1 → (earlier : ℕ) →
+      earlier < probes_before old.allocator.scene.geometry.buckets (hint_of old) →
+      IsHeldAfter old.log (probed old.allocator.scene.geometry.buckets (hint_of old) earlier)
 
 -- REFUSED SEARCHES
 

@@ -340,10 +340,6 @@ pub record IsInSearch (scene : PoolScene) (number : ℕ) (log : PoolLog) (first 
   pub ended : AfterCall scene number log (misses scene.geometry.buckets number first probe) me
   pub held : scene.parties ≡ 1 → (earlier : ℕ) → earlier < probe → IsHeldAfter log (probed scene.geometry.buckets first earlier)
 
--- how many probes a search makes before its later ones: one of bucket `first`, if the pool has that bucket
-abbrev pub probes_before : ℕ → ℕ → ℕ
-probes_before buckets first = if nat_lt first buckets then 1 else 0
-
 -- a search took this bucket at some probe, and the party didn't hold it
 pub record AfterSearchWin (scene : PoolScene) (number : ℕ) (log : PoolLog) (first : ℕ)
     (new : Me ℕ SeatView) (bucket : ℕ) : Type 0 where

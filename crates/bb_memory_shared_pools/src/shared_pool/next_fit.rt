@@ -1,10 +1,10 @@
 //! Next fit: requests whose search begins at the party's hint.
 ghost use Rattle.bb_memory_pool_machine.specs.PoolLogs.{PoolLog};
 ghost use Rattle.bb_memory_seats.specs.Seats.{Stays, number_of, view_log};
-ghost use Rattle.bb_memory_shared_pools.specs.SharedPool.{ServesAlone, taken_bucket};
-ghost use Rattle.bb_memory_shared_pools.specs.SharedPoolNextFit.{MayTakeFrom, hint_of, least_walk, part_of, probed, refused_search};
-ghost use Rattle.bb_memory_shared_pools.specs.SharedPoolRule.{AfterRefusal, AfterSearchWin, IsIdleAt, IsInSearch, probes_before};
-ghost use Rattle.std.specs.Prelude.{IfSome, IsTrue, MatchBool, MatchOption, ℕ, ◌+◌, ◌<◌, ◌^◌, ◌≡◌, ◌≤◌};
+ghost use Rattle.bb_memory_shared_pools.specs.SharedPool.{PoolParty, ServesAlone, taken_bucket};
+ghost use Rattle.bb_memory_shared_pools.specs.SharedPoolNextFit.{BeginsSearch, MayTakeFrom, hint_of, least_walk, part_of, probed, probes_before, refused_search};
+ghost use Rattle.bb_memory_shared_pools.specs.SharedPoolRule.{AfterRefusal, AfterSearchWin, IsIdleAt, IsInSearch};
+ghost use Rattle.std.specs.Prelude.{IfErr, IfNone, IfSome, IsTrue, MatchBool, MatchOption, Ok, ℕ, ◌+◌, ◌<◌, ◌^◌, ◌≡◌, ◌≤◌};
 
 use super::bucket::Bucket;
 use super::buckets::SharedBucketPool;
@@ -145,5 +145,46 @@ impl<const CAPPED: usize, const MOST: usize> SharedBucketPool<CAPPED, MOST> {
         };
         party.hint.follow_taking(number);
         Ok(self.taken(number, layout.size()))
+    }
+
+    /// Makes the first probe of the search of `allocate_next_fit` for a whole bucket. If it misses, the search isn't over:
+    /// `take_later` makes its other probes. The party has to be this pool's.
+    #[inline(always)]
+    pub(super) fn take_first(&self, party: &mut PoolParty) -> Option<Bucket<'_>>
+        requires party { party.old.allocator ≡ self.now }
+        ensures took { IfSome result (λ bucket. MayTakeFrom (hint_of party.old) party.old
+            self.now.scene.geometry.bucket (Ok bucket) party.new) }
+        ensures serves { IfSome result (λ bucket. ServesAlone self.now party.old
+            self.now.scene.geometry.bucket (Ok bucket) party.new) }
+        ensures missed { IfNone result (BeginsSearch party.old party.new) }
+        ensures party { party.new.allocator ≡ self.now }
+    {
+        let number = party.hint.bucket;
+        if !self.try_first(party.number, &mut party.seat, number) {
+            return None;
+        }
+        party.hint.follow_first(number);
+        Some(self.taken(number, self.bucket_size()))
+    }
+
+    /// Goes on with a search whose first probe `take_first` has made. Fails with `OutOfMemory` if each probe misses. The clauses
+    /// hold for each party with which the search may have begun. The party has to be this pool's.
+    pub(super) fn take_later(&self, party: &mut PoolParty) -> Result<Bucket<'_>, AllocationError>
+        requires party { party.old.allocator ≡ self.now }
+        requires begun { (before : PoolParty) × BeginsSearch before party.old }
+        ensures answer { (before : PoolParty) → BeginsSearch before party.old
+            → MayTakeFrom (hint_of before) before self.now.scene.geometry.bucket result party.new }
+        ensures serves { (before : PoolParty) → BeginsSearch before party.old
+            → ServesAlone self.now before self.now.scene.geometry.bucket result party.new }
+        ensures party { party.new.allocator ≡ self.now }
+        ensures refused { IfErr result (λ error. error ≡ AllocationError.OutOfMemory) }
+    {
+        let from = party.hint.bucket;
+        let later = self.later_probes(party.number, &mut party.seat, from);
+        let Some(number) = later else {
+            return Err(AllocationError::OutOfMemory);
+        };
+        party.hint.follow_taking(number);
+        Ok(self.taken(number, self.bucket_size()))
     }
 }
