@@ -56,7 +56,7 @@ pub trait Bucketed: Drop {
     /// The answers that the taking of a whole bucket may have, and the value after it.
     ghost may_take: { Self → Result Chunk AllocationError → Self → Type 0 };
 
-    /// The value before the taking of a whole bucket, and after that has tried one bucket and missed it.
+    /// Relates the value before the taking of a whole bucket to the one after the taking has missed its first bucket.
     ghost misses_first: { Self → Self → Type 0 };
 
     /// Begins the taking of a whole bucket: tries at most one bucket, and takes it unless it misses it.

@@ -16,5 +16,7 @@ mod SharedPoolParties
 mod SharedPoolPasses
 mod SharedPoolRequests
 mod SharedPoolSeats
+mod SharedPoolSending
+mod SharedPoolSends
 pub mod SharedPoolTries
 mod SharedPoolWholes

@@ -1,11 +1,13 @@
 -- Lists of cached buckets that lose their last bucket or get one more; how requests are then
 -- answered; and which buckets are in use.
 use Rattle.bb_memory_pool_machine.proofs.PoolHolders.{held_through}
+use Rattle.bb_memory_pool_machine.proofs.PoolSteps.{test_apart}
 use Rattle.bb_memory_pool_machine.specs.PoolLogs.{IsHeldAfter, PoolLog}
 use Rattle.bb_memory_shared_pools.proofs.SharedPoolLaws.{held_below}
 use Rattle.bb_memory_shared_pools.proofs.SharedPoolNextFit.{missed_same}
 use Rattle.bb_memory_shared_pools.proofs.SharedPoolRequests.{not_within, refused_unasked, unasked}
-use Rattle.bb_memory_shared_pools.specs.SharedPool.{IsParty, PoolParty, Serves, ServesAlone, SharedPool, TakenBucket, return_entry, taken_bucket, with_entries}
+use Rattle.bb_memory_shared_pools.proofs.SharedPoolTries.{held-append}
+use Rattle.bb_memory_shared_pools.specs.SharedPool.{IsParty, PoolParty, Serves, ServesAlone, SharedPool, TakenBucket, detach_entry, return_entry, taken_bucket, with_entries}
 use Rattle.bb_memory_shared_pools.specs.SharedPoolCaching.{AreAllOut, AreCached, CachingParty, IsOut, MissesFirst, ServesCaching, TakesCaching, returns_of}
 use Rattle.bb_memory_shared_pools.specs.SharedPoolNextFit.{BeginsSearch, MayTakeFrom, hint_of, probes_before}
 use Rattle.bb_memory_traits.proofs.Measures.{bucket-inside, bucket_place-multiple}
@@ -13,12 +15,13 @@ use Rattle.bb_memory_traits.specs.Geometry.{Admits}
 use Rattle.bb_memory_traits.specs.PoolObject.{IsWithin}
 use Rattle.bb_memory_traits.specs.declared.allocator.AllocationError.{AllocationError}
 use Rattle.bb_memory_traits.specs.declared.layout.Layout.{Layout}
-use Rattle.std.proofs.Common.{List, [], ap, append_assoc, arith, false, length, refl, subst, sym, ℕ, ⊎_elim, ◌++◌, ◌∙◌, ◌∷◌, ◌≡◌, ◌≢◌}
-use Rattle.std.proofs.lemmas.Bool.{false≢true}
+use Rattle.std.proofs.Common.{Bool, List, [], ap, append_assoc, arith, false, inl, inr, length, refl, subst, sym, true, ℕ, ⊎_elim, ◌++◌, ◌∙◌, ◌∷◌, ◌≡◌, ◌≢◌}
+use Rattle.std.proofs.lemmas.Bool.{cases_eq, false≢true}
+use Rattle.std.proofs.lemmas.Bool.Decides.{nat_tests}
 use Rattle.std.proofs.lemmas.List.{get_or_append_left, get_or_default, get_or_push, length_push, same_from_push}
 use Rattle.std.proofs.lemmas.List.Elements.{All-push, Contains-append_left, Contains-push, Contains-push_cases}
 use Rattle.std.proofs.lemmas.List.Quantifiers.{all_pairs_push}
-use Rattle.std.specs.Prelude.{Contains, Err, IfOk, IsErr, Ok, Result, ◌↔◌, ◌⊎◌}
+use Rattle.std.specs.Prelude.{Contains, Err, IfOk, IsErr, Ok, Result, if◌then◌else◌, ◌==◌, ◌↔◌, ◌⊎◌}
 
 -- a token's number
 pub number_of : (pool : SharedPool) (token : TakenBucket) (bucket len : ℕ) → token ≡ taken_bucket pool bucket len →
@@ -191,12 +194,12 @@ returns_push party (bucket ∷ others) last =
 pub returns_last : (party new : PoolParty) (cached before : List ℕ) (last bucket : ℕ) → cached ≡ before ++ last ∷ [] →
     bucket ≡ last → new ≡ with_entries party (return_entry party.number bucket) →
     with_entries new (returns_of new.number before) ≡ with_entries party (returns_of party.number cached)
-returns_last party new cached before last bucket is same then =
+returns_last party new cached before last bucket is same gave =
     let all = append_assoc party.log (return_entry party.number last) (returns_of party.number before)
     ∙ ap (λ (log : PoolLog). party.log ++ log)
     (sym (returns_push party.number before last) ∙ ap (λ (b : List ℕ). returns_of party.number b) (sym is)) in
     ap (λ (p : PoolParty). with_entries p (returns_of p.number before))
-    (then ∙ ap (λ (n : ℕ). with_entries party (return_entry party.number n)) same) ∙ λ i. record {
+    (gave ∙ ap (λ (n : ℕ). with_entries party (return_entry party.number n)) same) ∙ λ i. record {
       allocator = party.allocator;
       number = party.number;
       log = all i;
@@ -378,3 +381,39 @@ misses_first old new none begun unchanged =
         λ out. (sym (same bucket) ∙ out.0, λ at. out.1 (subst (λ (xs : List ℕ). Contains xs bucket) (sym cached) at)),
       );
     }
+
+-- a taking and a detachment, whichever way the bucket was taken
+module _ (old taken new : CachingParty) (bucket : TakenBucket) (layout : Layout) (serves : ServesCaching old layout (Ok bucket) taken)
+    (logged : new ≡ record taken { party = with_entries taken.party (detach_entry taken.party.number bucket.number) })
+  where
+    abbrev before : ℕ → Bool
+    before other = held_through other false taken.party.log
+
+    now_holds : (other : ℕ) → held_through other false new.party.log ≡ (if bucket.number == other then false else before other)
+    now_holds other = ap (λ (c : CachingParty). held_through other false c.party.log) logged
+        ∙ held-append other false taken.party.log (detach_entry taken.party.number bucket.number)
+
+    same_cached : new.cached ≡ taken.cached
+    same_cached = ap (λ (c : CachingParty). c.cached) logged
+
+    pub out_sent : (other : ℕ) → IsOut old other ↔ IsOut new other
+    unfolding IsOut
+    out_sent other = (
+      λ out.
+          let kept = serves.others_kept other out in
+          let apart = test_apart bucket.number other (λ same. serves.fresh other out (sym same)) in (
+            now_holds other ∙ ap (λ (b : Bool). if b then false else before other) apart ∙ kept.0,
+            λ at. kept.1 (subst (λ (xs : List ℕ). Contains xs other) same_cached at),
+          ),
+      λ out. elim (cases_eq other bucket.number) [
+        | inl same ↦
+            let here : (bucket.number == other) ≡ true = grind (arith, nat_tests, same) in
+            absurd (false≢true (sym (now_holds other ∙ ap (λ (b : Bool). if b then false else before other) here) ∙ out.0))
+        | inr apart ↦
+            let there = test_apart bucket.number other (λ same. apart (sym same)) in
+            serves.others other apart (
+              sym (now_holds other ∙ ap (λ (b : Bool). if b then false else before other) there) ∙ out.0,
+              λ at. out.1 (subst (λ (xs : List ℕ). Contains xs other) (sym same_cached) at),
+            )
+      ],
+    )

@@ -2,7 +2,6 @@
 use Rattle.atomic_table.specs.Seated.{TableId}
 use Rattle.atomic_table.specs.Table.{Me}
 use Rattle.bb_memory_pool_machine.specs.PoolLogs.{PoolLog}
-use Rattle.bb_memory_pool_machine.specs.PoolMachine.{PoolScene}
 use Rattle.bb_memory_pool_machine.specs.declared.steps.pool.PoolOutcome.TheVariants.{Takes}
 use Rattle.bb_memory_seats.specs.Seats.{alone, view_log}
 use Rattle.bb_memory_shared_pools.proofs.SharedPoolNextFit.{hint-misses, hint_by_search, search_lost, search_took}
@@ -64,9 +63,9 @@ module _ (pool : SharedPool) (table : TableId) (me : Me ℕ SeatView) (number : 
         (probes_before pool.scene.geometry.buckets hint.bucket) me
     goes_on = subst (λ (x : SharedPool × ℕ). IsInSearch x.0.scene before.number before.log x.1
         (probes_before x.0.scene.geometry.buckets x.1) me) (λ i. (same_pool i, sym same_first i)) record {
-      ended = subst (λ (p : PoolParty). IsSeatOfIdle p.allocator.scene p.number p.log me) whole is.seat;
-      held = begun.held;
-    }
+          ended = subst (λ (p : PoolParty). IsSeatOfIdle p.allocator.scene p.number p.log me) whole is.seat;
+          held = begun.held;
+        }
 
     abbrev seat : Me ℕ SeatView
     seat = (alone before.allocator.scene before.number before.log, [])

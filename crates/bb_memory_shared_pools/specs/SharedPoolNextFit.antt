@@ -5,9 +5,10 @@ use Rattle.bb_memory_pool_machine.specs.PoolMachine.{PoolScene}
 use Rattle.bb_memory_pool_machine.specs.declared.steps.pool.PoolOutcome.{PoolOutcome}
 use Rattle.bb_memory_pool_machine.specs.declared.steps.pool.PoolOutcome.TheVariants.{Gives, Misses, Takes}
 use Rattle.bb_memory_pool_machine.specs.declared.steps.pool.PoolStep.TheVariants.{TryAt}
-use Rattle.bb_memory_shared_pools.specs.SharedPool.{IsParty, MayRefuse, MayTakeBucket, PoolParty, TakenBucket, taken_bucket, with_entries}
+use Rattle.bb_memory_shared_pools.specs.SharedPool.{IsParty, MayRefuse, MayTakeBucket, PoolParty, ServesAlone, TakenBucket, detach_entry, taken_bucket, with_entries}
 use Rattle.bb_memory_shared_pools.specs.declared.shared_pool.party.Hint.{Hint}
 use Rattle.bb_memory_traits.specs.declared.allocator.AllocationError.{AllocationError}
+use Rattle.bb_memory_traits.specs.declared.allocator.AllocationError.TheVariants.{OutOfMemory}
 use Rattle.bb_memory_traits.specs.declared.layout.Layout.{Layout}
 use Rattle.std.specs.Prelude.{Bool, Err, Ok, Result, [], fold, if◌then◌else◌, nat_lt, not, suc, take, zero, ℕ, ◌%◌, ◌&&◌, ◌*◌, ◌++◌, ◌+◌, ◌-◌, ◌/◌, ◌<◌, ◌==◌, ◌||◌, ◌∷◌, ◌≡◌}
 
@@ -198,6 +199,20 @@ pub record BeginsSearch (old new : PoolParty) : Type 0 where
   pub held : old.allocator.scene.parties ≡ 1 → (earlier : ℕ) →
       earlier < probes_before old.allocator.scene.geometry.buckets (hint_of old) →
       IsHeldAfter old.log (probed old.allocator.scene.geometry.buckets (hint_of old) earlier)
+
+-- A search took the bucket of this number, whole, and detached it by the same exchange: the party after the taking is `taken`.
+pub record TakesToSend (old : PoolParty) (number : ℕ) (new : PoolParty) : Type 0 where
+  pub taken : PoolParty
+  pub answer : let bucket = old.allocator.scene.geometry.bucket in
+      MayTakeFrom (hint_of old) old bucket (Ok (taken_bucket old.allocator number bucket.size)) taken
+  pub serves : let bucket = old.allocator.scene.geometry.bucket in
+      ServesAlone old.allocator old bucket (Ok (taken_bucket old.allocator number bucket.size)) taken
+  pub logged : new ≡ with_entries taken (detach_entry taken.number number)
+
+-- a search for a whole bucket to send missed each bucket
+pub record MissesToSend (old new : PoolParty) : Type 0 where
+  pub answer : MayTakeFrom (hint_of old) old old.allocator.scene.geometry.bucket (Err OutOfMemory) new
+  pub serves : ServesAlone old.allocator old old.allocator.scene.geometry.bucket (Err OutOfMemory) new
 
 -- REFUSED SEARCHES
 

@@ -1,10 +1,11 @@
 //! Parties that cache the buckets that they gave back last: a layer over the shared pools.
 ghost use Rattle.bb_memory_pool_machine.specs.PoolLogs.{IsHeldAfter};
 ghost use Rattle.bb_memory_shared_pools.specs.SharedPool.{HasAttached, HasDetached, HasReturned, IsSameParty, attach_entry, detach_entry, return_detached_entry, with_entries};
-ghost use Rattle.bb_memory_shared_pools.specs.SharedPoolCaching.{AreCached, AttachesCaching, CachingParty, IsOut, MissesCaching, MissesFirst, ReturnsCaching, ReturnsFromCaching, ServesCaching, returns_of};
+ghost use Rattle.bb_memory_shared_pools.specs.SharedPoolCaching.{AreCached, AttachesCaching, CachingParty, IsOut, MissesCaching, MissesFirst, ReturnsCaching, ReturnsFromCaching, SendsCaching, ServesCaching, returns_of};
 ghost use Rattle.bb_memory_shared_pools.specs.SharedPoolLeaving.{GivesAllBack};
 ghost use Rattle.bb_memory_shared_pools.specs.SharedPoolMeetings.{AreBothOf, AreInterleaved};
-ghost use Rattle.std.specs.Prelude.{Contains, IfErr, IfNone, IfOk, IfSome, IsFalse, IsTrue, Ok, [], length, true, vec_capacity, ℕ, ◌<◌, ◌↔◌, ◌≡◌, ◌≢◌, ◌≤◌};
+ghost use Rattle.bb_memory_traits.specs.declared.allocator.AllocationError.TheVariants.{OutOfMemory};
+ghost use Rattle.std.specs.Prelude.{Contains, Err, IfErr, IfNone, IfOk, IfSome, IsFalse, IsTrue, Ok, [], length, true, vec_capacity, ℕ, ◌<◌, ◌↔◌, ◌≡◌, ◌≢◌, ◌≤◌};
 
 use super::bucket::Bucket;
 use super::buckets::SharedBucketPool;
@@ -324,6 +325,34 @@ impl CachingParty {
         ensures others { (other : ℕ) → IsOut self.new other → IsOut self.old other }
     {
         pool.detach_number(&mut self.party, bucket)
+    }
+
+    /// Takes a whole bucket and detaches it, as `take` and `detach_number` do one after the other. Returns the bucket's number. If no
+    /// bucket is cached, one exchange of a search does both. Returns `None` if none is cached and each probe of the search misses.
+    /// The pool needs at least two parties. The party has to be this pool's.
+    #[inline(always)]
+    #[tactic(auto, unfolding(crate::specs::SharedPoolCaching::IsOut))]
+    pub fn take_detached<const CAPPED: usize, const MOST: usize>(
+        &mut self,
+        pool: &SharedBucketPool<CAPPED, MOST>,
+    ) -> Option<u32>
+        requires others { 1 < pool.now.scene.parties }
+        requires party { self.old.party.allocator ≡ pool.now }
+        ensures sent { IfSome result (λ number. SendsCaching self.old number self.new) }
+        ensures refused { IfNone result (ServesCaching self.old pool.now.scene.geometry.bucket
+            (Err OutOfMemory) self.new) }
+    {
+        // Proof hint: brings the party's invariant into scope.
+        let _ = self.party.number();
+        let len = pool.bucket_size();
+        match self.cached.pop() {
+            Some(number) => {
+                let token = by_number::bucket(pool, &self.party, number, len);
+                pool.detach_number(&mut self.party, token);
+                Some(number)
+            }
+            None => pool.take_detached(&mut self.party),
+        }
     }
 
     /// Attaches the bucket of this number if the party of number `from` has detached it by `detach_number`, and returns whether

@@ -3,14 +3,16 @@ use Rattle.bb_memory_shared_pools.proofs.shared_pool.buckets.SharedBucketPool.ta
 use Rattle.bb_memory_shared_pools.proofs.shared_pool.buckets.SharedBucketPool.take_later.Goals as goal
 use Rattle.bb_memory_shared_pools.specs.SharedPool.{PoolParty, taken_bucket}
 use Rattle.bb_memory_shared_pools.specs.SharedPoolNextFit.{BeginsSearch}
+use Rattle.bb_memory_shared_pools.specs.SharedPoolRule.{IsPartySeat}
+use Rattle.bb_memory_shared_pools.specs.declared.shared_pool.party.Hint.{Hint}
 use Rattle.bb_memory_traits.specs.declared.allocator.AllocationError.TheVariants.{OutOfMemory}
-use Rattle.std.proofs.Common.{ap, ◌∙◌}
+use Rattle.std.proofs.Common.{ap, subst, sym, ◌∙◌}
 use Rattle.std.specs.Prelude.{Err, Ok}
 
 -- a later probe took a bucket
 took : (g : given.Over) (c : goal.After-taken g) (before : PoolParty) → BeginsSearch before c.args.party.now →
-    EndsSearch c.args.self.now c.party.inside.number before c.later_probes-later.new.seat.table_id
-    c.later_probes-later.new.seat.me c.follow_taking.new.self (Ok c.taken.result)
+    EndsSearch c.args.self.now c.party.inside.number before c.search_on-taken.new.seat.table_id
+    c.search_on-taken.new.seat.me c.search_on-taken.new.hint (Ok c.taken.result)
 took g c before begun =
     let pool = c.args.self.now in
     let party = c.party.inside in
@@ -19,9 +21,9 @@ took g c before begun =
     let me = party.seat.me in
     let on = goes_on pool table me party.number party.hint now before c.party.invariant c.party.view_is c.requires.party begun in
     took_later pool table me party.number party.hint now before c.party.invariant c.party.view_is c.requires.party begun
-    c.later_probes-later.new.seat.table_id c.later_probes-later.new.seat.me c.follow_taking.new.self c.in-Some.number
-    c.taken.result (c.in-Some.ensures.step.step before.number before.log on) c.follow_taking.ensures
-    c.later_probes-later.ensures.step.table
+    c.search_on-taken.new.seat.table_id c.search_on-taken.new.seat.me c.search_on-taken.new.hint c.in-Some.number
+    c.taken.result (c.in-Some.ensures.step.step before.number before.log on) c.in-Some.ensures.moved
+    c.search_on-taken.ensures.step.table
     (c.taken.ensures ∙ ap (taken_bucket pool c.in-Some.number) c.bucket_size.ensures.value)
 
 pub invariant_of-party-2 : goal.invariant_of-party-2
@@ -38,8 +40,8 @@ returns-clause-party g c = (took g c c.requires.begun.0 c.requires.begun.1).own
 
 -- each later probe missed
 lost : (g : given.Over) (c : goal.In_default g) (before : PoolParty) → BeginsSearch before c.args.party.now →
-    EndsSearch c.args.self.now c.party.inside.number before c.later_probes-later.new.seat.table_id
-    c.later_probes-later.new.seat.me c.party.inside.hint (Err OutOfMemory)
+    EndsSearch c.args.self.now c.party.inside.number before c.search_on-taken.new.seat.table_id
+    c.search_on-taken.new.seat.me c.party.inside.hint (Err OutOfMemory)
 lost g c before begun =
     let pool = c.args.self.now in
     let party = c.party.inside in
@@ -48,11 +50,12 @@ lost g c before begun =
     let me = party.seat.me in
     let on = goes_on pool table me party.number party.hint now before c.party.invariant c.party.view_is c.requires.party begun in
     lost_later pool table me party.number party.hint now before c.party.invariant c.party.view_is c.requires.party begun
-    c.later_probes-later.new.seat.table_id c.later_probes-later.new.seat.me
-    (c.in_default.ensures.step.step before.number before.log on) c.later_probes-later.ensures.step.table
+    c.search_on-taken.new.seat.table_id c.search_on-taken.new.seat.me
+    (c.in_default.ensures.step.step before.number before.log on) c.search_on-taken.ensures.step.table
 
 pub invariant_of-party : goal.invariant_of-party
-invariant_of-party g c = (lost g c c.requires.begun.0 c.requires.begun.1).seat
+invariant_of-party g c = subst (λ (h : Hint). IsPartySeat c.party.inside.number h c.search_on-taken.new.seat.me)
+    (sym c.in_default.ensures.stays) (lost g c c.requires.begun.0 c.requires.begun.1).seat
 
 pub returns-in_default-clause-answer : goal.returns-in_default-clause-answer
 returns-in_default-clause-answer g c before begun = (lost g c before begun).answer

@@ -1,13 +1,12 @@
 use Rattle.bb_memory_shared_pools.proofs.SharedPoolCaching.{cached_less, last_held, serves_cached, serves_searched, unasked_answer}
 use Rattle.bb_memory_shared_pools.proofs.SharedPoolRequests.{not_within, unasked}
 use Rattle.bb_memory_shared_pools.proofs.shared_pool.caching.CachingParty.allocate.Goals as goal
-use Rattle.bb_memory_shared_pools.specs.SharedPool.{IsParty, PoolParty, ServesAlone, SharedPool, TakenBucket}
+use Rattle.bb_memory_shared_pools.specs.SharedPool.{IsParty, ServesAlone, SharedPool}
 use Rattle.bb_memory_shared_pools.specs.SharedPoolCaching.{AreCached, CachingParty}
 use Rattle.bb_memory_shared_pools.specs.SharedPoolNextFit.{MayTakeFrom, hint_of}
 use Rattle.bb_memory_traits.specs.Geometry.{Admits}
 use Rattle.bb_memory_traits.specs.PoolObject.{IsWithin, PoolGeometry}
 use Rattle.std.proofs.Common.{[], ap, append-nil, arith, length, refl, rules, subst, sym, ◌∙◌, ◌≡◌}
-use Rattle.std.proofs.lemmas.Bool.{false≢true}
 use Rattle.std.proofs.lemmas.List.{length_push}
 use Rattle.std.specs.Prelude.{Err}
 
