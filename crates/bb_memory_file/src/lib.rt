@@ -7,5 +7,6 @@
 #![tactic(auto)]
 
 pub mod calls;
+pub mod joined;
 pub mod laws;
 pub mod words;
