@@ -2,6 +2,7 @@ pub mod FileBuckets
 pub mod FileEvents
 pub mod FileKnows
 pub mod FileMessages
+pub mod FileNotes
 pub mod FileRunSteps
 pub mod FileRunTheorem
 pub mod FileSearches

@@ -1,26 +1,28 @@
 -- What a party that has joined has noted of its buckets, and what its calls promise.
-pub use Rattle.bb_memory_file.specs.declared.joined.Note.{Note}
-pub use Rattle.bb_memory_file.specs.declared.joined.Note.TheVariants.{InUse, Undone, Unheld}
-pub use Rattle.bb_memory_file.specs.declared.joined.Refusal.{Refusal}
-pub use Rattle.bb_memory_file.specs.declared.joined.Refusal.TheVariants.{NotABucket, NotDone, NotHeld}
-pub use Rattle.bb_memory_file.specs.declared.joined.Taken.{Taken}
-pub use Rattle.bb_memory_file.specs.declared.joined.Taken.TheVariants as taken
 use Rattle.bb_memory_file.specs.FileCalls.{IsAttach, IsDeallocate, IsDetach, IsDone, IsPost, IsPutBack, IsReceive, IsSettled}
 use Rattle.bb_memory_file.specs.FileCalls.received as received
 use Rattle.bb_memory_file.specs.FileCalls.whereabouts as whereabouts
 use Rattle.bb_memory_file.specs.FileCode.{FileLog, Holds, Known, LoadSlot, Path, Unknown, known_of, told}
 use Rattle.bb_memory_file.specs.FileLog.{fresh_log}
 use Rattle.bb_memory_file.specs.FileNames.{Counting, Empty, FileStep, In, Message, Nowhere, Outside, Slot}
-use Rattle.std.specs.Prelude.{Bool, Err, List, None, Ok, Option, Result, Some, [], false, length, replicate, slice_get, slice_set, true, ℕ, ◌<◌, ◌≡◌, ◌≢◌, ◌⊎◌}
+pub use Rattle.bb_memory_file.specs.declared.joined.Note.{Note}
+pub use Rattle.bb_memory_file.specs.declared.joined.Note.TheVariants.{InUse, Undone, Unheld}
+pub use Rattle.bb_memory_file.specs.declared.joined.Refusal.{Refusal}
+pub use Rattle.bb_memory_file.specs.declared.joined.Refusal.TheVariants.{NotABucket, NotDone, NotHeld}
+pub use Rattle.bb_memory_file.specs.declared.joined.Taken.{Taken}
+pub use Rattle.bb_memory_file.specs.declared.joined.Taken.TheVariants as taken
+use Rattle.std.specs.Prelude.{Bool, Err, List, None, Ok, Option, Result, Some, false, length, replicate, slice_get, slice_set, true, ℕ, ◌≡◌, ◌≢◌, ◌⊎◌}
 
 -- a party that has joined, with the words of its file, and a note of each bucket
 pub record JoinedParty (W : Type 0) : Type 0 where
   pub words : W
   pub notes : List Note
 
--- the note says what the party knows of the bucket
+-- The note says what the party knows of the bucket. If others have changed the file, a look may have
+-- found the party's number in the flag of a bucket that it hasn't taken: it doesn't hold that one.
 abbrev pub IsNoted : Known → Note → Type 0
 IsNoted Unknown Unheld = Unit {0}
+IsNoted (Holds None seen) Unheld = Unit {0}
 IsNoted (Holds (Some Nowhere) seen) InUse = Unit {0}
 IsNoted (Holds (Some (In slot length)) seen) Undone = Unit {0}
 IsNoted known note = ⊥
@@ -44,7 +46,7 @@ pub record IsJoined (log : FileLog) (notes : List Note) : Type 0 where
 abbrev pub IsHeldNote : Option Note → Type 0
 IsHeldNote (Some InUse) = Unit {0}
 IsHeldNote (Some Undone) = Unit {0}
-IsHeldNote note = ⊥
+IsHeldNote _ = ⊥
 
 -- CALLS
 
@@ -53,7 +55,7 @@ abbrev pub IsRefusal : Option Note → Refusal → Type 0
 IsRefusal None NotABucket = Unit {0}
 IsRefusal (Some Unheld) NotHeld = Unit {0}
 IsRefusal (Some Undone) NotDone = Unit {0}
-IsRefusal note refusal = ⊥
+IsRefusal _ _ = ⊥
 
 -- the call does this to the file, and notes this of the bucket
 abbrev pub Does : {W : Type 0} → (W → FileLog) → (ℕ → FileLog → FileLog → Type 0) → JoinedParty W → ℕ → Note → JoinedParty W → Type 0
@@ -82,7 +84,7 @@ Detaches log old bucket (Ok _) new =
     × Does log (λ process before after. IsPutBack process before bucket (whereabouts.In slot lap) after) old bucket Unheld new))
 Detaches log old bucket (Err refusal) new =
     IsRefusal (slice_get old.notes bucket) refusal
-    × ((new ≡ old) ⊎ ((slice_get old.notes bucket ≡ Some Undone)
+    × (((slice_get old.notes bucket ≢ Some Undone) × (new ≡ old)) ⊎ ((slice_get old.notes bucket ≡ Some Undone)
     × (DoesOnly log (λ process before after. IsPutBack process before bucket whereabouts.Entered after) old new
     ⊎ Does log (λ process before after. IsPutBack process before bucket whereabouts.Nowhere after) old bucket InUse new)))
 

@@ -156,14 +156,12 @@ impl<W: Words + Drop> Joined<W> {
         let Slot::Message { lap, bucket } = self.words.load_slot(slot) else {
             return false;
         };
-        match self.note(bucket) {
-            Some(Note::Undone) => {
-                calls::done(&mut self.words, slot, bucket, lap);
-                self.notes[bucket as usize] = Note::InUse;
-                true
-            }
-            _ => false,
-        }
+        let Some(Note::Undone) = self.note(bucket) else {
+            return false;
+        };
+        calls::done(&mut self.words, slot, bucket, lap);
+        self.notes[bucket as usize] = Note::InUse;
+        true
     }
 
     /// Gives back all buckets that the party holds, but for its messages, which are put back. Returns
@@ -172,9 +170,7 @@ impl<W: Words + Drop> Joined<W> {
         ensures { GivesAllBack W.log self.old result self.new }
     {
         let freed = calls::give_all_back(&mut self.words);
-        for bucket in 0..self.notes.len() {
-            self.notes[bucket] = Note::Unheld;
-        }
+        self.notes.fill(Note::Unheld);
         freed
     }
 
