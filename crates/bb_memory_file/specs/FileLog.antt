@@ -131,3 +131,8 @@ NamesSlot slots (In slot length) = slot < slots
 abbrev pub IsSaid : FileFlag → Type 0
 IsSaid (SentTo slot lap) = IsLap lap
 IsSaid flag = Unit {0}
+
+-- the slot has one of this many buckets, or is empty
+abbrev pub NamesBucket : ℕ → Slot → Type 0
+NamesBucket buckets (Empty lap) = Unit {0}
+NamesBucket buckets (Message lap bucket) = bucket < buckets

@@ -1,7 +1,13 @@
 pub mod FileCalls
 pub mod FileCode
+pub mod FileFormat
 pub mod FileLog
 pub mod FileNames
 pub mod FileNotes
+pub mod FileOperations
+pub mod FileParties
+pub mod FileRecords
+pub mod FileRows
 pub mod FileRuns
 pub mod FileSettlers
+pub mod Recorded
