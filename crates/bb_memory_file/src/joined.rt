@@ -10,7 +10,7 @@ use crate::words::Words;
 use bb_memory_file_machine::steps::Slot;
 use std::marker::Model;
 
-/// What a party has noted of a bucket.
+/// A party's note of a bucket.
 #[derive(Debug, Clone, Copy, PartialEq, Eq)]
 pub enum Note {
     /// The party doesn't hold the bucket.
