@@ -5,6 +5,7 @@ pub mod FileFlagWords
 pub mod FileKnows
 pub mod FileMade
 pub mod FileMessages
+pub mod FileNotes
 pub mod FileProcesses
 pub mod FileRecords
 pub mod FileRows

@@ -3,7 +3,7 @@
 -- Each call takes some steps of the machine. A call that refuses says what it found: the events that
 -- its log gets are the operations that it made.
 use Rattle.bb_memory_file.specs.FileCode.{EmptySlot, Event, ExchangeFlag, ExchangeSlot, FileLog, Has, HasNot, Holds, IsWalk, Known, LoadEntry, LoadFlag, LoadLife, LoadSlot, MissFlag, MissSlot, Seen, StoreEntry, StoreFlag, Unknown, Unseen, known_of, life_by}
-use Rattle.bb_memory_file.specs.FileLog.{IsLap, gained}
+use Rattle.bb_memory_file.specs.FileLog.{IsLap}
 use Rattle.bb_memory_file.specs.FileNames.{Allocate, AttachNumber, Counting, Deallocate, DetachNumber, DetachedBy, Done, Empty, Entry, FileFlag, FileStep, Fill, Free, HeldBy, In, Message, Next, Nowhere, Outside, Place, Post, PutBack, Recover, SentTo, Settled, Take}
 pub use Rattle.bb_memory_file.specs.declared.calls.Received.{Received}
 pub use Rattle.bb_memory_file.specs.declared.calls.Received.TheVariants as received
@@ -44,7 +44,7 @@ IsPassed first bucket other =
 -- the party knows that it has taken the bucket, which was free, and of each other bucket what it knew
 abbrev pub IsGained : FileLog → ℕ → FileLog → Type 0
 IsGained old bucket new =
-    (known_of new bucket ≡ gained (known_of old bucket) Free)
+    (known_of new bucket ≡ Holds (Some Nowhere) Unseen)
     × ((other : ℕ) → other ≢ bucket → known_of new other ≡ known_of old other)
 
 -- Of these buckets the call has taken the first that was free when it came there, or none was.

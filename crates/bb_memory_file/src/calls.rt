@@ -3,7 +3,7 @@
 //! Each of them is given a party whose lock this process has, and what it needs to know of a bucket
 //! is in its `requires`: that the party holds the bucket, and what the bucket's entry says.
 ghost use Rattle.bb_memory_file.specs.FileCalls.{AllocateSays, IsAttach, IsDeallocate, IsDetach, IsDone, IsFound, IsJoin, IsLeave, IsPost, IsPutBack, IsReap, IsReceive, IsSettled, SearchSays, is_fit, length_in};
-ghost use Rattle.bb_memory_file.specs.FileLog.{IsKnownIn, IsLap, Unknown, is_clear, is_held, known_of};
+ghost use Rattle.bb_memory_file.specs.FileLog.{IsKnownIn, IsLap, is_clear, is_held, known_of};
 ghost use Rattle.bb_memory_file.specs.FileNames.{Deallocate, DetachNumber, Done, Flags, Next, Outside, Settled};
 ghost use Rattle.bb_memory_file.specs.FileSettlers.{IsCounted, IsCountedOn, IsRecover, IsSettledAt};
 ghost use Rattle.bb_memory_file_machine.specs.FileMachine.{same_flag};
@@ -109,12 +109,11 @@ pub fn post<W: Words>(words: &mut W, slot: u32, bucket: u32, length: u32) -> boo
     true
 }
 
-/// Takes the message in this bucket, which the party doesn't hold, and which a load of the slot has
-/// found there at this lap. `size` is the size of a bucket in bytes.
+/// Takes the message in this bucket, which a load of the slot has found there at this lap. `size` is
+/// the size of a bucket in bytes.
 pub fn receive<W: Words>(words: &mut W, slot: u32, lap: u32, bucket: u32, size: u32) -> Received
     requires lap { IsLap lap }
     requires below { bucket < (W.log words.old).scene.buckets }
-    requires unknown { known_of (W.log words.old) bucket ≡ Unknown }
     ensures { (process : ℕ) → IsReceive process (W.log words.old) slot lap bucket size result (W.log words.new) }
 {
     let sent = FileFlag::SentTo { slot, lap };
