@@ -22,12 +22,14 @@ from gate.edits import BadEdit, apply, parse_edit
 
 POOL = "bb_memory_shared_pools/src/shared_pool/"
 BUMP = "bb_memory_bump/src/shared_bump"
+FILE = "bb_memory_file/src/"
 C = "bb_memory_c/src/"
 C_CALLS = "bb_memory_c_calls/src/"
 EDITS = re.compile(r"crates/(\w+)/refused-by-text/[^/]+\.edit")
 SOURCE = re.compile(r"crates/(bb_\w+/src/.*)\.rt")
-# The crates over shared words: the allocators that threads share, and the calls of C.
-SHARED = re.compile(r"bb_memory_(?:bump|c|c_calls|seats|shared_pools)/")
+# The crates over shared words: the allocators that threads share, the words of a file, and the calls
+# of C.
+SHARED = re.compile(r"bb_memory_(?:bump|c|c_calls|file|seats|shared_pools)/")
 # The folder of the proof of a function that calls itself. No function of the libraries does, since
 # the depth of its calls, and so the stack that it needs, would follow from what callers pass.
 RECURSION = re.compile(r"crates/(bb_\w+/proofs/(?:.*/)?\+[^/]+)/.*")
@@ -101,6 +103,9 @@ PLACES = (
             BUMP + "/rule": {"TableRule": 1},
             BUMP + "/position": {"Table": 2, "Play": 4, "Split": 1, "Join": 1},
             BUMP + "/stand_in": {"Table": 2, "TableRule": 1, "Play": 1},
+            FILE + "recorded": {"Table": 2, "TableRule": 1, "Play": 4},
+            FILE + "party": {"Arc": 1},
+            FILE + "table": {"Arc": 1, "Arc::new": 1, "Arc::try_clone": 1},
             C + "shared_bump": {"Arc": 2, "Arc::new": 1, "Arc::try_clone": 1},
             C + "shared_pool": {"Arc": 3, "Arc::new": 1, "Arc::try_clone": 1},
         },
@@ -137,6 +142,15 @@ PLACES = (
             },
             BUMP + "/stand_in": {"of_words": 1, "load_new_seat": 1},
             BUMP + "/request": {"read": 1, "exchange": 1},
+            FILE
+            + "recorded": {
+                "of_words": 1,
+                "compare_exchange": 1,
+                "load": 1,
+                "load_new_seat": 1,
+                "store": 1,
+            },
+            FILE + "party_words": {"load": 4, "exchange": 2, "store": 4},
             C + "shared_pool": {"swap": 1},
         },
     ),
@@ -204,6 +218,7 @@ PLACES = (
             BUMP: {"for": 1, "..": 1},
             BUMP + "/meeting": {"for": 2, "..": 2, "while": 1},
             BUMP + "/request": {"loop": 1},
+            FILE + "calls": {"for": 2, "..": 2},
             C + "detached": {"for": 2, "iter_mut": 1},
             C + "shared_pool": {"for": 3, "..": 5, "|": 1},
             C_CALLS + "call": {"for": 2, "iter_mut": 1},

@@ -1,25 +1,31 @@
 -- The walks of calls on buckets.
 use Rattle.bb_memory_file.proofs.FileSteps.{attaches, deallocates, detaches}
 use Rattle.bb_memory_file.proofs.FileWalks.{walk_step}
-use Rattle.bb_memory_file.specs.FileCalls.{IsAttach, Makes, is_detached}
+use Rattle.bb_memory_file.specs.FileCalls.{IsAttach, IsDeallocate, IsDetach, is_detached}
 use Rattle.bb_memory_file.specs.FileCode.{ExchangeFlag, FileLog, LoadFlag, MissFlag, Path, StoreFlag, begins, known_of, looks, steps, told}
 use Rattle.bb_memory_file.specs.FileLog.{is_clear}
 use Rattle.bb_memory_file.specs.FileNames.{AttachNumber, Deallocate, DetachNumber, DetachedBy, FileFlag, Free, HeldBy, Outside, SentTo}
-use Rattle.bb_memory_pool_machine.proofs.PoolSteps.{test_same}
-use Rattle.std.proofs.Common.{Bool, [], ap, false, inl, inr, refl, subst, sym, true, ℕ, ◌∙◌, ◌∷◌, ◌≡◌}
+use Rattle.std.proofs.Common.{Bool, [], ap, false, inl, inr, refl, subst, sym, true, ℕ, ◌∙◌, ◌≡◌}
 use Rattle.std.specs.Prelude.{MatchBool}
 
 module _ (process : ℕ) (old : FileLog) (bucket : ℕ) where
   pub deallocated : (new : FileLog) → is_clear (known_of old bucket) ≡ true → new ≡ told old (StoreFlag bucket Free) →
-      Makes process old (Deallocate process old.party bucket ∷ []) new
-  deallocated new clear is = walk_step process old new Outside (StoreFlag bucket Free) (Deallocate process old.party bucket) Outside
-      refl (deallocates old process bucket clear) is
+      IsDeallocate process old bucket new
+  deallocated new clear is = (
+    walk_step process old new Outside (StoreFlag bucket Free) (Deallocate process old.party bucket) Outside
+        refl (deallocates old process bucket clear) is,
+    is,
+  )
 
   pub detached : (new : FileLog) (party : ℕ) → is_clear (known_of old bucket) ≡ true → party ≡ old.party →
-      new ≡ told old (StoreFlag bucket (DetachedBy party)) → Makes process old (DetachNumber process old.party bucket ∷ []) new
+      new ≡ told old (StoreFlag bucket (DetachedBy party)) → IsDetach process old bucket new
   detached new party clear mine is =
-      walk_step process old new Outside (StoreFlag bucket (DetachedBy old.party)) (DetachNumber process old.party bucket) Outside
-      refl (detaches old process bucket clear) (is ∙ ap (λ p. told old (StoreFlag bucket (DetachedBy p))) mine)
+      let is' : new ≡ told old (StoreFlag bucket (DetachedBy old.party)) =
+      is ∙ ap (λ p. told old (StoreFlag bucket (DetachedBy p))) mine in (
+        walk_step process old new Outside (StoreFlag bucket (DetachedBy old.party)) (DetachNumber process old.party bucket) Outside
+            refl (detaches old process bucket clear) is',
+        is',
+      )
 
   -- a look at the flag
   abbrev looked : FileFlag → FileLog
@@ -54,7 +60,7 @@ module _ (process : ℕ) (old : FileLog) (bucket : ℕ) where
           scene = refl;
           party = refl;
         },
-        rw (test_same bucket bucket refl, test_same old.party old.party refl) refl,
+        refl,
       )
   attached false one new from party e1 mine e2 =
       subst (λ log. IsAttach process old bucket false log)

@@ -1,15 +1,15 @@
 -- The walks of calls on messages.
 use Rattle.bb_memory_file.proofs.FileSteps.{clears, empties, fills, gives_up, posts, puts_back, sends, takes}
-use Rattle.bb_memory_file.proofs.FileWalks.{walk_on, walk_step}
-use Rattle.bb_memory_file.specs.FileCalls.{IsAt, IsFound, IsPost, IsPutBack, IsTake, Makes, Whereabouts, is_fit, length_in}
-use Rattle.bb_memory_file.specs.FileCalls.taken as taken
+use Rattle.bb_memory_file.proofs.FileWalks.{walk_look, walk_on, walk_step}
+use Rattle.bb_memory_file.specs.FileCalls.{Gets, IsAt, IsFound, IsPost, IsPutBack, IsReceive, Makes, Whereabouts, is_fit, length_in, unseen}
+use Rattle.bb_memory_file.specs.FileCalls.received as received
 use Rattle.bb_memory_file.specs.FileCalls.whereabouts as whereabouts
 use Rattle.bb_memory_file.specs.FileCode.{EmptySlot, ExchangeFlag, ExchangeSlot, FileLog, Has, HasNot, Holds, Known, LoadEntry, LoadSlot, MissFlag, MissSlot, Path, Seen, StoreEntry, StoreFlag, Unknown, Unseen, begins, known_of, looks, steps, told}
 use Rattle.bb_memory_file.specs.FileLog.{IsKnownIn, IsLap, is_clear, is_held, seen_in, with_entry, with_seen}
 use Rattle.bb_memory_file.specs.FileNames.{Clearing, Done, Empty, Entry, Fill, HeldBy, In, Message, Next, Nowhere, Outside, Post, Posting, PutBack, Sending, SentTo, Slot, Take}
 use Rattle.bb_memory_pool_machine.proofs.PoolSteps.{test_same}
-use Rattle.std.proofs.Common.{Bool, None, Some, [], ap, false, inl, inr, refl, subst, sym, true, ℕ, ◌<◌, ◌∙◌, ◌∷◌, ◌≡◌, ◌≤◌}
-use Rattle.std.proofs.lemmas.Bool.{eqb-true, ltb-false}
+use Rattle.std.proofs.Common.{Bool, None, Some, [], ap, false, inl, inr, refl, subst, sym, true, ℕ, ◌∙◌, ◌∷◌, ◌≡◌, ◌≤◌}
+use Rattle.std.proofs.lemmas.Bool.{eqb-true, ltb-false, ne_eqb}
 use Rattle.std.specs.Prelude.{if◌then◌else◌, nat_lt, not, ◌==◌}
 
 -- KNOWLEDGE
@@ -22,6 +22,11 @@ seen_of (Holds entry seen) = seen
 pub held_entry : (known : Known) (entry : Entry) → is_held known ≡ true → with_entry known entry ≡ Holds (Some entry) (seen_of known)
 held_entry Unknown entry held = absurd (cc)
 held_entry (Holds old seen) entry held = refl
+
+-- what a slot says of a bucket changes nothing else that is known
+pub seen_away : (known : Known) (seen : Seen) → unseen (with_seen known seen) ≡ unseen known
+seen_away Unknown seen = refl
+seen_away (Holds entry old) seen = refl
 
 pub still_clear : (known : Known) (seen : Seen) → is_clear known ≡ true → is_clear (with_seen known seen) ≡ true
 still_clear Unknown seen clear = absurd (cc)
@@ -47,93 +52,67 @@ fits slot size (In other length) fit = fits_in slot size other length (other == 
 
 -- TAKES
 
-module _ (process : ℕ) (old : FileLog) (slot size : ℕ) where
-  pub empty : (new : FileLog) (lap : ℕ) → new ≡ told old (LoadSlot slot (Empty lap)) →
-      IsTake process old slot size taken.Empty new
-  empty new lap is = subst (λ log. IsTake process old slot size taken.Empty log) (sym is)
-      (record { path = looks old [] Outside (LoadSlot slot (Empty lap)) begins tt; scene = refl; party = refl }, (lap, refl))
+module _ (process : ℕ) (old : FileLog) (slot lap bucket size : ℕ) where
+  pub not_sent : (new : FileLog) → new ≡ told old (MissFlag bucket (SentTo slot lap)) →
+      IsReceive process old slot lap bucket size received.NotSent new
+  not_sent new is = (walk_look process old new Outside (MissFlag bucket (SentTo slot lap)) tt is, is)
 
-  -- the slot has a message in this bucket
-  module _ (lap bucket : ℕ) where
-    abbrev found : FileLog
-    found = told old (LoadSlot slot (Message lap bucket))
+  abbrev took : FileLog
+  took = told old (ExchangeFlag bucket (SentTo slot lap) (HeldBy old.party))
 
-    path_found : Path process old Outside found [] Outside
-    path_found = looks old [] Outside (LoadSlot slot (Message lap bucket)) begins tt
+  path_took : Path process old Outside took (Take process old.party slot bucket lap ∷ []) Outside
+  path_took = steps old [] Outside (ExchangeFlag bucket (SentTo slot lap) (HeldBy old.party))
+      (Take process old.party slot bucket lap) Outside begins refl (takes old process slot bucket lap)
 
-    pub no_bucket : (new : FileLog) → new ≡ found → old.scene.buckets ≤ bucket → IsTake process old slot size taken.Wrong new
-    no_bucket new is past = subst (λ log. IsTake process old slot size taken.Wrong log) (sym is)
-        (lap, bucket, inl (record { path = path_found; scene = refl; party = refl }, refl, past))
+  -- the entry of the bucket, which the party has taken
+  module _ (entry : Entry) where
+    abbrev read : FileLog
+    read = told took (LoadEntry bucket entry)
 
-    pub not_sent : (one new : FileLog) → one ≡ found → new ≡ told one (MissFlag bucket (SentTo slot lap)) →
-        IsTake process old slot size taken.NotSent new
-    not_sent one new e1 e2 = subst (λ log. IsTake process old slot size taken.NotSent log)
-        (sym (e2 ∙ ap (λ log. told log (MissFlag bucket (SentTo slot lap))) e1)) (
+    path_read : Path process old Outside read (Take process old.party slot bucket lap ∷ []) Outside
+    path_read = looks took (Take process old.party slot bucket lap ∷ []) Outside (LoadEntry bucket entry) path_took tt
+
+    read_by : (one two : FileLog) (party : ℕ) → party ≡ old.party →
+        one ≡ told old (ExchangeFlag bucket (SentTo slot lap) (HeldBy party)) → two ≡ told one (LoadEntry bucket entry) → two ≡ read
+    read_by one two party mine e1 e2 = e2 ∙ ap (λ log. told log (LoadEntry bucket entry))
+        (e1 ∙ ap (λ p. told old (ExchangeFlag bucket (SentTo slot lap) (HeldBy p))) mine)
+
+    -- the party knows where the bucket is, if it didn't hold the bucket before
+    known_read : known_of old bucket ≡ Unknown → known_of read bucket ≡ Holds (Some entry) (Has slot lap)
+    known_read unknown = rw (test_same bucket bucket refl, test_same old.party old.party refl, unknown) refl
+
+    pub put_away : known_of old bucket ≡ Unknown → (one two new : FileLog) (party : ℕ) → party ≡ old.party →
+        one ≡ told old (ExchangeFlag bucket (SentTo slot lap) (HeldBy party)) → two ≡ told one (LoadEntry bucket entry) →
+        is_fit slot size entry ≡ false → new ≡ told two (StoreFlag bucket (SentTo slot lap)) →
+        IsReceive process old slot lap bucket size received.Wrong new
+    put_away unknown one two new party mine e1 e2 unfit e3 =
+        subst (λ log. IsReceive process old slot lap bucket size received.Wrong log)
+        (sym (e3 ∙ ap (λ log. told log (StoreFlag bucket (SentTo slot lap))) (read_by one two party mine e1 e2))) (
+          entry,
+          unfit,
           record {
-            path = looks found [] Outside (MissFlag bucket (SentTo slot lap)) path_found tt;
+            path = steps read (Take process old.party slot bucket lap ∷ []) Outside (StoreFlag bucket (SentTo slot lap))
+                (PutBack process old.party slot bucket) Outside path_read refl
+                (puts_back read process slot bucket lap (Some entry) (known_read unknown));
             scene = refl;
             party = refl;
           },
-          (lap, bucket, refl),
+          refl,
         )
 
-    abbrev took : FileLog
-    took = told found (ExchangeFlag bucket (SentTo slot lap) (HeldBy old.party))
-
-    path_took : Path process old Outside took (Take process old.party slot bucket lap ∷ []) Outside
-    path_took = steps found [] Outside (ExchangeFlag bucket (SentTo slot lap) (HeldBy old.party))
-        (Take process old.party slot bucket lap) Outside path_found refl (takes found process slot bucket lap)
-
-    -- the entry of the bucket, which the party has taken
-    module _ (entry : Entry) where
-      abbrev read : FileLog
-      read = told took (LoadEntry bucket entry)
-
-      path_read : Path process old Outside read (Take process old.party slot bucket lap ∷ []) Outside
-      path_read = looks took (Take process old.party slot bucket lap ∷ []) Outside (LoadEntry bucket entry) path_took tt
-
-      known_read : known_of read bucket ≡ Holds (Some entry) (Has slot lap)
-      known_read = rw (test_same bucket bucket refl, test_same old.party old.party refl) refl
-
-      pub put_away : (one two three new : FileLog) (party : ℕ) → one ≡ found → party ≡ one.party →
-          two ≡ told one (ExchangeFlag bucket (SentTo slot lap) (HeldBy party)) → three ≡ told two (LoadEntry bucket entry) →
-          is_fit slot size entry ≡ false → new ≡ told three (StoreFlag bucket (SentTo slot lap)) →
-          IsTake process old slot size taken.Wrong new
-      put_away one two three new party e1 mine e2 e3 unfit e4 =
-          subst (λ log. IsTake process old slot size taken.Wrong log)
-          (sym (e4 ∙ ap (λ log. told log (StoreFlag bucket (SentTo slot lap))) (e3 ∙ ap (λ log. told log (LoadEntry bucket entry))
-          (e2 ∙ ap (λ p. told one (ExchangeFlag bucket (SentTo slot lap) (HeldBy p))) mine
-          ∙ ap (λ log. told log (ExchangeFlag bucket (SentTo slot lap) (HeldBy log.party))) e1)))) (
-            lap,
-            bucket,
-            inr (
-              record {
-                path = steps read (Take process old.party slot bucket lap ∷ []) Outside (StoreFlag bucket (SentTo slot lap))
-                    (PutBack process old.party slot bucket) Outside path_read refl
-                    (puts_back read process slot bucket lap (Some entry) known_read);
-                scene = refl;
-                party = refl;
-              },
-              (entry, unfit, refl),
-            ),
-          )
-
-      pub received : (one two new : FileLog) (party length : ℕ) → one ≡ found → party ≡ one.party →
-          two ≡ told one (ExchangeFlag bucket (SentTo slot lap) (HeldBy party)) → new ≡ told two (LoadEntry bucket entry) →
-          is_fit slot size entry ≡ true → length ≡ length_in entry → bucket < old.scene.buckets →
-          IsTake process old slot size (taken.Message bucket length) new
-      received one two new party length e1 mine e2 e3 fit is below =
-          let fits' = fits slot size entry fit in
-          subst (λ log. IsTake process old slot size (taken.Message bucket length) log)
-          (sym (e3 ∙ ap (λ log. told log (LoadEntry bucket entry))
-          (e2 ∙ ap (λ p. told one (ExchangeFlag bucket (SentTo slot lap) (HeldBy p))) mine
-          ∙ ap (λ log. told log (ExchangeFlag bucket (SentTo slot lap) (HeldBy log.party))) e1))) (
-            lap,
-            record { path = path_read; scene = refl; party = refl },
-            known_read ∙ ap (λ e. Holds (Some e) (Has slot lap)) (fits'.0 ∙ ap (λ l. In slot l) (sym is)),
-            rw is fits'.1,
-            below,
-          )
+    pub got : (one new : FileLog) (party length : ℕ) → party ≡ old.party →
+        one ≡ told old (ExchangeFlag bucket (SentTo slot lap) (HeldBy party)) → new ≡ told one (LoadEntry bucket entry) →
+        is_fit slot size entry ≡ true → length ≡ length_in entry →
+        IsReceive process old slot lap bucket size (received.Message length) new
+    got one new party length mine e1 e2 fit is =
+        let fits' = fits slot size entry fit in
+        let same : entry ≡ In slot length = fits'.0 ∙ ap (λ l. In slot l) (sym is) in
+        subst (λ log. IsReceive process old slot lap bucket size (received.Message length) log)
+        (sym (read_by one new party mine e1 e2)) (
+          rw is fits'.1,
+          record { path = path_read; scene = refl; party = refl },
+          ap (λ e. told took (LoadEntry bucket e)) same,
+        )
 
 -- POSTS
 
@@ -209,6 +188,7 @@ module _ (process : ℕ) (old : FileLog) (slot bucket size : ℕ) where
             scene = refl;
             party = refl;
           },
+          refl,
         )
 
 -- DONE
@@ -217,17 +197,21 @@ module _ (process : ℕ) (old : FileLog) (slot bucket lap : ℕ) (known : IsKnow
   pub finished : (one new : FileLog) (next to : ℕ) → one ≡ told old (EmptySlot slot next) → next ≡ to →
       new ≡ told one (StoreEntry bucket Nowhere) →
       Makes process old (Next process ∷ Done process old.party slot bucket to ∷ []) new
+      × Gets old (StoreEntry bucket Nowhere ∷ EmptySlot slot to ∷ []) new
   finished one new next to e1 is e2 =
-      subst (λ log. Makes process old (Next process ∷ Done process old.party slot bucket to ∷ []) log)
-      (sym (e2 ∙ ap (λ log. told log (StoreEntry bucket Nowhere)) (e1 ∙ ap (λ n. told old (EmptySlot slot n)) is)))
-      (record {
-        path = steps (told old (EmptySlot slot to)) (Done process old.party slot bucket to ∷ []) (Clearing old.party bucket)
-            (StoreEntry bucket Nowhere) (Next process) Outside
-            (steps old [] Outside (EmptySlot slot to) (Done process old.party slot bucket to) (Clearing old.party bucket) begins refl
-            (empties old process slot bucket lap known.0 known.1 to)) refl (clears (told old (EmptySlot slot to)) process bucket);
-        scene = refl;
-        party = refl;
-      })
+      subst (λ log. Makes process old (Next process ∷ Done process old.party slot bucket to ∷ []) log
+      × Gets old (StoreEntry bucket Nowhere ∷ EmptySlot slot to ∷ []) log)
+      (sym (e2 ∙ ap (λ log. told log (StoreEntry bucket Nowhere)) (e1 ∙ ap (λ n. told old (EmptySlot slot n)) is))) (
+        record {
+          path = steps (told old (EmptySlot slot to)) (Done process old.party slot bucket to ∷ []) (Clearing old.party bucket)
+              (StoreEntry bucket Nowhere) (Next process) Outside
+              (steps old [] Outside (EmptySlot slot to) (Done process old.party slot bucket to) (Clearing old.party bucket) begins refl
+              (empties old process slot bucket lap known.0 known.1 to)) refl (clears (told old (EmptySlot slot to)) process bucket);
+          scene = refl;
+          party = refl;
+        },
+        refl,
+      )
 
 -- LOOKS
 
@@ -242,6 +226,7 @@ module _ (old : FileLog) (bucket : ℕ) (held : is_held (known_of old bucket) �
         frees = refl;
         looks = λ process here. record { path = looks old [] here (LoadEntry bucket Nowhere) begins tt; scene = refl; party = refl };
         found = (seen_of (known_of old bucket), rw (test_same bucket bucket refl) (held_entry (known_of old bucket) Nowhere held));
+        others = λ other apart. rw (ne_eqb bucket other (λ same. apart (sym same))) refl;
       })
 
   -- the entry names a slot
@@ -270,6 +255,8 @@ module _ (old : FileLog) (bucket : ℕ) (held : is_held (known_of old bucket) �
             party = refl;
           };
           found = at;
+          others = λ other apart. rw (ne_eqb bucket other (λ same. apart (sym same)))
+              (seen_away (known_of old other) (seen_in other slot word));
         })
 
     pub is_entered : seen_in bucket slot word ≡ HasNot slot → IsAt bucket whereabouts.Entered slot_read
@@ -282,19 +269,15 @@ module _ (old : FileLog) (bucket : ℕ) (held : is_held (known_of old bucket) �
 
 module _ (process : ℕ) (old : FileLog) (bucket : ℕ) where
   pub back : (one new : FileLog) (slot lap : ℕ) → IsFound old bucket (whereabouts.In slot lap) one →
-      new ≡ told one (StoreFlag bucket (SentTo slot lap)) → IsPutBack process old bucket true new
+      new ≡ told one (StoreFlag bucket (SentTo slot lap)) → IsPutBack process old bucket (whereabouts.In slot lap) new
   back one new slot lap found is =
       let seen = found.looks process Outside in
       let mine : one.party ≡ old.party = seen.party in (
-        slot,
         subst (λ (p : ℕ). Makes process old (PutBack process p slot bucket ∷ []) new) mine
             (walk_on process old one new Outside Outside Outside [] (PutBack process one.party slot bucket ∷ []) seen
             (walk_step process one new Outside (StoreFlag bucket (SentTo slot lap)) (PutBack process one.party slot bucket) Outside refl
             (puts_back one process slot bucket lap (Some (In slot found.found.0)) found.found.1) is)),
+        subst (λ log. known_of log bucket ≡ Unknown) (sym is) (rw (test_same bucket bucket refl) refl),
+        (λ other apart. subst (λ log. unseen (known_of log other) ≡ unseen (known_of old other)) (sym is)
+            (rw (ne_eqb bucket other (λ same. apart (sym same))) (found.others other apart))),
       )
-
-  pub not_back : (answer : Whereabouts) (new : FileLog) → IsFound old bucket answer new →
-      (((slot : ℕ) (lap : ℕ) → ¬ (answer ≡ whereabouts.In slot lap))) → IsPutBack process old bucket false new
-  not_back (whereabouts.In slot lap) new found not_in = absurd (not_in slot lap refl)
-  not_back whereabouts.Entered new found not_in = (found.looks process Outside, inl found.found)
-  not_back whereabouts.Nowhere new found not_in = (found.looks process Outside, inr found.found)

@@ -2,12 +2,13 @@
 use Rattle.bb_memory_file.proofs.FileEvents.{gets_on, has_first, has_next}
 use Rattle.bb_memory_file.proofs.FileSteps.{allocates}
 use Rattle.bb_memory_file.proofs.FileWalks.{walk_look, walk_nowhere, walk_on, walk_step}
-use Rattle.bb_memory_file.specs.FileCalls.{AllocateSays, Gets, IsPassed, Makes, SearchSays, missed, misses}
-use Rattle.bb_memory_file.specs.FileCode.{Event, ExchangeFlag, FileLog, Holds, MissFlag, Unseen, known_of, told}
-use Rattle.bb_memory_file.specs.FileNames.{Allocate, Free, HeldBy, Nowhere, Outside}
+use Rattle.bb_memory_file.specs.FileCalls.{AllocateSays, Gets, IsGained, IsPassed, Makes, SearchSays, missed, misses}
+use Rattle.bb_memory_file.specs.FileCode.{Event, ExchangeFlag, FileLog, MissFlag, known_of, told}
+use Rattle.bb_memory_file.specs.FileLog.{gained}
+use Rattle.bb_memory_file.specs.FileNames.{Allocate, Free, HeldBy, Outside}
 use Rattle.bb_memory_pool_machine.proofs.PoolSteps.{test_same}
 use Rattle.std.proofs.Common.{Bool, List, None, Option, Some, [], ap, arith, false, inl, inr, refl, subst, sym, true, ℕ, ◌++◌, ◌+◌, ◌<◌, ◌∙◌, ◌∷◌, ◌≡◌, ◌≤◌, ◌⊎◌}
-use Rattle.std.proofs.lemmas.Bool.{le-ltb, lt-ltb, ltb-false, ltb-true}
+use Rattle.std.proofs.lemmas.Bool.{le-ltb, lt-ltb, ltb-false, ltb-true, ne_eqb}
 use Rattle.std.specs.Prelude.{if◌then◌else◌, nat_lt, ◌==◌}
 
 -- none of the buckets before this one was free
@@ -17,6 +18,7 @@ pub record Searched (old : FileLog) (from bucket : ℕ) (log : FileLog) : Type 0
   pub makes : (process : ℕ) → Makes process old [] log
   pub all : (other : ℕ) → from ≤ other → other < bucket → missed other events ≡ true
   pub order : from ≤ bucket
+  pub same : (other : ℕ) → known_of log other ≡ known_of old other
 
 pub searched_none : (old : FileLog) (from : ℕ) → Searched old from from old
 searched_none old from = record {
@@ -25,6 +27,7 @@ searched_none old from = record {
   makes = λ process. walk_nowhere process old Outside;
   all = λ other one two. absurd (omega (arith, one, two));
   order = omega arith;
+  same = λ other. refl;
 }
 
 neq_by : (one other : ℕ) → (one == other) ≡ false → ¬ (one ≡ other)
@@ -46,11 +49,12 @@ searched_on old log new from bucket before is = record {
       (walk_look process log new Outside (MissFlag bucket Free) tt is);
   all = λ other low high. now_missed bucket other from before.events low high before.all (bucket == other) refl;
   order = let o = before.order in omega (arith, o);
+  same = λ other. ap (λ l. known_of l other) is ∙ before.same other;
 }
 
 pub searched_all : (old new : FileLog) (from to bucket : ℕ) → Searched old from bucket new → to ≤ bucket → SearchSays old from to None new
 searched_all old new from to bucket search past =
-    (search.events, search.gets, search.makes, (λ other low high. search.all other low (omega (arith, high, past))))
+    (search.events, search.gets, search.makes, (λ other low high. search.all other low (omega (arith, high, past))), search.same)
 
 pub search_ends : (old log new : FileLog) (from to bucket party : ℕ) → Searched old from bucket log → bucket < to →
     party ≡ old.party → new ≡ told log (ExchangeFlag bucket Free (HeldBy party)) → SearchSays old from to (Some bucket) new
@@ -67,8 +71,10 @@ search_ends old log new from to bucket party search below mine is =
       search.all,
       search.order,
       below,
-      subst (λ (l : FileLog). known_of l bucket ≡ Holds (Some Nowhere) Unseen) (sym is')
-          (rw (test_same bucket bucket refl, test_same log.party log.party refl) refl),
+      subst (λ (l : FileLog). IsGained old bucket l) (sym is') (
+        rw (test_same bucket bucket refl, test_same log.party log.party refl) (ap (λ k. gained k Free) (search.same bucket)),
+        (λ other apart. rw (ne_eqb bucket other (λ e. apart (sym e))) (search.same other)),
+      ),
     )
 
 -- THE WHOLE SEARCH
@@ -125,6 +131,7 @@ module _ (old new : FileLog) (hint first buckets : ℕ) (all : buckets ≡ old.s
         | inl before ↦ has_next (misses other) one.0 two.0 (two.3 other (omega arith) before)
         | inr after ↦ missed_one two.0 other below after
       ]),
+      (λ other. two.4 other ∙ one.4 other),
     )
 
     -- a bucket that the search passed before it came to this one
@@ -148,7 +155,7 @@ module _ (old new : FileLog) (hint first buckets : ℕ) (all : buckets ≡ old.s
           (λ other below passed. passed_second two.0 bucket other two.5 below two.3
               (subst (λ (f : ℕ). IsPassed f bucket other) (sym start) passed)),
           subst (λ (n : ℕ). bucket < n) all (omega (arith, less, order)),
-          two.6,
+          (two.6.0 ∙ ap (λ k. gained k Free) (one.4 bucket), (λ other apart. two.6.1 other apart ∙ one.4 other)),
         )
 
     pub found_by : (answer : Option ℕ) → first ≤ buckets → SearchSays middle 0 first answer new → AllocateSays old hint answer new

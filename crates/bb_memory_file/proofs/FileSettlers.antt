@@ -2,7 +2,7 @@
 use Rattle.bb_memory_file.proofs.FileEvents.{append_assoc, freed_on, gets_on, has_first, has_next, has_none}
 use Rattle.bb_memory_file.proofs.FileSteps.{counts, counts_on, ends, leaves, passes, recovers, settles_clear, settles_free, settles_sent, stays}
 use Rattle.bb_memory_file.proofs.FileWalks.{walk_look, walk_move, walk_nowhere, walk_on, walk_step}
-use Rattle.bb_memory_file.specs.FileCalls.{Gets, IsFound, IsLifeOf, IsOver, IsRecovered, IsSettled, Whereabouts, freed_in, has_some, is_tried, tries}
+use Rattle.bb_memory_file.specs.FileCalls.{Gets, IsFound, IsLifeOf, IsOver, IsRecovered, IsSettled, Whereabouts, freed_in, has_some, is_tried, tries, unseen}
 use Rattle.bb_memory_file.specs.FileCalls as calls
 use Rattle.bb_memory_file.specs.FileCalls.whereabouts as whereabouts
 use Rattle.bb_memory_file.specs.FileCode.{Event, ExchangeFlag, FileLog, HasNot, Holds, IsStep, IsWalk, Known, LoadFlag, LoadLife, MissFlag, StoreEntry, StoreFlag, StoreLife, Unknown, known_of, life_by, told}
@@ -11,8 +11,8 @@ use Rattle.bb_memory_file.specs.FileNames.{Count, Counting, DetachedBy, FileFlag
 use Rattle.bb_memory_file.specs.FileSettlers.{IsCounted, IsCountedOn, IsRecover, IsSettledAt}
 use Rattle.bb_memory_file_machine.specs.FileMachine.{same_flag}
 use Rattle.bb_memory_pool_machine.proofs.PoolSteps.{test_same}
-use Rattle.std.proofs.Common.{Bool, List, Some, [], ap, arith, false, inl, inr, refl, subst, sym, true, ℕ, ◌++◌, ◌+◌, ◌<◌, ◌∙◌, ◌∷◌, ◌≡◌, ◌≤◌, ◌⊎◌}
-use Rattle.std.proofs.lemmas.Bool.{eqb-true}
+use Rattle.std.proofs.Common.{Bool, List, Some, [], ap, arith, false, inl, inr, refl, subst, sym, true, ℕ, ◌++◌, ◌+◌, ◌<◌, ◌∙◌, ◌∷◌, ◌≡◌, ◌≢◌, ◌≤◌, ◌⊎◌}
+use Rattle.std.proofs.lemmas.Bool.{cases_eq, eqb-true, ne_eqb}
 use Rattle.std.specs.Prelude.{MatchBool, if◌then◌else◌, ◌%◌, ◌==◌}
 
 -- RECOVERING
@@ -30,6 +30,7 @@ module _ (process : ℕ) (old : FileLog) (bucket : ℕ) where
     walk = walk_look process old new here (LoadFlag bucket flag) tt is;
     frees = refl;
     tried = let other' = ap (λ p. same_flag flag (DetachedBy p)) (sym mine) ∙ other in rw (test_same bucket bucket refl, other') refl;
+    others = λ o apart. ap (λ l. known_of l o) is ∙ rw (ne_eqb bucket o (λ same. apart (sym same))) refl;
   }
 
   pub recovered : (hit : Bool) (one new : FileLog) (flag : FileFlag) (party : ℕ) → party ≡ old.party →
@@ -50,6 +51,7 @@ module _ (process : ℕ) (old : FileLog) (bucket : ℕ) where
             (Recover process) here refl (recovers (told old (LoadFlag bucket flag)) process bucket) e2');
         frees = refl;
         tried = rw (test_same bucket bucket refl, test_same old.party old.party refl) refl;
+        others = λ o apart. ap (λ l. known_of l o) e2' ∙ rw (ne_eqb bucket o (λ same. apart (sym same))) refl;
       }
   recovered false one new flag party mine e1 e2 =
       let e2' : new ≡ told (told old (LoadFlag bucket flag)) (MissFlag bucket (DetachedBy old.party)) =
@@ -64,6 +66,7 @@ module _ (process : ℕ) (old : FileLog) (bucket : ℕ) where
             (walk_look process (told old (LoadFlag bucket flag)) new here (MissFlag bucket (DetachedBy old.party)) tt e2');
         frees = refl;
         tried = rw (test_same bucket bucket refl, test_same old.party old.party refl) refl;
+        others = λ o apart. ap (λ l. known_of l o) e2' ∙ rw (ne_eqb bucket o (λ same. apart (sym same))) refl;
       }
 
 -- ONE BUCKET
@@ -89,7 +92,13 @@ module _ (process : ℕ) (old : FileLog) (bucket : ℕ) (below : bucket < old.sc
         (passes old process bucket below flag (ap (λ p. same_flag flag (HeldBy p)) (sym mine) ∙ other)) is;
     frees = refl;
     recovers_none = refl;
+    unknown = ap (λ l. known_of l bucket) is
+        ∙ rw (test_same bucket bucket refl, ap (λ p. same_flag flag (HeldBy p)) (sym mine) ∙ other) refl;
+    others = λ o apart. ap unseen (ap (λ l. known_of l o) is ∙ rw (ne_eqb bucket o (λ same. apart (sym same))) refl);
   }
+
+  stored_unknown : (log new : FileLog) (to : FileFlag) → new ≡ told log (StoreFlag bucket to) → known_of new bucket ≡ Unknown
+  stored_unknown log new to is = ap (λ l. known_of l bucket) is ∙ rw (test_same bucket bucket refl) refl
 
   -- the party has found that it holds the bucket, and has looked where it is
   module _ (one two : FileLog) (flag : FileFlag) (e1 : one ≡ told old (LoadFlag bucket flag)) where
@@ -110,6 +119,16 @@ module _ (process : ℕ) (old : FileLog) (bucket : ℕ) (below : bucket < old.sc
       frees_two : freed_in (found.events ++ LoadFlag bucket flag ∷ []) ≡ 0
       frees_two = let on = freed_on found.events (LoadFlag bucket flag ∷ []) in let none = found.frees in omega (arith, on, none)
 
+      others_two : (o : ℕ) → o ≢ bucket → unseen (known_of two o) ≡ unseen (known_of old o)
+      others_two o apart = found.others o apart
+          ∙ ap unseen (ap (λ l. known_of l o) e1 ∙ rw (ne_eqb bucket o (λ same. apart (sym same))) refl)
+
+      -- the flag is stored then
+      others_stored : (new : FileLog) (to : FileFlag) → new ≡ told two (StoreFlag bucket to) → (o : ℕ) → o ≢ bucket →
+          unseen (known_of new o) ≡ unseen (known_of old o)
+      others_stored new to is o apart = ap unseen (ap (λ l. known_of l o) is ∙ rw (ne_eqb bucket o (λ same. apart (sym same))) refl)
+          ∙ others_two o apart
+
       -- one more step, by the party of the log that has been got so far
       step_two : (new : FileLog) (event : Event) (there : ℕ → Place) → new ≡ told two event →
           IsStep two process (Flags two.party bucket) event (Next process) (there two.party) →
@@ -129,6 +148,8 @@ module _ (process : ℕ) (old : FileLog) (bucket : ℕ) (below : bucket < old.sc
           (settles_sent two process bucket (below_two (whereabouts.In slot lap) found) slot found.found.0 lap found.found.1);
       frees = let none = frees_two (whereabouts.In slot lap) found in omega (arith, none);
       recovers_none = refl;
+      unknown = stored_unknown two new (SentTo slot lap) is;
+      others = others_stored (whereabouts.In slot lap) found new (SentTo slot lap) is;
     }
 
     pub given_back : (new : FileLog) → IsFound one bucket whereabouts.Nowhere two → new ≡ told two (StoreFlag bucket Free) →
@@ -141,6 +162,8 @@ module _ (process : ℕ) (old : FileLog) (bucket : ℕ) (below : bucket < old.sc
           (settles_free two process bucket (below_two whereabouts.Nowhere found) found.found.0 found.found.1);
       frees = let none = frees_two whereabouts.Nowhere found in omega (arith, none);
       recovers_none = refl;
+      unknown = stored_unknown two new Free is;
+      others = others_stored whereabouts.Nowhere found new Free is;
     }
 
     pub cleared : (three new : FileLog) → IsFound one bucket whereabouts.Entered two → three ≡ told two (StoreEntry bucket Nowhere) →
@@ -168,6 +191,11 @@ module _ (process : ℕ) (old : FileLog) (bucket : ℕ) (below : bucket < old.sc
               (Flags three.party (bucket + 1)) refl (settles_free three process bucket below_three (HasNot slot) known_three) e4));
           frees = let none = frees_two whereabouts.Entered found in omega (arith, none);
           recovers_none = refl;
+          unknown = stored_unknown three new Free e4;
+          others = λ o apart.
+              let away = ne_eqb bucket o (λ same. apart (sym same)) in
+              ap unseen (ap (λ l. known_of l o) e4 ∙ rw away refl ∙ ap (λ l. known_of l o) e3 ∙ rw away refl)
+              ∙ others_two whereabouts.Entered found o apart;
         }
 
 -- ALL BUCKETS
@@ -188,6 +216,22 @@ pub record Settling (process : ℕ) (old : FileLog) (detached : Bool) (bucket fr
   pub walk : IsWalk process old (Flags old.party 0) new taken (Flags old.party bucket)
   pub frees : freed_in events ≡ freed
   pub recovered : RecoveredTo old.party detached bucket events taken
+  pub unknown : (other : ℕ) → other < bucket → known_of new other ≡ Unknown
+
+unseen_none : (known : Known) → unseen known ≡ Unknown → known ≡ Unknown
+unseen_none Unknown is = refl
+unseen_none (Holds entry seen) is = absurd (cc)
+
+-- one bucket more is unknown
+unknown_on : (log new : FileLog) (bucket : ℕ) → ((other : ℕ) → other < bucket → known_of log other ≡ Unknown) →
+    known_of new bucket ≡ Unknown →
+    ((other : ℕ) → other ≢ bucket → unseen (known_of new other) ≡ unseen (known_of log other)) → (other : ℕ) →
+    other < bucket + 1 → known_of new other ≡ Unknown
+unknown_on log new bucket before now others other below = elim (cases_eq other bucket) [
+  | inl same ↦ ap (λ b. known_of new b) same ∙ now
+  | inr apart ↦ unseen_none (known_of new other)
+      (others other apart ∙ ap unseen (before other (omega (arith, below, apart))))
+]
 
 none_yet : (party : ℕ) (detached : Bool) → RecoveredTo party detached 0 [] []
 none_yet party true = λ other below. absurd (omega (arith, below))
@@ -201,6 +245,7 @@ settling_none process old detached = record {
   walk = walk_nowhere process old (Flags old.party 0);
   frees = refl;
   recovered = none_yet old.party detached;
+  unknown = λ other below. absurd (omega (arith, below));
 }
 
 module _ (process : ℕ) (old log new : FileLog) (detached : Bool) (bucket freed more : ℕ) (answer : Bool)
@@ -221,6 +266,7 @@ module _ (process : ℕ) (old log new : FileLog) (detached : Bool) (bucket freed
     recovered = subst (λ (d : Bool). RecoveredTo old.party d (bucket + 1) (step.events ++ settling.events) (step.taken ++ settling.taken))
         (sym none) (has_none calls.recovers settling.taken step.taken
         (subst (λ (d : Bool). RecoveredTo old.party d bucket settling.events settling.taken) none settling.recovered) step.recovers_none);
+    unknown = unknown_on log new bucket settling.unknown step.unknown step.others;
   }
 
   -- a settler that takes back detached buckets goes on
@@ -261,6 +307,8 @@ module _ (process : ℕ) (old log new : FileLog) (detached : Bool) (bucket freed
           (sym all) (λ other below. tried_to
           (subst (λ (d : Bool). RecoveredTo old.party d bucket settling.events settling.taken) all settling.recovered) other below
           (bucket == other) refl);
+      unknown = unknown_on log new bucket settling.unknown step.unknown
+          (λ other apart. step.others other apart ∙ ap unseen (back.others other apart));
     }
 
 recovered_all : (process : ℕ) (old new : FileLog) (detached : Bool) (bucket freed : ℕ) →
@@ -289,6 +337,7 @@ settled_all process old new detached bucket freed settling past =
           (ends new process bucket (subst (λ (s : ℕ). s ≤ bucket) (sym (ap (λ scene. scene.buckets) same)) past))));
       frees = settling.frees;
       recovered = recovered_all process old new detached bucket freed settling past (Next process ∷ settling.taken) refl detached refl;
+      unknown = λ other below. settling.unknown other (omega (arith, below, past));
     }
 
 -- LIVES
@@ -327,6 +376,7 @@ module _ (process : ℕ) (old : FileLog) (life : ℕ) where
     taken = [];
     walk = walk_look process old new (Settled old.party) (LoadLife life) tt e;
     recovers_none = refl;
+    same = λ bucket. ap (λ l. known_of l bucket) e;
   }
 
   pub counted_now : (one new : FileLog) (parity : ℕ) → one ≡ loaded → new ≡ told one (StoreLife (life + 1)) →
@@ -346,6 +396,7 @@ module _ (process : ℕ) (old : FileLog) (life : ℕ) where
             (walk_step process loaded new (Settled old.party) (StoreLife (life + 1)) (Count process (life + 1)) (Settled old.party) refl
             (counts_on loaded process life (life + 1) refl (omega arith)) e);
         recovers_none = refl;
+        same = λ bucket. ap (λ l. known_of l bucket) e;
       }
 
 -- WHOLE CALLS
@@ -358,11 +409,20 @@ pub record Quiet (process : ℕ) (old : FileLog) (from : Place) (new : FileLog) 
   pub walk : IsWalk process old from new taken there
   pub frees : freed_in events ≡ 0
   pub recovers_none : has_some calls.recovers taken ≡ false
+  pub same : (bucket : ℕ) → known_of new bucket ≡ known_of old bucket
 
 quiet_move : (process : ℕ) (log : FileLog) (here : Place) (step : FileStep) (there : Place) → calls.recovers step ≡ false →
     IsWalk process log here log (step ∷ []) there → Quiet process log here log there
 quiet_move process log here step there none walk =
-    record { events = []; gets = refl; taken = step ∷ []; walk = walk; frees = refl; recovers_none = rw none refl }
+    record {
+      events = [];
+      gets = refl;
+      taken = step ∷ [];
+      walk = walk;
+      frees = refl;
+      recovers_none = rw none refl;
+      same = λ bucket. refl;
+    }
 
 pub quiet_leaves : (process : ℕ) (log : FileLog) → Quiet process log Outside log (Flags log.party 0)
 quiet_leaves process log = quiet_move process log Outside (Leave process log.party) (Flags log.party 0) refl
@@ -381,6 +441,7 @@ quiet_locked process old new life counted = record {
   walk = counted.1;
   frees = refl;
   recovers_none = refl;
+  same = λ bucket. ap (λ l. known_of l bucket) counted.0;
 }
 
 quiet_counted : (process : ℕ) (old new : FileLog) (parity : ℕ) → IsCountedOn process old parity new →
@@ -392,6 +453,7 @@ quiet_counted process old new parity counted = record {
   walk = counted.walk;
   frees = counted.frees;
   recovers_none = counted.recovers_none;
+  same = counted.same;
 }
 
 -- the same number, whichever log says so
@@ -420,6 +482,8 @@ module _ (process : ℕ) (old middle new : FileLog) (detached : Bool) (freed : �
     walk = walk_on process old middle new from over there quiet.taken settled.taken quiet.walk settled.walk;
     frees = let on = freed_on settled.events quiet.events in let one = quiet.frees in let two = settled.frees in omega (arith, on, one, two);
     recovered = recovered_after detached refl quiet settled;
+    unknown = λ bucket below. settled.unknown bucket
+        (subst (λ (n : ℕ). bucket < n) (sym (ap (λ (log : FileLog). log.scene.buckets) quiet.gets)) below);
   }
 
   recovered_before : (is : Bool) → detached ≡ is → (settled : IsSettled process old detached from freed middle over) →
@@ -440,6 +504,7 @@ module _ (process : ℕ) (old middle new : FileLog) (detached : Bool) (freed : �
     walk = walk_on process old middle new from over there settled.taken quiet.taken settled.walk quiet.walk;
     frees = let on = freed_on quiet.events settled.events in let one = quiet.frees in let two = settled.frees in omega (arith, on, one, two);
     recovered = recovered_before detached refl settled quiet;
+    unknown = λ bucket below. quiet.same bucket ∙ settled.unknown bucket below;
   }
 
 module _ (process : ℕ) (old new : FileLog) (freed : ℕ) where

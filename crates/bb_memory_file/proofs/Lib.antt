@@ -1,10 +1,16 @@
 pub mod FileBuckets
 pub mod FileEvents
+pub mod FileFlagWords
 pub mod FileKnows
+pub mod FileMade
 pub mod FileMessages
+pub mod FileProcesses
+pub mod FileRecords
+pub mod FileRows
 pub mod FileRunSteps
 pub mod FileRunTheorem
 pub mod FileSearches
 pub mod FileSettlers
 pub mod FileSteps
 pub mod FileWalks
+pub mod Recording

@@ -2,15 +2,15 @@
 --
 -- Each call takes some steps of the machine. A call that refuses says what it found: the events that
 -- its log gets are the operations that it made.
-use Rattle.bb_memory_file.specs.FileCode.{Event, ExchangeFlag, FileLog, Has, HasNot, Holds, IsWalk, LoadEntry, LoadFlag, LoadLife, LoadSlot, MissFlag, MissSlot, Seen, StoreEntry, StoreFlag, Unseen, known_of, life_by}
-use Rattle.bb_memory_file.specs.FileLog.{IsLap}
-use Rattle.bb_memory_file.specs.FileNames.{Allocate, AttachNumber, Counting, DetachedBy, Empty, Entry, FileFlag, FileStep, Fill, Free, HeldBy, In, Message, Next, Nowhere, Outside, Place, Post, PutBack, Recover, SentTo, Settled, Take}
-pub use Rattle.bb_memory_file.specs.declared.calls.Taken.{Taken}
-pub use Rattle.bb_memory_file.specs.declared.calls.Taken.TheVariants as taken
+use Rattle.bb_memory_file.specs.FileCode.{EmptySlot, Event, ExchangeFlag, ExchangeSlot, FileLog, Has, HasNot, Holds, IsWalk, Known, LoadEntry, LoadFlag, LoadLife, LoadSlot, MissFlag, MissSlot, Seen, StoreEntry, StoreFlag, Unknown, Unseen, known_of, life_by}
+use Rattle.bb_memory_file.specs.FileLog.{IsLap, gained}
+use Rattle.bb_memory_file.specs.FileNames.{Allocate, AttachNumber, Counting, Deallocate, DetachNumber, DetachedBy, Done, Empty, Entry, FileFlag, FileStep, Fill, Free, HeldBy, In, Message, Next, Nowhere, Outside, Place, Post, PutBack, Recover, SentTo, Settled, Take}
+pub use Rattle.bb_memory_file.specs.declared.calls.Received.{Received}
+pub use Rattle.bb_memory_file.specs.declared.calls.Received.TheVariants as received
 pub use Rattle.bb_memory_file.specs.declared.calls.Whereabouts.{Whereabouts}
 pub use Rattle.bb_memory_file.specs.declared.calls.Whereabouts.TheVariants as whereabouts
 use Rattle.bb_memory_file_machine.specs.FileMachine.{same_flag}
-use Rattle.std.specs.Prelude.{Bool, List, None, Option, Some, [], false, if◌then◌else◌, nat_lt, not, true, ℕ, ◌%◌, ◌++◌, ◌+◌, ◌-◌, ◌<◌, ◌==◌, ◌^◌, ◌∷◌, ◌≡◌, ◌≤◌, ◌⊎◌}
+use Rattle.std.specs.Prelude.{Bool, List, None, Option, Some, [], false, if◌then◌else◌, nat_lt, not, true, ℕ, ◌%◌, ◌++◌, ◌+◌, ◌-◌, ◌<◌, ◌==◌, ◌^◌, ◌∷◌, ◌≡◌, ◌≢◌, ◌≤◌, ◌⊎◌}
 
 -- the call takes these steps, the last first; the process is in no call before it and after it
 abbrev pub Makes : ℕ → FileLog → List FileStep → FileLog → Type 0
@@ -41,16 +41,23 @@ abbrev pub IsPassed : ℕ → ℕ → ℕ → Type 0
 IsPassed first bucket other =
     ((first ≤ other) × (other < bucket)) ⊎ ((bucket < first) × ((first ≤ other) ⊎ (other < bucket)))
 
+-- the party knows that it has taken the bucket, which was free, and of each other bucket what it knew
+abbrev pub IsGained : FileLog → ℕ → FileLog → Type 0
+IsGained old bucket new =
+    (known_of new bucket ≡ gained (known_of old bucket) Free)
+    × ((other : ℕ) → other ≢ bucket → known_of new other ≡ known_of old other)
+
 -- Of these buckets the call has taken the first that was free when it came there, or none was.
 abbrev pub SearchSays : FileLog → ℕ → ℕ → Option ℕ → FileLog → Type 0
 SearchSays old from to None new =
     (events : List Event) × Gets old events new × ((process : ℕ) → Makes process old [] new)
     × ((other : ℕ) → from ≤ other → other < to → missed other events ≡ true)
+    × ((other : ℕ) → known_of new other ≡ known_of old other)
 SearchSays old from to (Some bucket) new =
     (events : List Event) × Gets old events new
     × ((process : ℕ) → Makes process old (Allocate process old.party bucket ∷ []) new)
     × ((other : ℕ) → from ≤ other → other < bucket → missed other events ≡ true)
-    × (from ≤ bucket) × (bucket < to) × (known_of new bucket ≡ Holds (Some Nowhere) Unseen)
+    × (from ≤ bucket) × (bucket < to) × IsGained old bucket new
 
 -- Of all buckets, from the hint on, the call has taken the first that was free when it came there, or
 -- none was.
@@ -58,12 +65,24 @@ abbrev pub AllocateSays : FileLog → ℕ → Option ℕ → FileLog → Type 0
 AllocateSays old hint None new =
     (events : List Event) × Gets old events new × ((process : ℕ) → Makes process old [] new)
     × ((other : ℕ) → other < old.scene.buckets → missed other events ≡ true)
+    × ((other : ℕ) → known_of new other ≡ known_of old other)
 AllocateSays old hint (Some bucket) new =
     (events : List Event) × Gets old events new
     × ((process : ℕ) → Makes process old (Allocate process old.party bucket ∷ []) new)
     × ((other : ℕ) → other < old.scene.buckets
     → IsPassed (if nat_lt hint old.scene.buckets then hint else 0) bucket other → missed other events ≡ true)
-    × (bucket < old.scene.buckets) × (known_of new bucket ≡ Holds (Some Nowhere) Unseen)
+    × (bucket < old.scene.buckets) × IsGained old bucket new
+
+-- the call has given back the bucket
+abbrev pub IsDeallocate : ℕ → FileLog → ℕ → FileLog → Type 0
+IsDeallocate process old bucket new =
+    Makes process old (Deallocate process old.party bucket ∷ []) new × Gets old (StoreFlag bucket Free ∷ []) new
+
+-- the call has detached the bucket
+abbrev pub IsDetach : ℕ → FileLog → ℕ → FileLog → Type 0
+IsDetach process old bucket new =
+    Makes process old (DetachNumber process old.party bucket ∷ []) new
+    × Gets old (StoreFlag bucket (DetachedBy old.party) ∷ []) new
 
 -- the party `from` has detached the bucket
 abbrev pub is_detached : FileFlag → Bool
@@ -74,7 +93,7 @@ is_detached flag = false
 abbrev pub IsAttach : ℕ → FileLog → ℕ → Bool → FileLog → Type 0
 IsAttach process old bucket true new =
     (from : ℕ) × Makes process old (AttachNumber process old.party bucket from ∷ []) new
-    × (known_of new bucket ≡ Holds (Some Nowhere) Unseen)
+    × Gets old (ExchangeFlag bucket (DetachedBy from) (HeldBy old.party) ∷ LoadFlag bucket (DetachedBy from) ∷ []) new
 IsAttach process old bucket false new =
     Makes process old [] new
     × (((flag : FileFlag) × Gets old (LoadFlag bucket flag ∷ []) new × (is_detached flag ≡ false))
@@ -87,11 +106,19 @@ IsAttach process old bucket false new =
 abbrev pub IsPost : ℕ → FileLog → ℕ → ℕ → ℕ → Bool → FileLog → Type 0
 IsPost process old slot bucket length true new =
     (lap : ℕ) × Makes process old (Next process ∷ Fill process lap ∷ Post process old.party slot bucket length ∷ []) new
+    × Gets old (StoreFlag bucket (SentTo slot lap) ∷ ExchangeSlot slot (Empty lap) (Message lap bucket)
+    ∷ StoreEntry bucket (In slot length) ∷ LoadSlot slot (Empty lap) ∷ []) new
 IsPost process old slot bucket length false new =
     (lap : ℕ) × (((other : ℕ) × Gets old (LoadSlot slot (Message lap other) ∷ []) new × Makes process old [] new)
     ⊎ (Gets old (StoreEntry bucket Nowhere ∷ MissSlot slot (Empty lap) ∷ StoreEntry bucket (In slot length)
     ∷ LoadSlot slot (Empty lap) ∷ []) new
     × Makes process old (Next process ∷ Post process old.party slot bucket length ∷ []) new))
+
+-- the call has emptied the slot, which goes on with the next lap
+abbrev pub IsDone : ℕ → FileLog → ℕ → ℕ → ℕ → FileLog → Type 0
+IsDone process old slot bucket lap new =
+    Makes process old (Next process ∷ Done process old.party slot bucket ((lap + 1) % 2 ^ 30) ∷ []) new
+    × Gets old (StoreEntry bucket Nowhere ∷ EmptySlot slot ((lap + 1) % 2 ^ 30) ∷ []) new
 
 -- the length of the message of an entry, in bytes
 abbrev pub length_in : Entry → ℕ
@@ -103,24 +130,18 @@ abbrev pub is_fit : ℕ → ℕ → Entry → Bool
 is_fit slot size Nowhere = false
 is_fit slot size (In other length) = if other == slot then not (nat_lt size length) else false
 
--- what a take did, by its answer
-abbrev pub IsTake : ℕ → FileLog → ℕ → ℕ → Taken → FileLog → Type 0
-IsTake process old slot size taken.Empty new =
-    Makes process old [] new × ((lap : ℕ) × Gets old (LoadSlot slot (Empty lap) ∷ []) new)
-IsTake process old slot size taken.NotSent new =
-    Makes process old [] new × ((lap : ℕ) × (bucket : ℕ)
-    × Gets old (MissFlag bucket (SentTo slot lap) ∷ LoadSlot slot (Message lap bucket) ∷ []) new)
-IsTake process old slot size taken.Wrong new =
-    (lap : ℕ) × (bucket : ℕ)
-    × ((Makes process old [] new × Gets old (LoadSlot slot (Message lap bucket) ∷ []) new × (old.scene.buckets ≤ bucket))
-    ⊎ (Makes process old (PutBack process old.party slot bucket ∷ Take process old.party slot bucket lap ∷ []) new
-    × ((entry : Entry) × (is_fit slot size entry ≡ false)
+-- what the call did, by its answer: a message that it has taken, and whose entry is wrong, it puts back
+abbrev pub IsReceive : ℕ → FileLog → ℕ → ℕ → ℕ → ℕ → Received → FileLog → Type 0
+IsReceive process old slot lap bucket size received.NotSent new =
+    Makes process old [] new × Gets old (MissFlag bucket (SentTo slot lap) ∷ []) new
+IsReceive process old slot lap bucket size received.Wrong new =
+    (entry : Entry) × (is_fit slot size entry ≡ false)
+    × Makes process old (PutBack process old.party slot bucket ∷ Take process old.party slot bucket lap ∷ []) new
     × Gets old (StoreFlag bucket (SentTo slot lap) ∷ LoadEntry bucket entry
-    ∷ ExchangeFlag bucket (SentTo slot lap) (HeldBy old.party) ∷ LoadSlot slot (Message lap bucket) ∷ []) new)))
-IsTake process old slot size (taken.Message bucket length) new =
-    (lap : ℕ) × Makes process old (Take process old.party slot bucket lap ∷ []) new
-    × (known_of new bucket ≡ Holds (Some (In slot length)) (Has slot lap))
-    × (length ≤ size) × (bucket < old.scene.buckets)
+    ∷ ExchangeFlag bucket (SentTo slot lap) (HeldBy old.party) ∷ []) new
+IsReceive process old slot lap bucket size (received.Message length) new =
+    (length ≤ size) × Makes process old (Take process old.party slot bucket lap ∷ []) new
+    × Gets old (LoadEntry bucket (In slot length) ∷ ExchangeFlag bucket (SentTo slot lap) (HeldBy old.party) ∷ []) new
 
 -- how many buckets were given back by the event
 abbrev pub frees : Event → ℕ
@@ -131,6 +152,11 @@ frees event = 0
 abbrev pub freed_in : List Event → ℕ
 freed_in [] = 0
 freed_in (event ∷ events) = frees event + freed_in events
+
+-- what a party knows, without what it has seen of slots
+abbrev pub unseen : Known → Known
+unseen Unknown = Unknown
+unseen (Holds entry seen) = Holds entry Unseen
 
 -- what a look says of where a bucket is: the party knows this of the bucket from then on
 abbrev pub IsAt : ℕ → Whereabouts → FileLog → Type 0
@@ -147,12 +173,17 @@ pub record IsFound (old : FileLog) (bucket : ℕ) (answer : Whereabouts) (new : 
   pub frees : freed_in events ≡ 0
   pub looks : (process : ℕ) (here : Place) → IsWalk process old here new [] here
   pub found : IsAt bucket answer new
+  pub others : (other : ℕ) → other ≢ bucket → unseen (known_of new other) ≡ unseen (known_of old other)
 
--- the call has put back the bucket, which a slot has, or found that none has it
-abbrev pub IsPutBack : ℕ → FileLog → ℕ → Bool → FileLog → Type 0
-IsPutBack process old bucket true new = (slot : ℕ) × Makes process old (PutBack process old.party slot bucket ∷ []) new
-IsPutBack process old bucket false new =
-    Makes process old [] new × (IsAt bucket whereabouts.Entered new ⊎ IsAt bucket whereabouts.Nowhere new)
+-- the call has put back the bucket, which a slot has, or has found that none has it; of each other
+-- bucket the party knows what it knew
+abbrev pub IsPutBack : ℕ → FileLog → ℕ → Whereabouts → FileLog → Type 0
+IsPutBack process old bucket (whereabouts.In slot lap) new =
+    Makes process old (PutBack process old.party slot bucket ∷ []) new × (known_of new bucket ≡ Unknown)
+    × ((other : ℕ) → other ≢ bucket → unseen (known_of new other) ≡ unseen (known_of old other))
+IsPutBack process old bucket found new =
+    Makes process old [] new × IsAt bucket found new
+    × ((other : ℕ) → other ≢ bucket → unseen (known_of new other) ≡ unseen (known_of old other))
 
 -- SETTLERS
 
@@ -187,6 +218,7 @@ pub record IsSettled (process : ℕ) (old : FileLog) (detached : Bool) (from : P
   pub walk : IsWalk process old from new taken there
   pub frees : freed_in events ≡ freed
   pub recovered : IsRecovered old detached events taken
+  pub unknown : (bucket : ℕ) → bucket < old.scene.buckets → known_of new bucket ≡ Unknown
 
 -- the number's life is this one by the log
 abbrev pub IsLifeOf : FileLog → ℕ → Type 0

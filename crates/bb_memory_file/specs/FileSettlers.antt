@@ -1,8 +1,8 @@
 -- What the parts of a settler's call do.
-use Rattle.bb_memory_file.specs.FileCalls.{Gets, IsLifeOf, IsOver, freed_in, has_some, is_tried, recovers}
-use Rattle.bb_memory_file.specs.FileCode.{Event, FileLog, IsWalk, LoadLife, StoreLife}
+use Rattle.bb_memory_file.specs.FileCalls.{Gets, IsLifeOf, IsOver, freed_in, has_some, is_tried, recovers, unseen}
+use Rattle.bb_memory_file.specs.FileCode.{Event, FileLog, IsWalk, LoadLife, StoreLife, Unknown, known_of}
 use Rattle.bb_memory_file.specs.FileNames.{Count, Counting, FileStep, Flags, Settled}
-use Rattle.std.specs.Prelude.{Bool, List, None, Option, Some, [], false, if◌then◌else◌, true, ℕ, ◌%◌, ◌+◌, ◌-◌, ◌^◌, ◌∷◌, ◌≡◌, ◌⊎◌}
+use Rattle.std.specs.Prelude.{Bool, List, None, Option, Some, [], false, if◌then◌else◌, true, ℕ, ◌%◌, ◌+◌, ◌-◌, ◌^◌, ◌∷◌, ◌≡◌, ◌≢◌, ◌⊎◌}
 
 -- the settler has gone on from one bucket to the next, and says whether it has given the bucket back
 pub record IsSettledAt (process : ℕ) (old : FileLog) (bucket : ℕ) (answer : Bool) (new : FileLog) : Type 0 where
@@ -12,6 +12,8 @@ pub record IsSettledAt (process : ℕ) (old : FileLog) (bucket : ℕ) (answer : 
   pub walk : IsWalk process old (Flags old.party bucket) new taken (Flags old.party (bucket + 1))
   pub frees : freed_in events ≡ (if answer then 1 else 0)
   pub recovers_none : has_some recovers taken ≡ false
+  pub unknown : known_of new bucket ≡ Unknown
+  pub others : (other : ℕ) → other ≢ bucket → unseen (known_of new other) ≡ unseen (known_of old other)
 
 -- the settler has taken back the bucket, or found that it isn't detached by the party
 pub record IsRecover (process : ℕ) (old : FileLog) (bucket : ℕ) (new : FileLog) : Type 0 where
@@ -21,6 +23,7 @@ pub record IsRecover (process : ℕ) (old : FileLog) (bucket : ℕ) (new : FileL
   pub walk : IsWalk process old (Flags old.party bucket) new taken (Flags old.party bucket)
   pub frees : freed_in events ≡ 0
   pub tried : is_tried old.party bucket events ≡ true
+  pub others : (other : ℕ) → other ≢ bucket → known_of new other ≡ known_of old other
 
 -- the process has found this life, and has counted that it has taken the number's lock; or it found
 -- the life to be over
@@ -42,3 +45,4 @@ pub record IsCountedOn (process : ℕ) (old : FileLog) (parity : ℕ) (new : Fil
   pub taken : List FileStep
   pub walk : IsWalk process old (Settled old.party) new taken (Settled old.party)
   pub recovers_none : has_some recovers taken ≡ false
+  pub same : (bucket : ℕ) → known_of new bucket ≡ known_of old bucket

@@ -1,6 +1,12 @@
 pub mod FileCalls
 pub mod FileCode
+pub mod FileFormat
 pub mod FileLog
 pub mod FileNames
+pub mod FileOperations
+pub mod FileParties
+pub mod FileRecords
+pub mod FileRows
 pub mod FileRuns
 pub mod FileSettlers
+pub mod Recorded

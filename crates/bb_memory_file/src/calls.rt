@@ -2,8 +2,8 @@
 //!
 //! Each of them is given a party whose lock this process has, and what it needs to know of a bucket
 //! is in its `requires`: that the party holds the bucket, and what the bucket's entry says.
-ghost use Rattle.bb_memory_file.specs.FileCalls.{AllocateSays, IsAttach, IsFound, IsJoin, IsLeave, IsPost, IsPutBack, IsReap, IsSettled, IsTake, Makes, SearchSays, is_fit, length_in};
-ghost use Rattle.bb_memory_file.specs.FileLog.{IsKnownIn, IsLap, is_clear, is_held, known_of};
+ghost use Rattle.bb_memory_file.specs.FileCalls.{AllocateSays, IsAttach, IsDeallocate, IsDetach, IsDone, IsFound, IsJoin, IsLeave, IsPost, IsPutBack, IsReap, IsReceive, IsSettled, SearchSays, is_fit, length_in};
+ghost use Rattle.bb_memory_file.specs.FileLog.{IsKnownIn, IsLap, Unknown, is_clear, is_held, known_of};
 ghost use Rattle.bb_memory_file.specs.FileNames.{Deallocate, DetachNumber, Done, Flags, Next, Outside, Settled};
 ghost use Rattle.bb_memory_file.specs.FileSettlers.{IsCounted, IsCountedOn, IsRecover, IsSettledAt};
 ghost use Rattle.bb_memory_file_machine.specs.FileMachine.{same_flag};
@@ -15,22 +15,20 @@ use bb_memory_file_machine::steps::{Entry, FileFlag, Slot};
 /// The laps of a slot are less than this, so that a flag has room for them.
 const LAPS: u32 = 1 << 30;
 
-/// The answer of `take`.
+/// The answer of `receive`.
 #[derive(Debug, Clone, Copy, PartialEq, Eq)]
-pub enum Taken {
-    /// The slot is empty.
-    Empty,
-    /// The slot's word, or its bucket's entry, is none that a message of this file has.
-    Wrong,
-    /// The bucket isn't sent: another party has the message, or its sender hasn't finished.
+pub enum Received {
+    /// The bucket isn't sent there: another party has the message, or its sender hasn't finished.
     NotSent,
-    /// The party has received this message, and holds its bucket. The length is in bytes.
-    Message { bucket: u32, length: u32 },
+    /// The bucket's entry is none that a message in the slot has.
+    Wrong,
+    /// The party has received a message of this length in bytes, and holds the bucket.
+    Message(u32),
 }
 
 /// Where a bucket that a party holds is.
 #[derive(Debug, Clone, Copy, PartialEq, Eq)]
-enum Whereabouts {
+pub enum Whereabouts {
     /// In this slot, at this lap.
     In { slot: u32, lap: u32 },
     /// In no slot, though its entry names one.
@@ -58,7 +56,7 @@ pub fn allocate<W: Words>(words: &mut W, hint: u32) -> Option<u32>
 pub fn deallocate<W: Words>(words: &mut W, bucket: u32)
     requires below { bucket < (W.log words.old).scene.buckets }
     requires clear { is_clear (known_of (W.log words.old) bucket) ≡ true }
-    ensures { (process : ℕ) → Makes process (W.log words.old) (Deallocate process (W.log words.old).party bucket ∷ []) (W.log words.new) }
+    ensures { (process : ℕ) → IsDeallocate process (W.log words.old) bucket (W.log words.new) }
 {
     words.store_flag(bucket, FileFlag::Free);
 }
@@ -68,7 +66,7 @@ pub fn deallocate<W: Words>(words: &mut W, bucket: u32)
 pub fn detach<W: Words>(words: &mut W, bucket: u32)
     requires below { bucket < (W.log words.old).scene.buckets }
     requires clear { is_clear (known_of (W.log words.old) bucket) ≡ true }
-    ensures { (process : ℕ) → Makes process (W.log words.old) (DetachNumber process (W.log words.old).party bucket ∷ []) (W.log words.new) }
+    ensures { (process : ℕ) → IsDetach process (W.log words.old) bucket (W.log words.new) }
 {
     let detached = FileFlag::DetachedBy(words.party());
     words.store_flag(bucket, detached);
@@ -111,29 +109,25 @@ pub fn post<W: Words>(words: &mut W, slot: u32, bucket: u32, length: u32) -> boo
     true
 }
 
-/// Takes the message in a slot. `size` is the size of a bucket in bytes.
-pub fn take<W: Words>(words: &mut W, slot: u32, size: u32) -> Taken
-    requires { slot < (W.log words.old).scene.slots }
-    ensures { (process : ℕ) → IsTake process (W.log words.old) slot size result (W.log words.new) }
+/// Takes the message in this bucket, which the party doesn't hold, and which a load of the slot has
+/// found there at this lap. `size` is the size of a bucket in bytes.
+pub fn receive<W: Words>(words: &mut W, slot: u32, lap: u32, bucket: u32, size: u32) -> Received
+    requires lap { IsLap lap }
+    requires below { bucket < (W.log words.old).scene.buckets }
+    requires unknown { known_of (W.log words.old) bucket ≡ Unknown }
+    ensures { (process : ℕ) → IsReceive process (W.log words.old) slot lap bucket size result (W.log words.new) }
 {
-    let Slot::Message { lap, bucket } = words.load_slot(slot) else {
-        return Taken::Empty;
-    };
-    if bucket >= words.buckets() {
-        return Taken::Wrong;
-    }
     let sent = FileFlag::SentTo { slot, lap };
     let held = FileFlag::HeldBy(words.party());
     if !words.exchange_flag(bucket, sent, held) {
-        return Taken::NotSent;
+        return Received::NotSent;
     }
     let entry = words.load_entry(bucket);
     if is_fit(entry, slot, size) {
-        let length = length_in(entry);
-        return Taken::Message { bucket, length };
+        return Received::Message(length_in(entry));
     }
     words.store_flag(bucket, sent);
-    Taken::Wrong
+    Received::Wrong
 }
 
 /// Says that the party is done with the message in a bucket that it holds, and that is in this slot at
@@ -143,26 +137,24 @@ pub fn done<W: Words>(words: &mut W, slot: u32, bucket: u32, lap: u32)
     requires below { bucket < (W.log words.old).scene.buckets }
     requires its { IsKnownIn (W.log words.old) bucket slot lap }
     requires lap { IsLap lap }
-    ensures { (process : ℕ) → Makes process (W.log words.old) (Next process ∷ Done process (W.log words.old).party slot bucket ((lap + 1) % 2 ^ 30) ∷ []) (W.log words.new) }
+    ensures { (process : ℕ) → IsDone process (W.log words.old) slot bucket lap (W.log words.new) }
 {
     words.empty_slot(slot, bucket, lap, next_lap(lap));
     words.store_entry(bucket, Entry::Nowhere);
 }
 
-/// Puts back the message in a bucket that the party holds, if the bucket is in a slot. Returns whether
-/// it is.
-pub fn put_back<W: Words>(words: &mut W, bucket: u32) -> bool
+/// Puts back the message in a bucket that the party holds, if the bucket is in a slot. Returns where
+/// the bucket was found to be.
+pub fn put_back<W: Words>(words: &mut W, bucket: u32) -> Whereabouts
     requires below { bucket < (W.log words.old).scene.buckets }
     requires held { is_held (known_of (W.log words.old) bucket) ≡ true }
     ensures { (process : ℕ) → IsPutBack process (W.log words.old) bucket result (W.log words.new) }
 {
-    match find(words, bucket) {
-        Whereabouts::In { slot, lap } => {
-            words.store_flag(bucket, FileFlag::SentTo { slot, lap });
-            true
-        }
-        _ => false,
+    let found = find(words, bucket);
+    if let Whereabouts::In { slot, lap } = found {
+        words.store_flag(bucket, FileFlag::SentTo { slot, lap });
     }
+    found
 }
 
 // NUMBERS

@@ -1,8 +1,16 @@
 //! What the walks of calls have to do with the machine of a pool in a file.
+ghost use Rattle.bb_memory_file.specs.FileCode.{FileLog, Path};
+ghost use Rattle.bb_memory_file.specs.FileFormat.{IsGeometry};
 ghost use Rattle.bb_memory_file.specs.FileNames.{FileStep, Place};
+ghost use Rattle.bb_memory_file.specs.FileOperations.{IsMade};
+ghost use Rattle.bb_memory_file.specs.FileParties.{among};
+ghost use Rattle.bb_memory_file.specs.FileRecords.{IsRecord, IsTold};
+ghost use Rattle.bb_memory_file.specs.FileRows.{IsEvent, Says};
 ghost use Rattle.bb_memory_file.specs.FileRuns.{Act, IsMachines, IsRun};
-ghost use Rattle.bb_memory_file_machine.specs.FileMachine.{FileScene};
-ghost use Rattle.std.specs.Prelude.{List, ℕ};
+ghost use Rattle.bb_memory_file.specs.Recorded.{IsFoundIn, Run, WordEvent};
+ghost use Rattle.bb_memory_file.specs.declared.geometry.FileGeometry.{FileGeometry};
+ghost use Rattle.bb_memory_file_machine.specs.FileMachine.{FileScene, FileWords};
+ghost use Rattle.std.specs.Prelude.{List, length, ℕ, ◌<◌};
 
 /// States that the code is the machine: whatever processes do to a file by these calls, in any order
 /// of their operations, killed anywhere, some steps of the machine leave the same words and locks,
@@ -11,4 +19,30 @@ ghost use Rattle.std.specs.Prelude.{List, ℕ};
 pub fn file_code_theorem()
     ensures machine { (scene : FileScene) (acts : List Act) (taken : ℕ → List FileStep) (places : ℕ → Place)
         → IsRun scene acts taken places → IsMachines scene acts taken places }
+{}
+
+/// States that the operations on a file's row of words are events on the words of the machine: each
+/// event finds there what its operation found in the row, and leaves the words that the row says
+/// afterwards. An exchange that misses its flag finds another flag. The function does nothing: its
+/// contract is the law.
+pub fn words_law()
+    ensures event { (geometry : FileGeometry) (party : ℕ) (row : List ℕ) (words : FileWords) (operation : WordEvent)
+        → IsGeometry geometry (length row) → party < geometry.parties → Says geometry row words
+        → IsMade geometry party operation → IsFoundIn row operation → IsEvent geometry party row words operation }
+{}
+
+/// States that the recorded operations of all hands on the words of a file, which began as a new
+/// file's, are true acts of processes, each of which has the log of its party. The function does
+/// nothing: its contract is the law.
+pub fn recorded_law()
+    ensures told { (geometry : FileGeometry) (scene : FileScene) (parties : ℕ → ℕ) (start : List ℕ) (run : Run) (acts : List Act)
+        → IsRecord geometry scene parties start run acts → IsTold geometry scene parties start run acts }
+{}
+
+/// States that a path doesn't depend on the number of processes, so that the paths of a party are those
+/// of a run with any number of them. The function does nothing: its contract is the law.
+pub fn processes_law()
+    ensures path { (processes process : ℕ) (before log : FileLog) (from there : Place) (taken : List FileStep)
+        → Path process before from log taken there
+        → Path process (among processes before) from (among processes log) taken there }
 {}

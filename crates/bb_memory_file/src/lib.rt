@@ -3,9 +3,16 @@
 //!
 //! - `words`: the atomic operations
 //! - `calls`: the calls
-//! - `laws`: what the calls have to do with the machine
+//! - `geometry`, `table`, `party`: the words of a file in one row, with the parties that operate on them
+//! - `laws`: what the calls and the row of words have to do with the machine
 #![tactic(auto)]
 
 pub mod calls;
+mod format;
+pub mod geometry;
 pub mod laws;
+pub mod party;
+mod party_words;
+mod recorded;
+pub mod table;
 pub mod words;

@@ -1,5 +1,5 @@
 //! The single atomic operations on the words of a file, by the party whose lock this process has.
-ghost use Rattle.bb_memory_file.specs.FileLog.{EmptySlot, ExchangeFlag, ExchangeSlot, FileLog, IsKnownIn, IsLap, IsSaid, LoadEntry, LoadFlag, LoadLife, LoadSlot, MissFlag, MissSlot, NamesSlot, StoreEntry, StoreFlag, StoreLife, is_held, known_of, lap_in, life_by, told};
+ghost use Rattle.bb_memory_file.specs.FileLog.{EmptySlot, ExchangeFlag, ExchangeSlot, FileLog, IsKnownIn, IsLap, IsSaid, LoadEntry, LoadFlag, LoadLife, LoadSlot, MissFlag, MissSlot, NamesBucket, NamesSlot, StoreEntry, StoreFlag, StoreLife, is_held, known_of, lap_in, life_by, told};
 ghost use Rattle.std.specs.Prelude.{MatchBool, Some, true, ℕ, ◌<◌, ◌≡◌};
 
 use bb_memory_file_machine::steps::{Entry, FileFlag, Slot};
@@ -122,6 +122,7 @@ pub trait Words {
     fn store_entry(&mut self, bucket: u32, to: Entry)
         requires below { bucket < (log self.old).scene.buckets }
         requires held { is_held (known_of (log self.old) bucket) ≡ true }
+        requires slot { NamesSlot (log self.old).scene.slots to }
         ensures { log self.new ≡ told (log self.old) (StoreEntry bucket to) };
 
     /// Loads a slot's word.
@@ -135,6 +136,7 @@ pub trait Words {
         requires below { slot < (log self.old).scene.slots }
         requires from { IsLap (lap_in from) }
         requires to { IsLap (lap_in to) }
+        requires buckets { NamesBucket (log self.old).scene.buckets from × NamesBucket (log self.old).scene.buckets to }
         ensures { MatchBool result
             (log self.new ≡ told (log self.old) (ExchangeSlot slot from to))
             (log self.new ≡ told (log self.old) (MissSlot slot from)) };

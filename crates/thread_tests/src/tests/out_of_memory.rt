@@ -4,3 +4,4 @@
 //! out only if a request failed.
 mod after_making;
 mod caching;
+mod file_words;

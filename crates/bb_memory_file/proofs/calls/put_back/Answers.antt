@@ -1,10 +1,6 @@
-use Rattle.bb_memory_file.proofs.FileMessages.{back, not_back}
+use Rattle.bb_memory_file.proofs.FileMessages.{back}
 use Rattle.bb_memory_file.proofs.calls.put_back.Goals as goal
 
 pub returns-in-In : goal.returns-in-In
 returns-in-In g c process =
     back process (g.W.Words.log c.args.words.now) c.args.bucket _ _ c.in-In.slot c.in-In.lap c.in-In.ensures c.store_flag.ensures
-
-pub returns-in_default : goal.returns-in_default
-returns-in_default g c process =
-    not_back process (g.W.Words.log c.args.words.now) c.args.bucket c.find.result _ c.find.ensures c.in_default.not-In

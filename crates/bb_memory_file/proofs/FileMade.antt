@@ -1,0 +1,13 @@
+-- Each operation of a party is one that it makes.
+use Rattle.bb_memory_file.specs.FileOperations.{AreMade, IsMade}
+use Rattle.bb_memory_file.specs.Recorded.{WordEvent}
+use Rattle.bb_memory_file.specs.declared.geometry.FileGeometry.{FileGeometry}
+use Rattle.std.proofs.Common.{List, subst, sym, ℕ, ◌∷◌, ◌≡◌}
+use mathlib.Core.Logic.{∥∥₁_map}
+
+-- one more operation is recorded
+pub made_on : (geometry : FileGeometry) (party : ℕ) (operation : WordEvent) (before after : List WordEvent) →
+    ∥ AreMade geometry party before ∥₁ → after ≡ operation ∷ before → IsMade geometry party operation →
+    ∥ AreMade geometry party after ∥₁
+made_on geometry party operation before after made more is =
+    subst (λ (operations : List WordEvent). ∥ AreMade geometry party operations ∥₁) (sym more) (∥∥₁_map made (λ all. (is, all)))

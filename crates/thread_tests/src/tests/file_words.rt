@@ -1,0 +1,331 @@
+//! The words of a file as parties load, exchange and store them.
+ghost use Rattle.bb_memory_file.specs.FileLog.{IsLap, IsSaid};
+ghost use Rattle.std.specs.Prelude.{IfOk, ◌<◌, ◌≡◌};
+
+use super::checks::{check, same};
+use bb_memory_file::calls::{Taken, allocate, join, leave, post, take};
+use bb_memory_file::geometry::FileGeometry;
+use bb_memory_file::party::FileParty;
+use bb_memory_file::table::FileTable;
+use bb_memory_file::words::Words;
+use bb_memory_file_machine::steps::{Entry, FileFlag, Slot};
+use std::alloc::{AllocError, Global};
+use std::process::Abort;
+
+/// Three buckets, one slot and two parties, whose words are next to each other.
+const GEOMETRY: FileGeometry = FileGeometry {
+    buckets: 3,
+    slots: 1,
+    parties: 2,
+    first_flag: 16,
+    first_life: 19,
+    first_entry: 21,
+    first_slot: 24,
+};
+
+/// Makes the words of a file that begins with these flags, lives, entries and slot.
+pub(super) fn table(alloc: Global, words: [u64; 9]) -> Result<FileTable, AllocError>
+    ensures { IfOk result (λ table. table.geometry.parties ≡ 2) }
+{
+    let [a, b, c, d, e, f, g, h, i] = words;
+    let row = [
+        0, 0, 0, 0, 0, 0, 0, 0, 0, 0, 0, 0, 0, 0, 0, 0, a, b, c, d, e, f, g, h, i, 0, 0, 0, 0, 0,
+        0, 0, 0, 0, 0, 0, 0, 0, 0, 0,
+    ];
+    FileTable::new(alloc, &row, GEOMETRY)
+}
+
+/// Makes the words of a file.
+fn made(rt: &(impl Abort + AllocGlobal), words: [u64; 9]) -> FileTable
+    ensures { result.geometry.parties ≡ 2 }
+{
+    let table = table(rt.alloc(), words).ok();
+    table.expect(rt, "there is memory for the words")
+}
+
+/// Makes a party of this number.
+fn party(rt: &impl Abort, table: &FileTable, number: u32) -> FileParty
+    requires { number < table.now.geometry.parties }
+{
+    let party = table.party(number);
+    party.expect(rt, "there are few parties")
+}
+
+/// Loads the flag of a bucket, if there is one.
+fn flag(party: &mut FileParty, bucket: u32) -> Option<FileFlag> {
+    if bucket >= party.buckets() {
+        return None;
+    }
+    Some(party.load_flag(bucket))
+}
+
+/// Exchanges the flag of a bucket, if there is one.
+fn exchange_flag(party: &mut FileParty, bucket: u32, from: FileFlag, to: FileFlag) -> Option<bool>
+    requires from { IsSaid from }
+    requires to { IsSaid to }
+{
+    if bucket >= party.buckets() {
+        return None;
+    }
+    Some(party.exchange_flag(bucket, from, to))
+}
+
+/// Loads the entry of a bucket, if there is one.
+fn entry(party: &mut FileParty, bucket: u32) -> Option<Entry> {
+    if bucket >= party.buckets() {
+        return None;
+    }
+    Some(party.load_entry(bucket))
+}
+
+/// Loads the word of a slot, if there is one.
+fn slot(party: &mut FileParty, slot: u32) -> Option<Slot> {
+    if slot >= party.slots() {
+        return None;
+    }
+    Some(party.load_slot(slot))
+}
+
+/// Exchanges the word of an empty slot for that of a bucket, if there are such a slot and bucket.
+fn fill_slot(party: &mut FileParty, slot: u32, lap: u32, bucket: u32) -> Option<bool>
+    requires { IsLap lap }
+{
+    if slot >= party.slots() || bucket >= party.buckets() {
+        return None;
+    }
+    Some(party.exchange_slot(slot, Slot::Empty { lap }, Slot::Message { lap, bucket }))
+}
+
+/// Counts the life of the party.
+fn count(party: &mut FileParty) -> u64 {
+    let life = party.load_life();
+    if life == u64::MAX {
+        return life;
+    }
+    party.store_life(life + 1);
+    life
+}
+
+/// Posts a message of 7 bytes in the first free bucket, if there are such a slot and bucket. Returns the
+/// bucket if the slot was empty.
+fn post_first(party: &mut FileParty, slot: u32) -> Option<u32> {
+    if slot >= party.slots() {
+        return None;
+    }
+    let bucket = allocate(party, 0)?;
+    post(party, slot, bucket, 7).then_some(bucket)
+}
+
+/// Takes the message in a slot, if there is one.
+fn take_from(party: &mut FileParty, slot: u32) -> Option<Taken> {
+    if slot >= party.slots() {
+        return None;
+    }
+    Some(take(party, slot, 100))
+}
+
+/// Takes a value that several threads may use at the same time.
+fn share<T: Send + Sync>(_value: &T) {}
+
+/// Takes a value that may go to another thread.
+fn send<T: Send>(_value: &T) {}
+
+#[test]
+fn a_geometry_is_in_a_row_with_room(rt: HostRuntime) {
+    let rt = &rt;
+    check(rt, GEOMETRY.is_in(40));
+    check(rt, !GEOMETRY.is_in(39));
+    check(
+        rt,
+        !FileGeometry {
+            first_flag: 15,
+            ..GEOMETRY
+        }
+        .is_in(40),
+    );
+    check(
+        rt,
+        !FileGeometry {
+            first_life: 18,
+            ..GEOMETRY
+        }
+        .is_in(40),
+    );
+    check(
+        rt,
+        !FileGeometry {
+            first_entry: 20,
+            ..GEOMETRY
+        }
+        .is_in(40),
+    );
+    check(
+        rt,
+        !FileGeometry {
+            first_slot: 23,
+            ..GEOMETRY
+        }
+        .is_in(40),
+    );
+}
+
+#[test]
+fn words_say_what_the_format_says(rt: HostRuntime) {
+    let rt = &rt;
+    let held_by_1 = 5;
+    let detached_by_0 = 2;
+    let sent_to_2_at_lap_3 = 51539607563;
+    let in_slot_0_with_7_bytes = 30064771073;
+    let in_slot_1 = 2;
+    let bucket_1_at_lap_5 = 21474836482;
+    let flags = [held_by_1, detached_by_0, sent_to_2_at_lap_3];
+    let entries = [0, in_slot_0_with_7_bytes, in_slot_1];
+    let table = made(
+        rt,
+        [
+            flags[0],
+            flags[1],
+            flags[2],
+            8,
+            9,
+            entries[0],
+            entries[1],
+            entries[2],
+            bucket_1_at_lap_5,
+        ],
+    );
+    let mut party = party(rt, &table, 1);
+    same(rt, flag(&mut party, 0), Some(FileFlag::HeldBy(1)));
+    same(rt, flag(&mut party, 1), Some(FileFlag::DetachedBy(0)));
+    same(
+        rt,
+        flag(&mut party, 2),
+        Some(FileFlag::SentTo { slot: 2, lap: 3 }),
+    );
+    same(rt, party.load_life(), 9);
+    same(rt, entry(&mut party, 0), Some(Entry::Nowhere));
+    same(
+        rt,
+        entry(&mut party, 1),
+        Some(Entry::In { slot: 0, length: 7 }),
+    );
+    same(rt, entry(&mut party, 2), Some(Entry::Nowhere));
+    same(
+        rt,
+        slot(&mut party, 0),
+        Some(Slot::Message { lap: 5, bucket: 1 }),
+    );
+}
+
+#[test]
+fn a_word_that_is_no_flags_is_never_exchanged(rt: HostRuntime) {
+    let rt = &rt;
+    let kind_0_of_number_1 = 4;
+    let held_by_a_33_bit_number = 17179869185;
+    let detached_by_a_33_bit_number = 17179869186;
+    let flags = [
+        kind_0_of_number_1,
+        held_by_a_33_bit_number,
+        detached_by_a_33_bit_number,
+    ];
+    let table = made(rt, [flags[0], flags[1], flags[2], 0, 0, 0, 0, 0, 0]);
+    let mut party = party(rt, &table, 0);
+    let none = FileFlag::SentTo {
+        slot: 0,
+        lap: 1 << 30,
+    };
+    let (held, detached) = (FileFlag::HeldBy(0), FileFlag::DetachedBy(0));
+    for bucket in 0..3u32 {
+        same(rt, flag(&mut party, bucket), Some(none));
+        same(
+            rt,
+            exchange_flag(&mut party, bucket, FileFlag::Free, held),
+            Some(false),
+        );
+        same(
+            rt,
+            exchange_flag(&mut party, bucket, held, FileFlag::Free),
+            Some(false),
+        );
+        same(
+            rt,
+            exchange_flag(&mut party, bucket, detached, held),
+            Some(false),
+        );
+    }
+}
+
+#[test]
+fn a_bucket_goes_to_another_party(rt: HostRuntime) {
+    let rt = &rt;
+    let table = made(rt, [0; 9]);
+    let mut sender = party(rt, &table, 0);
+    let mut taker = party(rt, &table, 1);
+    let (held, taken) = (FileFlag::HeldBy(0), FileFlag::HeldBy(1));
+    let sent = FileFlag::SentTo { slot: 0, lap: 0 };
+    same(
+        rt,
+        exchange_flag(&mut sender, 2, FileFlag::Free, held),
+        Some(true),
+    );
+    same(
+        rt,
+        exchange_flag(&mut taker, 2, FileFlag::Free, taken),
+        Some(false),
+    );
+    same(rt, fill_slot(&mut sender, 0, 0, 2), Some(true));
+    same(rt, fill_slot(&mut sender, 0, 0, 1), Some(false));
+    same(rt, exchange_flag(&mut taker, 2, sent, taken), Some(false));
+    same(rt, exchange_flag(&mut sender, 2, held, sent), Some(true));
+    same(
+        rt,
+        slot(&mut taker, 0),
+        Some(Slot::Message { lap: 0, bucket: 2 }),
+    );
+    same(rt, exchange_flag(&mut taker, 2, sent, taken), Some(true));
+    same(rt, exchange_flag(&mut sender, 2, sent, held), Some(false));
+    same(rt, flag(&mut sender, 2), Some(taken));
+}
+
+/// The taker leaves before it is done, so the message is taken once more.
+#[test]
+fn a_message_goes_to_another_party(rt: HostRuntime) {
+    let rt = &rt;
+    let table = made(rt, [0; 9]);
+    let mut sender = party(rt, &table, 0);
+    check(rt, join(&mut sender));
+    same(rt, sender.load_life(), 3);
+    same(rt, post_first(&mut sender, 0), Some(0));
+    same(rt, post_first(&mut sender, 0), None);
+    let mut taker = party(rt, &table, 1);
+    check(rt, join(&mut taker));
+    let message = Taken::Message {
+        bucket: 0,
+        length: 7,
+    };
+    same(rt, take_from(&mut taker, 0), Some(message));
+    same(rt, take_from(&mut taker, 0), Some(Taken::NotSent));
+    same(rt, leave(&mut taker), 0);
+    let mut last = party(rt, &table, 1);
+    check(rt, join(&mut last));
+    same(rt, take_from(&mut last, 0), Some(message));
+    same(rt, leave(&mut sender), 1);
+    same(rt, sender.load_life(), 4);
+}
+
+#[test]
+fn a_party_has_its_own_life(rt: HostRuntime) {
+    let rt = &rt;
+    let table = made(rt, [0, 0, 0, 6, 0, 0, 0, 0, 0]);
+    let mut one = party(rt, &table, 1);
+    same(rt, count(&mut one), 0);
+    same(rt, count(&mut one), 1);
+    same(rt, count(&mut party(rt, &table, 0)), 6);
+}
+
+#[test]
+fn threads_share_the_words(rt: HostRuntime) {
+    let table = made(&rt, [0; 9]);
+    share(&table);
+    send(&party(&rt, &table, 0));
+}
