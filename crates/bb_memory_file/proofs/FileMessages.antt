@@ -224,6 +224,7 @@ module _ (old : FileLog) (bucket : ℕ) (held : is_held (known_of old bucket) �
         events = LoadEntry bucket Nowhere ∷ [];
         gets = refl;
         frees = refl;
+        quiet = refl;
         looks = λ process here. record { path = looks old [] here (LoadEntry bucket Nowhere) begins tt; scene = refl; party = refl };
         found = (seen_of (known_of old bucket), rw (test_same bucket bucket refl) (held_entry (known_of old bucket) Nowhere held));
         others = λ other apart. rw (ne_eqb bucket other (λ same. apart (sym same))) refl;
@@ -249,6 +250,7 @@ module _ (old : FileLog) (bucket : ℕ) (held : is_held (known_of old bucket) �
           events = LoadSlot slot word ∷ LoadEntry bucket (In slot size) ∷ [];
           gets = refl;
           frees = refl;
+          quiet = refl;
           looks = λ process here. record {
             path = looks entry_read [] here (LoadSlot slot word) (looks old [] here (LoadEntry bucket (In slot size)) begins tt) tt;
             scene = refl;

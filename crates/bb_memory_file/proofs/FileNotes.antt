@@ -276,7 +276,7 @@ module _ (old new : FileLog) (notes : List Note) (joined : IsJoined old notes) (
 -- ALL BUCKETS
 
 pub after_all : (old new : FileLog) (notes : List Note) (freed : ℕ) → IsJoined old notes →
-    ((process : ℕ) → IsSettled process old false Outside freed new Outside) → IsJoined new (replicate (length notes) Unheld)
+    ((process : ℕ) → IsSettled process old false Outside freed [] new Outside) → IsJoined new (replicate (length notes) Unheld)
 after_all old new notes freed joined did =
     let goes : Goes old new = λ process. ((did process).taken, (did process).walk) in
     go_on old new notes joined goes (replicate (length notes) Unheld) (length-replicate (length notes) Unheld)

@@ -11,7 +11,7 @@ pub use Rattle.bb_memory_file.specs.declared.joined.Refusal.{Refusal}
 pub use Rattle.bb_memory_file.specs.declared.joined.Refusal.TheVariants.{NotABucket, NotDone, NotHeld}
 pub use Rattle.bb_memory_file.specs.declared.joined.Taken.{Taken}
 pub use Rattle.bb_memory_file.specs.declared.joined.Taken.TheVariants as taken
-use Rattle.std.specs.Prelude.{Bool, Err, List, None, Ok, Option, Result, Some, false, length, replicate, slice_get, slice_set, true, ℕ, ◌≡◌, ◌≢◌, ◌⊎◌}
+use Rattle.std.specs.Prelude.{Bool, Err, List, None, Ok, Option, Result, Some, [], false, length, replicate, slice_get, slice_set, true, ℕ, ◌≡◌, ◌≢◌, ◌⊎◌}
 
 -- a party that has joined, with the words of its file, and a note of each bucket
 pub record JoinedParty (W : Type 0) : Type 0 where
@@ -151,5 +151,5 @@ IsDoneWith log old slot false new =
 -- all buckets that the party held are given back, or sent, and it holds none
 abbrev pub GivesAllBack : {W : Type 0} → (W → FileLog) → JoinedParty W → ℕ → JoinedParty W → Type 0
 GivesAllBack log old freed new =
-    ((process : ℕ) → IsSettled process (log old.words) false Outside freed (log new.words) Outside)
+    ((process : ℕ) → IsSettled process (log old.words) false Outside freed [] (log new.words) Outside)
     × (new.notes ≡ replicate (length old.notes) Unheld)

@@ -175,7 +175,7 @@ pub fn join<W: Words>(words: &mut W) -> bool
 /// Gives back all buckets that the party holds, but for its messages, which are put back. Returns how
 /// many these were.
 pub fn give_all_back<W: Words>(words: &mut W) -> u32
-    ensures { (process : ℕ) → IsSettled process (W.log words.old) false Outside result (W.log words.new) Outside }
+    ensures { (process : ℕ) → IsSettled process (W.log words.old) false Outside result [] (W.log words.new) Outside }
 {
     settle(words, false)
 }
@@ -207,7 +207,7 @@ pub fn reap<W: Words>(words: &mut W, dead: bool, left: bool) -> Option<u32>
 /// or for the first time if it was killed before it had sent them. If `detached` is true, also gives
 /// back what it has detached. Returns how many buckets were given back.
 fn settle<W: Words>(words: &mut W, detached: bool) -> u32
-    ensures { (process : ℕ) → IsSettled process (W.log words.old) detached (Flags (W.log words.old).party 0) result (W.log words.new) (Settled (W.log words.old).party) }
+    ensures { (process : ℕ) → IsSettled process (W.log words.old) detached (Flags (W.log words.old).party 0) result [] (W.log words.new) (Settled (W.log words.old).party) }
 {
     let mut freed = 0;
     for bucket in 0..words.buckets() {
