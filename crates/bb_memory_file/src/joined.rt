@@ -81,6 +81,13 @@ impl<W: Words + Drop> Joined<W> {
         Ok(Ok(Joined { words, notes }))
     }
 
+    /// Returns how many slots the file has.
+    pub fn slots(&self) -> u32
+        ensures { result ≡ (W.log self.now.words).scene.slots }
+    {
+        self.words.slots()
+    }
+
     /// Takes a free bucket, if there is one where it looks: at each bucket, first from `hint` on, and
     /// then before it.
     pub fn allocate(&mut self, hint: u32) -> Option<u32>
