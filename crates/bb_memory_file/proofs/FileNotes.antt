@@ -1,20 +1,20 @@
 -- The notes of a party say what it knows of its buckets, before each call and after it.
 use Rattle.bb_memory_file.proofs.FileMessages.{seen_away}
 use Rattle.bb_memory_file.proofs.FileWalks.{path_on}
-use Rattle.bb_memory_file.specs.FileCalls.{IsAttach, IsDeallocate, IsDetach, IsDone, IsPost, IsPutBack, IsReceive, IsSettled, unseen}
+use Rattle.bb_memory_file.specs.FileCalls.{AllocateSays, IsAttach, IsDeallocate, IsDetach, IsDone, IsJoin, IsPost, IsPutBack, IsReceive, IsSettled, unseen}
 use Rattle.bb_memory_file.specs.FileCalls.received as received
 use Rattle.bb_memory_file.specs.FileCalls.whereabouts as whereabouts
 use Rattle.bb_memory_file.specs.FileCode.{FileLog, Has, HasNot, Holds, IsWalk, Known, LoadSlot, Path, Seen, Unknown, begins, known_of, looks, told}
 use Rattle.bb_memory_file.specs.FileLog.{IsKnownIn, fresh_log, held_still, is_clear, is_held, seen_in, with_entry, with_seen}
 use Rattle.bb_memory_file.specs.FileNames.{Counting, Entry, FileStep, HeldBy, In, Message, Nowhere, Outside, Slot}
 use Rattle.bb_memory_file.specs.FileNotes.{InUse, IsHome, IsJoined, IsNoted, Note, Undone, Unheld, looked}
-use Rattle.bb_memory_file_machine.specs.FileMachine.{same_flag}
+use Rattle.bb_memory_file_machine.specs.FileMachine.{FileScene, same_flag}
 use Rattle.bb_memory_lists.proofs.SliceGets.{length-set_at, slice_get-replicated, slice_get-set_other, slice_get-set_same}
 use Rattle.bb_memory_pool_machine.proofs.PoolSteps.{test_same}
-use Rattle.std.proofs.Common.{Bool, List, None, Option, Some, [], ap, arith, false, inl, inr, length, refl, subst, sym, true, ℕ, ◌++◌, ◌<◌, ◌∙◌, ◌≡◌, ◌≢◌}
+use Rattle.std.proofs.Common.{Bool, List, None, Option, Some, [], ap, arith, false, get_or, inl, inr, length, refl, subst, sym, true, ℕ, ◌++◌, ◌<◌, ◌∙◌, ◌≡◌, ◌≢◌}
 use Rattle.std.proofs.lemmas.Bool.{eqb-false, eqb-true, ne_eqb}
 use Rattle.std.proofs.lemmas.List.{length-replicate}
-use Rattle.std.proofs.lemmas.Option.{slice_get_within}
+use Rattle.std.proofs.lemmas.Option.{slice_get-get_or, slice_get_within}
 use Rattle.std.specs.Prelude.{if◌then◌else◌, replicate, slice_get, slice_set, ◌==◌}
 
 -- A NOTE
@@ -287,3 +287,39 @@ after_all old new notes freed joined did =
     let enough = joined.noted.enough in
     subst (λ n. IsNoted (known_of new other) n) unheld
     (subst (λ known. IsNoted known Unheld) (sym ((did 0).unknown other (omega (arith, below, same, enough)))) tt))
+
+pub after_join : (old new : FileLog) → old.events ≡ [] → ((process : ℕ) → IsJoin process old true new) →
+    IsJoined new (replicate old.scene.buckets Unheld)
+after_join old new fresh did = record {
+  home = λ process.
+      let settled = (did process).1 in (
+        settled.taken,
+        subst (λ (scene : FileScene). Path process (fresh_log scene new.party) (Counting new.party) new settled.taken Outside)
+            (sym settled.walk.scene)
+            (subst (λ (party : ℕ). Path process (fresh_log old.scene party) (Counting party) new settled.taken Outside)
+            (sym settled.walk.party)
+            (subst (λ (log : FileLog). Path process log (Counting old.party) new settled.taken Outside)
+            (ap (λ events. record old { events = events }) fresh) settled.walk.path)),
+      );
+  noted = record {
+    enough = length-replicate old.scene.buckets Unheld ∙ sym (ap (λ (scene : FileScene). scene.buckets) (did 0).1.walk.scene);
+    each = λ other note is.
+        let below = slice_get_within (replicate old.scene.buckets Unheld) other note is in
+        let same = length-replicate old.scene.buckets Unheld in
+        subst (λ n. IsNoted (known_of new other) n) (slice_get-replicated old.scene.buckets other Unheld note is)
+        (subst (λ known. IsNoted known Unheld) (sym ((did 0).1.unknown other (omega (arith, below, same)))) tt);
+  };
+}
+
+module _ (old new : FileLog) (notes : List Note) (joined : IsJoined old notes) (hint : ℕ) where
+  pub after_allocate : (bucket : ℕ) → AllocateSays old hint (Some bucket) new → IsJoined new (slice_set notes bucket InUse)
+  after_allocate bucket says =
+      let enough = joined.noted.enough in
+      let below = says.4 in
+      go_noted old new notes joined (λ process. (_, says.2 process)) bucket InUse
+      (subst (λ known. IsNoted known InUse) (sym says.5.0) tt) (λ other apart. ap unseen (says.5.1 other apart))
+      (get_or notes bucket Unheld) (slice_get-get_or notes bucket Unheld (omega (arith, below, enough)))
+
+  pub after_no_allocate : AllocateSays old hint None new → IsJoined new notes
+  after_no_allocate says =
+      go_same old new notes joined (λ process. (_, says.2 process)) (λ other. ap unseen (says.4 other))

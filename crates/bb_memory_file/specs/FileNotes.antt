@@ -1,5 +1,5 @@
 -- What a party that has joined has noted of its buckets, and what its calls promise.
-use Rattle.bb_memory_file.specs.FileCalls.{IsAttach, IsDeallocate, IsDetach, IsDone, IsPost, IsPutBack, IsReceive, IsSettled}
+use Rattle.bb_memory_file.specs.FileCalls.{AllocateSays, IsAttach, IsDeallocate, IsDetach, IsDone, IsJoin, IsPost, IsPutBack, IsReceive, IsSettled}
 use Rattle.bb_memory_file.specs.FileCalls.received as received
 use Rattle.bb_memory_file.specs.FileCalls.whereabouts as whereabouts
 use Rattle.bb_memory_file.specs.FileCode.{FileLog, Holds, Known, LoadSlot, Path, Unknown, known_of, told}
@@ -65,6 +65,20 @@ Does log call old bucket note new =
 -- the call does this to the file, and notes nothing
 abbrev pub DoesOnly : {W : Type 0} → (W → FileLog) → (ℕ → FileLog → FileLog → Type 0) → JoinedParty W → JoinedParty W → Type 0
 DoesOnly log call old new = ((process : ℕ) → call process (log old.words) (log new.words)) × (new.notes ≡ old.notes)
+
+-- the party has joined, and has noted of each bucket that it doesn't hold the bucket; or the life of its
+-- number can't become greater
+abbrev pub Joins : {W : Type 0} → (W → FileLog) → W → Result (JoinedParty W) W → Type 0
+Joins log words (Ok party) =
+    ((process : ℕ) → IsJoin process (log words) true (log party.words))
+    × (party.notes ≡ replicate (log words).scene.buckets Unheld)
+Joins log words (Err after) = (process : ℕ) → IsJoin process (log words) false (log after)
+
+-- the call has taken a bucket that was free, or found none where it looked
+abbrev pub Allocates : {W : Type 0} → (W → FileLog) → JoinedParty W → ℕ → Option ℕ → JoinedParty W → Type 0
+Allocates log old hint None new = AllocateSays (log old.words) hint None (log new.words) × (new.notes ≡ old.notes)
+Allocates log old hint (Some bucket) new =
+    AllocateSays (log old.words) hint (Some bucket) (log new.words) × (new.notes ≡ slice_set old.notes bucket InUse)
 
 -- the bucket was in use, and is given back; or the call says why not
 abbrev pub Deallocates : {W : Type 0} → (W → FileLog) → JoinedParty W → ℕ → Result (Unit {0}) Refusal → JoinedParty W → Type 0

@@ -1,13 +1,15 @@
 //! A party that has joined: the words of its file, and what it has noted of each bucket, so that a
 //! call knows without a look at the file whether the party holds a bucket, and whether it is done with
 //! the bucket's message.
-ghost use Rattle.bb_memory_file.specs.FileNotes.{Attaches, Deallocates, Detaches, GivesAllBack, InUse, IsDoneWith, IsRefusal, Posts, Takes, Undone};
-ghost use Rattle.std.specs.Prelude.{IfErr, IfOk, Some, slice_get, ℕ, ◌<◌, ◌≡◌};
+ghost use Rattle.bb_memory_file.specs.FileCalls.{IsLeave};
+ghost use Rattle.bb_memory_file.specs.FileNotes.{Allocates, Attaches, Deallocates, Detaches, GivesAllBack, InUse, IsDoneWith, IsRefusal, Joins, Posts, Takes, Undone};
+ghost use Rattle.std.specs.Prelude.{IfErr, IfOk, Some, [], slice_get, ℕ, ◌<◌, ◌≡◌};
 
 use crate::calls;
 use crate::calls::{Received, Whereabouts};
 use crate::words::Words;
 use bb_memory_file_machine::steps::Slot;
+use std::alloc::{AllocError, Global};
 use std::marker::Model;
 
 /// A party's note of a bucket.
@@ -63,6 +65,41 @@ impl<W: Words + Drop> Model for Joined<W> {
 }
 
 impl<W: Words + Drop> Joined<W> {
+    /// Joins as the number whose lock this process has just taken. Returns the words if the number's
+    /// life can't become greater any more: then the process keeps the lock, so that nobody joins as
+    /// this number.
+    ///
+    /// Fails if memory runs out, and does nothing to the file then.
+    pub fn join(mut words: W, alloc: Global) -> Result<Result<Joined<W>, W>, AllocError>
+        requires { (W.log words).events ≡ [] }
+        ensures { IfOk result (λ joined. Joins W.log words joined) }
+    {
+        let notes = Vec::from_elem(alloc, Note::Unheld, words.buckets() as usize)?;
+        if !calls::join(&mut words) {
+            return Ok(Err(words));
+        }
+        Ok(Ok(Joined { words, notes }))
+    }
+
+    /// Returns how many slots the file has.
+    pub fn slots(&self) -> u32
+        ensures { result ≡ (W.log self.now.words).scene.slots }
+    {
+        self.words.slots()
+    }
+
+    /// Takes a free bucket, if there is one where it looks: at each bucket, first from `hint` on, and
+    /// then before it.
+    pub fn allocate(&mut self, hint: u32) -> Option<u32>
+        ensures { Allocates W.log self.old hint result self.new }
+    {
+        let Some(bucket) = calls::allocate(&mut self.words, hint) else {
+            return None;
+        };
+        self.notes[bucket as usize] = Note::InUse;
+        Some(bucket)
+    }
+
     /// Gives back a bucket.
     ///
     /// Fails with the first of these errors that applies, and does nothing then: `NotABucket` if the
@@ -172,6 +209,16 @@ impl<W: Words + Drop> Joined<W> {
         let freed = calls::give_all_back(&mut self.words);
         self.notes.fill(Note::Unheld);
         freed
+    }
+
+    /// Leaves: gives back all that the party holds, as `give_all_back` does, counts the number's life,
+    /// and frees the number's lock. Returns the words, and how many buckets were given back.
+    pub fn leave(self) -> (W, u32)
+        ensures { (process : ℕ) → IsLeave process (W.log self.words) result.1 (W.log result.0) }
+    {
+        let mut words = self.words;
+        let freed = calls::leave(&mut words);
+        (words, freed)
     }
 
     /// Puts back the message in a bucket, with which the party isn't done.

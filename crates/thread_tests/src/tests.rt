@@ -4,6 +4,7 @@ mod arenas;
 mod buckets;
 mod bumps;
 mod checks;
+mod file_joined;
 mod file_words;
 mod laws;
 mod out_of_memory;

@@ -1,0 +1,107 @@
+//! Parties that have joined a file, and what each has noted of its buckets.
+ghost use Rattle.std.specs.Prelude.{◌<◌, ◌≡◌};
+
+use super::checks::same;
+use bb_memory_file::geometry::FileGeometry;
+use bb_memory_file::joined::{Joined, Refusal, Taken};
+use bb_memory_file::party::FileParty;
+use bb_memory_file::table::FileTable;
+use std::process::Abort;
+
+/// Three buckets, one slot and two parties.
+const GEOMETRY: FileGeometry = FileGeometry {
+    buckets: 3,
+    slots: 1,
+    parties: 2,
+    first_flag: 16,
+    first_life: 19,
+    first_entry: 21,
+    first_slot: 24,
+};
+
+/// Makes the words of a new file, which are zeros.
+fn made(rt: &(impl Abort + AllocGlobal)) -> FileTable
+    ensures { result.geometry.parties ≡ 2 }
+{
+    let table = FileTable::new(rt.alloc(), &[0; 40], GEOMETRY).ok();
+    table.expect(rt, "there is memory for the words")
+}
+
+/// Joins as this number.
+fn joined(rt: &(impl Abort + AllocGlobal), table: &FileTable, number: u32) -> Joined<FileParty>
+    requires { number < table.now.geometry.parties }
+{
+    let party = table.party(number).expect(rt, "there are few parties");
+    let joined = Joined::join(party, rt.alloc()).ok();
+    let joined = joined.expect(rt, "there is memory for the notes").ok();
+    joined.expect(rt, "the number's life isn't over")
+}
+
+/// Posts a message of 7 bytes, if there is such a slot.
+fn post(party: &mut Joined<FileParty>, slot: u32, bucket: u32) -> Option<Result<bool, Refusal>> {
+    if slot >= party.slots() {
+        return None;
+    }
+    Some(party.post(slot, bucket, 7))
+}
+
+/// Takes the message in a slot, if there is such a slot. A bucket has 7 bytes.
+fn take(party: &mut Joined<FileParty>, slot: u32) -> Option<Taken> {
+    if slot >= party.slots() {
+        return None;
+    }
+    Some(party.take(slot, 7))
+}
+
+/// Says that the party is done with the message in a slot, if there is such a slot.
+fn done(party: &mut Joined<FileParty>, slot: u32) -> Option<bool> {
+    if slot >= party.slots() {
+        return None;
+    }
+    Some(party.done(slot))
+}
+
+#[test]
+fn a_party_refuses_what_it_does_not_hold(rt: HostRuntime) {
+    let rt = &rt;
+    let table = made(rt);
+    let mut one = joined(rt, &table, 0);
+    let mut other = joined(rt, &table, 1);
+    same(rt, one.allocate(0), Some(0));
+    same(rt, other.allocate(0), Some(1));
+    same(rt, other.deallocate(0), Err(Refusal::NotHeld));
+    same(rt, other.deallocate(3), Err(Refusal::NotABucket));
+    same(rt, other.detach(1), Ok(()));
+    same(rt, other.attach(0), Ok(false));
+    same(rt, one.attach(1), Ok(true));
+    same(rt, other.attach(1), Ok(false));
+    same(rt, one.give_all_back(), 2);
+    same(rt, one.deallocate(1), Err(Refusal::NotHeld));
+}
+
+#[test]
+fn a_message_is_undone_until_its_taker_is_done(rt: HostRuntime) {
+    let rt = &rt;
+    let table = made(rt);
+    let mut sender = joined(rt, &table, 0);
+    let mut taker = joined(rt, &table, 1);
+    let message = Taken::Message {
+        bucket: 0,
+        length: 7,
+    };
+    same(rt, take(&mut taker, 0), Some(Taken::Empty));
+    same(rt, sender.allocate(0), Some(0));
+    same(rt, post(&mut sender, 0, 0), Some(Ok(true)));
+    same(rt, sender.deallocate(0), Err(Refusal::NotHeld));
+    same(rt, take(&mut taker, 0), Some(message));
+    same(rt, take(&mut taker, 0), Some(Taken::NotSent));
+    same(rt, taker.deallocate(0), Err(Refusal::NotDone));
+    same(rt, taker.detach(0), Ok(()));
+    same(rt, take(&mut taker, 0), Some(message));
+    same(rt, done(&mut sender, 0), Some(false));
+    same(rt, done(&mut taker, 0), Some(true));
+    same(rt, done(&mut taker, 0), Some(false));
+    same(rt, taker.deallocate(0), Ok(()));
+    let (_, freed) = sender.leave();
+    same(rt, freed, 0);
+}
