@@ -292,7 +292,7 @@ pub after_join : (old new : FileLog) → old.events ≡ [] → ((process : ℕ) 
     IsJoined new (replicate old.scene.buckets Unheld)
 after_join old new fresh did = record {
   home = λ process.
-      let settled = (did process).1 in (
+      let settled = (did process).4 in (
         settled.taken,
         subst (λ (scene : FileScene). Path process (fresh_log scene new.party) (Counting new.party) new settled.taken Outside)
             (sym settled.walk.scene)
@@ -302,12 +302,12 @@ after_join old new fresh did = record {
             (ap (λ events. record old { events = events }) fresh) settled.walk.path)),
       );
   noted = record {
-    enough = length-replicate old.scene.buckets Unheld ∙ sym (ap (λ (scene : FileScene). scene.buckets) (did 0).1.walk.scene);
+    enough = length-replicate old.scene.buckets Unheld ∙ sym (ap (λ (scene : FileScene). scene.buckets) (did 0).4.walk.scene);
     each = λ other note is.
         let below = slice_get_within (replicate old.scene.buckets Unheld) other note is in
         let same = length-replicate old.scene.buckets Unheld in
         subst (λ n. IsNoted (known_of new other) n) (slice_get-replicated old.scene.buckets other Unheld note is)
-        (subst (λ known. IsNoted known Unheld) (sym ((did 0).1.unknown other (omega (arith, below, same)))) tt);
+        (subst (λ known. IsNoted known Unheld) (sym ((did 0).4.unknown other (omega (arith, below, same)))) tt);
   };
 }
 
