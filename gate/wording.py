@@ -55,7 +55,7 @@ WORDS = (
 )
 
 # Phrases in which such a word is right.
-ALLOWED = ("Where a peer is quicker",)
+ALLOWED = ("Where a peer is quicker", "A layer above by contract alone")
 
 PAGE = re.compile(r".*\.md")
 # The page of which only the part of the newest version is checked: the others are published.
