@@ -20,7 +20,7 @@
 //     auto number = bb::make<int>(party.get(), 7);
 //     bb::pool_resource nodes(party.get());
 //     std::pmr::list<int> numbers({1, 2, 3}, &nodes);
-//     // There are no figures if there is no party.
+//     // There are no statistics if there is no party.
 //     if (party.info()->held_buckets != 4)
 //         return;
 
@@ -98,7 +98,7 @@ inline const char *name(error code) noexcept {
 // FIGURES
 //
 
-// Returns the figures of what is in the handle, or nothing if the handle is empty.
+// Returns the statistics of what is in the handle, or nothing if the handle is empty.
 template<class Figures, class Handle>
 std::optional<Figures> figures(std::uint32_t (*info)(Handle *, Figures *),
                                std::remove_const_t<Handle> *of) noexcept {
@@ -106,33 +106,33 @@ std::optional<Figures> figures(std::uint32_t (*info)(Handle *, Figures *),
     return info(of, &result) == BB_OK ? std::optional<Figures>(result) : std::nullopt;
 }
 
-// Returns the figures of a bump, or nothing if the handle is empty.
+// Returns the statistics of a bump, or nothing if the handle is empty.
 inline std::optional<bb_bump_figures> info(bb_bump *of) noexcept {
     return figures(bb_bump_info, of);
 }
 
-// Returns the figures of a party's bump, or nothing if the handle is empty.
+// Returns the statistics of a party's bump, or nothing if the handle is empty.
 inline std::optional<bb_bump_figures> info(bb_bump_party *of) noexcept {
     return figures(bb_bump_party_info, of);
 }
 
-// Returns the figures of a one-chunk allocator, or nothing if the handle is empty.
+// Returns the statistics of a one-chunk allocator, or nothing if the handle is empty.
 inline std::optional<bb_one_chunk_figures> info(bb_one_chunk *of) noexcept {
     return figures(bb_one_chunk_info, of);
 }
 
-// Returns the figures of a pool, or nothing if the handle is empty.
+// Returns the statistics of a pool, or nothing if the handle is empty.
 inline std::optional<bb_pool_figures> info(bb_pool *of) noexcept {
     return figures(bb_pool_info, of);
 }
 
-// Returns the figures of a party's pool, or nothing if the handle is empty. Only the buckets that
-// the party holds and doesn't cache count as held.
+// Returns the statistics of a party's pool, or nothing if the handle is empty. Only the buckets
+// that the party holds and doesn't cache count as held.
 inline std::optional<bb_shared_pool_figures> info(bb_pool_party *of) noexcept {
     return figures(bb_pool_party_info, of);
 }
 
-// Returns the figures of a shared pool, or nothing if the handle is empty.
+// Returns the statistics of a shared pool, or nothing if the handle is empty.
 inline std::optional<bb_shared_pool_figures> info(bb_shared_pool *of) noexcept {
     return figures(bb_shared_pool_info, of);
 }
@@ -176,7 +176,7 @@ public:
     // must not be used anymore.
     error reset() noexcept { return static_cast<error>(bb_bump_deallocate(get())); }
 
-    // Returns the figures of the bump, or nothing if there is none.
+    // Returns the statistics of the bump, or nothing if there is none.
     std::optional<bb_bump_figures> info() noexcept { return bb::info(get()); }
 };
 
@@ -188,7 +188,7 @@ public:
         return static_cast<error>(bb_one_chunk_init(get(), start, size));
     }
 
-    // Returns the figures of the allocator, or nothing if there is none.
+    // Returns the statistics of the allocator, or nothing if there is none.
     std::optional<bb_one_chunk_figures> info() noexcept { return bb::info(get()); }
 };
 
@@ -202,7 +202,7 @@ public:
         return static_cast<error>(bb_pool_init(get(), bucket_size, bucket_align, start, size));
     }
 
-    // Returns the figures of the pool, or nothing if there is none.
+    // Returns the statistics of the pool, or nothing if there is none.
     std::optional<bb_pool_figures> info() noexcept { return bb::info(get()); }
 };
 
@@ -259,7 +259,7 @@ public:
 
         ~party() { leave(); }
 
-        // Has the party leave. It can join again later. Each bucket that it holds is freed, and
+        // Makes the party leave. It can join again later. Each bucket that it holds is freed, and
         // must not be used anymore.
         void leave() noexcept { end_by(Leave); }
 
@@ -270,7 +270,7 @@ public:
         const PartyHandle *get() const noexcept { return &handle_; }
 
     protected:
-        // Has the party leave with `Leave`, or with another call that empties its handle.
+        // Makes the party leave with `Leave`, or with another call that empties its handle.
         void end_by(std::uint32_t (*call)(Handle *, PartyHandle *)) noexcept {
             if (shared *of = std::exchange(of_, nullptr)) {
                 std::lock_guard<std::mutex> lock(of->lock_);
@@ -301,11 +301,11 @@ public:
         return owner<Handle, Destroy>::destroy();
     }
 
-    // Has the party `into` join. The call is refused if that party has joined already.
+    // Makes the party `into` join. The call is refused if that party has joined already.
     error join(party &into) noexcept { return join_by(Join, into); }
 
 protected:
-    // Has the party join with `Join`, or with another call that fills its handle.
+    // Makes the party join with `Join`, or with another call that fills its handle.
     template<class Call>
     error join_by(Call call, party &into) noexcept {
         std::lock_guard<std::mutex> lock(lock_);
@@ -330,7 +330,7 @@ using shared_pool = shared<bb_shared_pool, bb_shared_pool_destroy, bb_shared_poo
 // A party of a bump that threads share.
 class bump_party : public detail::shared_bump::party {
 public:
-    // Returns the figures of the bump, or nothing if the party hasn't joined.
+    // Returns the statistics of the bump, or nothing if the party hasn't joined.
     std::optional<bb_bump_figures> info() noexcept { return bb::info(get()); }
 };
 
@@ -355,8 +355,8 @@ public:
 // A party of a pool that threads share.
 class pool_party : public detail::shared_pool::party {
 public:
-    // Returns the figures of the pool, or nothing if the party hasn't joined. Only the buckets that
-    // this party holds and doesn't cache count as held.
+    // Returns the statistics of the pool, or nothing if the party hasn't joined. Only the buckets
+    // that this party holds and doesn't cache count as held.
     std::optional<bb_shared_pool_figures> info() noexcept { return bb::info(get()); }
 
     // Returns the number by which flags name this party, or nothing if it hasn't joined.
@@ -367,7 +367,7 @@ public:
         return static_cast<std::uint32_t>(result.number);
     }
 
-    // Has the party cache at most `most` of the buckets that it frees from now on.
+    // Makes the party cache at most `most` of the buckets that it frees from now on.
     error cache(std::uint32_t most) noexcept {
         return static_cast<error>(bb_pool_party_cache(get(), most));
     }
@@ -385,8 +385,8 @@ public:
         return static_cast<error>(bb_pool_party_give_all_back(get()));
     }
 
-    // Has the party leave without freeing anything: the next party that joins with its number holds
-    // what this one held.
+    // Makes the party leave without freeing anything: the next party that joins with its number
+    // holds what this one held.
     void forget() noexcept { end_by(bb_shared_pool_forget); }
 };
 
@@ -403,7 +403,7 @@ public:
             bb_shared_pool_init(get(), bucket_size, bucket_align, start, size, parties));
     }
 
-    // Returns the figures of the pool, or nothing if there is none.
+    // Returns the statistics of the pool, or nothing if there is none.
     std::optional<bb_shared_pool_figures> info() noexcept { return bb::info(get()); }
 
     // Has `into` join as the party with this number, which `number()` returns.

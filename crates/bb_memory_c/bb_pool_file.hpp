@@ -185,7 +185,7 @@ public:
         return open_by(bb_pool_file_open, path, &options);
     }
 
-    // Opens the pool in a file that exists, whatever its figures.
+    // Opens the pool in a file that exists, whatever its sizes.
     [[nodiscard]] std::uint32_t open(const char *path) noexcept {
         return open_by(bb_pool_file_open, path, nullptr);
     }
@@ -200,7 +200,7 @@ public:
     // to unmap or to unlock it, as `bb_pool_file_close` says. Otherwise the last of them closes it.
     std::uint32_t close() noexcept { return file_.close(); }
 
-    // Returns the figures of the file, or nothing if there are none.
+    // Returns the statistics of the file, or nothing if there are none.
     std::optional<bb_pool_file_figures> info() const noexcept {
         bb_pool_file_figures figures{};
         if (get() == nullptr || bb_pool_file_info(get(), &figures) != BB_OK)
@@ -214,7 +214,7 @@ public:
 
     // Returns these bytes as a T, whose members other processes may change at any time: so they are
     // atomics, or are used under a lock of the host. Returns null if there are fewer bytes than a T
-    // has. Call this once, since it looks up the figures of the file, as `info` does.
+    // has. Call this once, since it looks up the statistics of the file, as `info` does.
     template<class T>
     T *user() const noexcept {
         static_assert(std::is_trivially_destructible_v<T> && std::is_standard_layout_v<T>);
