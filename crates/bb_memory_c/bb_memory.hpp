@@ -4,7 +4,7 @@
 // scope, a `std::unique_ptr` that frees its bucket, and a `std::pmr::memory_resource` over a bump,
 // a pool or a party.
 
-// A refusal is a value: an `error`, or an empty result. Only a memory resource throws:
+// An error is a value: an `error`, or an empty result. Only a memory resource throws:
 // `std::bad_alloc`, as containers require.
 
 //     alignas(64) static unsigned char region[BB_BYTES_FOR(64, 64, 16)];
@@ -301,7 +301,7 @@ public:
         return owner<Handle, Destroy>::destroy();
     }
 
-    // Makes the party `into` join. The call is refused if that party has joined already.
+    // Makes the party `into` join. The call fails if that party has joined already.
     error join(party &into) noexcept { return join_by(Join, into); }
 
 protected:
@@ -481,14 +481,12 @@ inline std::size_t take_many(bb_pool *from, void **slots, std::size_t count) {
     return bb_pool_take_many(from, slots, count).number;
 }
 
-// Frees the buckets at these places, up to the first one that is refused. Returns how many were
-// freed.
+// Frees the buckets at these places, up to the first one that fails. Returns how many were freed.
 inline std::size_t deallocate_many(bb_pool *to, void *const *places, std::size_t count) {
     return bb_pool_deallocate_many(to, places, count).number;
 }
 
-// Frees the buckets at these places, up to the first one that is refused. Returns how many were
-// freed.
+// Frees the buckets at these places, up to the first one that fails. Returns how many were freed.
 inline std::size_t deallocate_many(bb_pool_party *to, void *const *places, std::size_t count) {
     return bb_pool_party_deallocate_many(to, places, count).number;
 }
@@ -499,7 +497,7 @@ inline error return_number(bb_pool_party *to, std::uint32_t number, std::uint32_
 }
 
 // Frees the buckets with these numbers, which party `from` has detached, up to the first one that
-// is refused. Returns how many were freed.
+// fails. Returns how many were freed.
 inline std::size_t return_many(bb_pool_party *to, const std::uint32_t *numbers, std::size_t count,
                                std::uint32_t from) {
     return bb_pool_party_return_many(to, numbers, count, from).number;
@@ -546,9 +544,9 @@ unique<void, Handle> take(Handle *from) {
     return unique<void, Handle>(given.code == BB_OK ? given.place : nullptr, {from});
 }
 
-// Makes a T in a bucket of a pool or of a party's pool, whose handle has to outlive the pointer.
-// An aggregate, such as a struct without constructors, gets its members in their order. The pointer
-// is empty if the pool refuses. If T's constructor throws, the bucket is freed.
+// Makes a T in a bucket of a pool or of a party's pool, whose handle has to outlive the pointer. An
+// aggregate, such as a struct without constructors, gets its members in their order. The pointer is
+// empty if the pool has no such bucket. If T's constructor throws, the bucket is freed.
 template<class T, class Handle, class... Arguments>
 std::enable_if_t<has_buckets<Handle>, unique<T, Handle>> make(Handle *from,
                                                               Arguments &&...arguments) {
@@ -570,9 +568,9 @@ std::enable_if_t<has_buckets<Handle>, unique<T, Handle>> make(Handle *from,
 //
 
 // A call that detaches a bucket takes the pointer that owns the bucket, and empties it. So nobody
-// destroys the value on its way: whoever attaches the bucket owns the value. If the call is
-// refused, the pointer keeps both. A bucket that no such pointer owns is detached by the functions
-// of bb_memory.h.
+// destroys the value on its way: whoever attaches the bucket owns the value. If the call fails, the
+// pointer keeps both. A bucket that no such pointer owns is detached by the functions of
+// bb_memory.h.
 
 // Detaches the bucket of `from`, with its T, into a `bb_detached`. Returns `not_held` if `from` is
 // empty, and otherwise the codes of `bb_pool_party_detach`.
@@ -614,8 +612,8 @@ std::optional<std::uint32_t> detach_number(unique<T, bb_pool_party> &from) {
 }
 
 // Attaches the bucket that is in `from`. The sender has made a T in it, unless T is `void`. The
-// pointer is empty if the pool refuses, or if the chunk in `from` doesn't have the size of a T:
-// then the bucket stays in `from`.
+// pointer is empty if the pool has no such bucket, or if the chunk in `from` doesn't have the size
+// of a T: then the bucket stays in `from`.
 template<class T = void>
 unique<T, bb_pool_party> attach(bb_pool_party *to, detached &from) {
     if constexpr (!std::is_void_v<T>)
@@ -641,11 +639,11 @@ unique<T, bb_pool_party> attach_number(bb_pool_party *to, std::uint32_t number,
 // MEMORY RESOURCES
 //
 
-// A resource serves requests from a handle, which has to outlive it. If the handle refuses a
+// A resource serves requests from a handle, which has to outlive it. If the handle can't serve a
 // request, the upstream resource serves it, and throws if it can't. Two resources over one handle
 // are equal if their upstream resources are: then one may free what the other allocated, and
-// containers move their elements from one to the other without a copy. A program without RTTI
-// finds a resource equal only to itself.
+// containers move their elements from one to the other without a copy. A program without RTTI finds
+// a resource equal only to itself.
 
 // As long as a chunk is in use, the handle isn't used for another region.
 

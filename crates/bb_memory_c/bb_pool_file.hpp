@@ -37,7 +37,7 @@
 //     if (bucket.post<order>(0) != BB_OK)
 //         return;
 
-// A refusal is a code. Files, watches, parties, buckets and messages can be moved, but not copied.
+// An error is a code. Files, watches, parties, buckets and messages can be moved, but not copied.
 // Only one thread at a time uses a party with its buckets and messages.
 
 #ifndef BB_POOL_FILE_HPP
@@ -340,7 +340,7 @@ private:
     int fd_ = -1;
 };
 
-// A message that a party has taken, or the code of a refusal. When it goes out of scope after
+// A message that a party has taken, or the code of an error. When it goes out of scope after
 // `done`, its bucket is freed. Without `done` the message is put back, and can be taken again.
 //
 // If the party leaves or gives all back before that, there is no message here anymore, and the
@@ -416,7 +416,7 @@ private:
     bool is_done_ = false;
 };
 
-// A bucket that a party holds, or the code of a refusal. When it goes out of scope, the bucket is
+// A bucket that a party holds, or the code of an error. When it goes out of scope, the bucket is
 // freed, unless it was posted or detached.
 //
 // If the party leaves or gives all back before that, there is no bucket here anymore, and others
@@ -450,7 +450,7 @@ public:
     void *data() const noexcept { return code() == BB_OK ? chunk_.place : nullptr; }
 
     // Posts the bucket, with a message of `len` bytes, without copying it. Returns `code()` if
-    // there is no bucket; then the codes of `bb_pool_file_post`. After a refusal this still has its
+    // there is no bucket; then the codes of `bb_pool_file_post`. After a failure this still has its
     // bucket.
     [[nodiscard]] std::uint32_t post(std::uint32_t slot, std::size_t len) noexcept {
         if (code() != BB_OK)
