@@ -98,7 +98,7 @@ PLACES = (
         re.compile(r"\b(Atomic\w*|Ordering|Table\w*|Play|Split|Join|Arc(?:::\w+)?)\b"),
         {
             POOL + "rule": {"TableRule": 1},
-            POOL + "flags": {"Table": 2, "Play": 14, "Split": 2, "Join": 2},
+            POOL + "flags": {"Table": 2, "Play": 15, "Split": 2, "Join": 2},
             POOL + "stand_in": {"Table": 2, "TableRule": 1, "Play": 1},
             BUMP + "/rule": {"TableRule": 1},
             BUMP + "/position": {"Table": 2, "Play": 4, "Split": 1, "Join": 1},
@@ -123,8 +123,8 @@ PLACES = (
                 "of_words": 1,
                 "split_seat": 2,
                 "join_seat": 2,
-                "compare_exchange": 4,
-                "load": 4,
+                "compare_exchange": 5,
+                "load": 5,
                 "load_new_seat": 1,
                 "store": 5,
                 "peek": 1,
@@ -158,15 +158,15 @@ PLACES = (
         "probes, meets, or reads a word in no log",
         SHARED,
         re.compile(
-            r"(?:\.|::)(try_flag|try_at|probe|attach_number|return_number|meet|meet_rest"
-            r"|load_for_meeting|found|holder|is_held|is_held_by|held_at|is_out"
+            r"(?:\.|::)(try_flag|try_at|probe|send_at|probe_to_send|attach_number|return_number"
+            r"|meet|meet_rest|load_for_meeting|found|holder|is_held|is_held_by|held_at|is_out"
             r"|is_detached_when_met|have_detached|meet_detached|has_detached"
             r"|count_out|count_taken|held_buckets)\b"
         ),
         {
-            POOL + "flags": {"try_at": 1, "load_for_meeting": 1},
+            POOL + "flags": {"try_at": 1, "send_at": 1, "load_for_meeting": 1},
             POOL + "buckets": {"try_flag": 1, "meet": 1, "meet_rest": 1, "meet_detached": 1},
-            POOL + "next_fit": {"try_at": 1, "probe": 1},
+            POOL + "next_fit": {"try_at": 1, "probe": 1, "send_at": 1, "probe_to_send": 1},
             POOL + "by_number": {"found": 1, "is_held": 1, "is_held_by": 1, "count_taken": 1},
             POOL + "caching": {"attach_number": 1, "return_number": 1, "is_held_by": 1, "meet": 1},
             POOL + "detached": {"attach_number": 1, "return_number": 1},
@@ -211,7 +211,7 @@ PLACES = (
         {
             POOL + "flags": {"..": 1, "|": 1},
             POOL + "buckets": {"for": 2, "..": 2},
-            POOL + "next_fit": {"for": 1, "..": 1},
+            POOL + "next_fit": {"for": 2, "..": 2},
             POOL + "by_number": {"for": 1, "..": 1},
             POOL + "caching": {"while": 1},
             POOL + "meeting": {"for": 3, "..": 3},

@@ -91,7 +91,7 @@ class RealTree(unittest.TestCase):
             ("let _ = ::std::thread::sleep;", "std::thread::sleep"),
             ("let _: atomic_table::Perch<u8, View>;", "atomic_table::Perch"),
             ("let word = self.table.shared.peek(0);", "`peek` 2 times, not 1"),
-            ("let word = Shared::load::<Finds>(seat, 0);", "`load` 5 times, not 4"),
+            ("let word = Shared::load::<Finds>(seat, 0);", "`load` 6 times, not 5"),
             ("let free = flags.map(Flags::found);", "`found` 1 times, not 0"),
             ("self.flags.swap(1, SEQ);", "`swap` 1 times, not 0"),
             ("let _: AtomicU64;", "`AtomicU64` 1 times, not 0"),

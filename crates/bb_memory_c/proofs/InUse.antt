@@ -4,15 +4,17 @@ use Rattle.bb_memory_index_set.specs.IndexSets.{Has}
 use Rattle.bb_memory_lists.proofs.SliceGets.{length-set_at, slice_get-replicated, slice_get-set, slice_get-set_other, slice_get-set_same}
 use Rattle.bb_memory_pool_machine.specs.PoolLogs.{IsHeldAfter}
 use Rattle.bb_memory_shared_pools.proofs.SharedPoolLaws.{held_below}
-use Rattle.bb_memory_shared_pools.specs.SharedPool.{IsParty, SharedPool, TakenBucket}
-use Rattle.bb_memory_shared_pools.specs.SharedPoolCaching.{CachingParty, IsOut, ServesCaching}
+use Rattle.bb_memory_shared_pools.specs.SharedPool.{IsParty, PoolParty, SharedPool, TakenBucket}
+use Rattle.bb_memory_shared_pools.specs.SharedPoolCaching.{CachingParty, IsOut, MissesFirst, SendsCaching, ServesCaching}
 use Rattle.bb_memory_shared_pools.specs.SharedPoolLeaving.{HoldsSome}
+use Rattle.bb_memory_traits.specs.declared.allocator.AllocationError.{AllocationError}
+use Rattle.bb_memory_traits.specs.declared.allocator.AllocationError.TheVariants.{OutOfMemory}
 use Rattle.bb_memory_traits.specs.declared.layout.Layout.{Layout}
-use Rattle.std.proofs.Common.{Bool, List, None, Ok, Some, [], ap, arith, false, inl, inr, length, refl, replicate, set, subst, sym, true, ℕ, ◌+◌, ◌<◌, ◌↔◌, ◌∙◌, ◌≡◌, ◌≢◌, ◌≤◌}
+use Rattle.std.proofs.Common.{Bool, List, None, Ok, Option, Some, [], ap, arith, false, inl, inr, length, refl, replicate, set, subst, sym, true, ℕ, ◌+◌, ◌<◌, ◌↔◌, ◌∙◌, ◌≡◌, ◌≢◌, ◌≤◌}
 use Rattle.std.proofs.lemmas.Bool.{cases_eq, cases_lt, false≢true}
 use Rattle.std.proofs.lemmas.List.{length-replicate}
 use Rattle.std.proofs.lemmas.Option.{same_Some, slice_get-get_or}
-use Rattle.std.specs.Prelude.{IsTrue, slice_get}
+use Rattle.std.specs.Prelude.{Err, IfNone, IfSome, IsTrue, slice_get}
 
 -- a list of no entry has none for any number
 no-entry : (list : List Bool) (number : ℕ) (is : Bool) → list ≡ [] → ¬ (slice_get list number ≡ Some is)
@@ -182,6 +184,28 @@ joined-same at same most outs = joined-after at same most (λ are. record {
     λ out. (are.exact bucket).1 ((outs bucket).1 out),
   );
 }) (λ none. none)
+
+-- before the first probe of a taking, which missed
+pub joined-missed : {pool : SharedPool} {joined after : CachingParty} {list : List Bool} → IsJoinedAt pool after list →
+    MissesFirst joined after → IsJoinedAt pool joined list
+joined-missed at missed = joined-same at (sym (ap (λ (p : PoolParty). p.allocator) missed.party.logged))
+    (sym (ap (λ (c : CachingParty). c.most) missed.unchanged)) (λ bucket. ((missed.out bucket).1, (missed.out bucket).0))
+
+-- after a request that took no bucket
+pub joined-refused : {pool : SharedPool} {joined after : CachingParty} {list : List Bool} {layout : Layout}
+    (error : AllocationError) → IsJoinedAt pool joined list → ServesCaching joined layout (Err error) after →
+    IsJoinedAt pool after list
+joined-refused error at serves =
+    joined-same at serves.party serves.most (λ other. (serves.others_kept other, serves.others other tt))
+
+-- after a bucket was taken and detached, or none was taken
+pub joined-sends : {pool : SharedPool} {joined after : CachingParty} {list : List Bool} (layout : Layout) (result : Option ℕ) →
+    IsJoinedAt pool joined list → IfSome result (λ number. SendsCaching joined number after) →
+    IfNone result (ServesCaching joined layout (Err OutOfMemory) after) → IsJoinedAt pool after list
+joined-sends layout None at sent refused = joined-refused OutOfMemory at refused
+joined-sends layout (Some number) at sent refused =
+    joined-same at (ap (λ (c : CachingParty). c.party.allocator) sent.logged ∙ sent.serves.party)
+    (ap (λ (c : CachingParty). c.most) sent.logged ∙ sent.serves.most) sent.out
 
 -- a party that holds none, and whose list has no entry of a bucket in use
 pub joined-cleared : {pool : SharedPool} {joined : CachingParty} (after : CachingParty) {list : List Bool} →

@@ -149,16 +149,13 @@ impl JoinedPool {
         returned
     }
 
-    /// Takes a whole bucket and detaches it. Returns its number, or `None` if no bucket was found.
+    /// Takes a whole bucket and detaches it, by one step on its flag. Returns its number, or `None` if no bucket was found.
     fn take_detached(&mut self) -> Option<u32>
         requires others { HasOthers self.old }
         ensures taken { IfSome result (λ number. TakesDetached self.old number self.new) }
         ensures refused { IfNone result (RefusesTaking self.old self.new) }
     {
-        match self.party.take(&*self.pool) {
-            Ok(bucket) => Some(self.party.detach_number(&*self.pool, bucket)),
-            Err(_) => None,
-        }
+        self.party.take_detached(&*self.pool)
     }
 
     /// Takes whole buckets and detaches them, one after another, until each slot has the number of one or none can be taken.

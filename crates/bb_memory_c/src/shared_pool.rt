@@ -5,7 +5,7 @@ ghost use Rattle.bb_memory_c_calls.specs.Calls.{Answers, AnswersDestroy, Answers
 ghost use Rattle.bb_memory_c_calls.specs.declared.code.TheConstants.{OK as ok, UNINITIALIZED as uninitialized};
 ghost use Rattle.bb_memory_pool_machine.specs.PoolLogs.{IsHeldAfter};
 ghost use Rattle.bb_memory_shared_pools.specs.SharedPool.{IsParty, chunk_of, taken_bucket};
-ghost use Rattle.bb_memory_shared_pools.specs.SharedPoolCaching.{CachingParty, IsOut, ReturnsCaching};
+ghost use Rattle.bb_memory_shared_pools.specs.SharedPoolCaching.{CachingParty, IsOut, MissesFirst, ReturnsCaching};
 ghost use Rattle.bb_memory_traits.specs.Chunk.{region_at};
 ghost use Rattle.bb_memory_traits.specs.PoolObject.{bucket_place};
 ghost use Rattle.std.specs.Arc.{arc_value};
@@ -340,18 +340,24 @@ impl Bucketed for JoinedPool {
 
     ghost may_take = { λ joined. GivesChunk joined (geometry_of joined).bucket };
 
+    ghost misses_first = { MissesFirst };
+
     #[inline(always)]
-    fn take(&mut self) -> Result<Chunk, AllocationError> {
+    fn take_first(&mut self) -> Option<Chunk> {
         self.invariant();
         let is_cached = !self.party.cached().is_empty();
-        let number = self.party.take(&*self.pool)?.number();
+        let number = self.party.take_first(&*self.pool)?.number();
         let pool = &*self.pool;
         let len = pool.bucket_layout().size();
-        Ok(begin_use(&self.party, pool, &mut self.in_use, number, is_cached, len))
+        Some(begin_use(&self.party, pool, &mut self.in_use, number, is_cached, len))
     }
 
-    fn is_short(&self) -> bool {
-        !self.party.cached().is_empty()
+    fn take_later(&mut self) -> Result<Chunk, AllocationError> {
+        self.invariant();
+        let number = self.party.take_later(&*self.pool)?.number();
+        let pool = &*self.pool;
+        let len = pool.bucket_layout().size();
+        Ok(begin_use(&self.party, pool, &mut self.in_use, number, false, len))
     }
 
     fn limit(&self) -> Layout {

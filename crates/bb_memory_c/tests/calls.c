@@ -436,7 +436,7 @@ static void run_memory(void) {
             WITHIN(256 + 16 * parties,
                    bb_shared_bump_init(&shared_bump, 4096, 8 * buckets, parties));
             WITHIN(64, bb_shared_bump_join(&shared_bump, &bump_party));
-            WITHIN(544 + 16 * buckets + 12 * parties,
+            WITHIN(544 + 16 * buckets + 28 * parties,
                    bb_shared_pool_init(&shared_pool, 8, 8, 4096, 8 * buckets, parties));
             WITHIN(256, bb_shared_pool_join(&shared_pool, &pool_party));
             WITHIN(256 + buckets + 4 * (buckets / 2),

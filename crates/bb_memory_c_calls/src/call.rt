@@ -118,23 +118,24 @@ pub fn request_bucket<I, M: Gives<I> + Bucketed, H: Handle<M>>(
     }
 }
 
-/// Takes a whole bucket by a search. The function is never inlined, so that a taking that needs no search is short.
+/// Goes on with a taking that has missed its first bucket. The function is never inlined, so that a taking that gets that bucket is
+/// short.
 #[inline(never)]
-fn search<M: Bucketed>(made: &mut M) -> Answer
-    ensures { TellsTake made.old made.new result M.may_take }
+fn take_later<M: Bucketed>(made: &mut M) -> Answer
+    requires { (before : M) × M.misses_first before made.old }
+    ensures { (before : M) → M.misses_first before made.old → TellsTake before made.new result M.may_take }
 {
-    Answer::of(made.take())
+    Answer::of(made.take_later())
 }
 
-/// Takes a whole bucket. A taking that needs no search is straight-line code.
+/// Takes a whole bucket. A taking that gets the first bucket that it tries is straight-line code.
 #[inline(always)]
 fn take_one<M: Bucketed>(made: &mut M) -> Answer
     ensures { TellsTake made.old made.new result M.may_take }
 {
-    if made.is_short() {
-        Answer::of(made.take())
-    } else {
-        search(made)
+    match made.take_first() {
+        Some(chunk) => Answer::of(Ok(chunk)),
+        None => take_later(made),
     }
 }
 

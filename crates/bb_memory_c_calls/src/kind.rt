@@ -5,7 +5,7 @@ ghost use Rattle.bb_memory_traits.specs.Geometry.{TellsNumber, TellsPlace};
 ghost use Rattle.bb_memory_traits.specs.PoolObject.{PoolGeometry};
 ghost use Rattle.bb_memory_traits.specs.declared.allocator.AllocationError.{AllocationError};
 ghost use Rattle.bb_memory_traits.specs.declared.layout.Layout.{Layout as Asked};
-ghost use Rattle.std.specs.Prelude.{IfErr, IsFalse, IsTrue, Result, ℕ, ◌↔◌, ◌≡◌};
+ghost use Rattle.std.specs.Prelude.{IfErr, IfNone, IfSome, IsFalse, IsTrue, Ok, Result, ℕ, ◌↔◌, ◌≡◌};
 
 use bb_memory_traits::allocator::AllocationError;
 use bb_memory_traits::layout::{Chunk, Layout};
@@ -56,13 +56,20 @@ pub trait Bucketed: Drop {
     /// The answers that the taking of a whole bucket may have, and the value after it.
     ghost may_take: { Self → Result Chunk AllocationError → Self → Type 0 };
 
-    /// Takes a whole bucket.
-    fn take(&mut self) -> Result<Chunk, AllocationError>
-        ensures may { may_take self.old result self.new }
-        ensures refused { IfErr result (λ error. error ≡ AllocationError.OutOfMemory) };
+    /// Relates the value before the taking of a whole bucket to the one after the taking has missed its first bucket.
+    ghost misses_first: { Self → Self → Type 0 };
 
-    /// Returns whether taking a whole bucket needs no search now. Either answer is correct.
-    fn is_short(&self) -> bool;
+    /// Begins the taking of a whole bucket: tries at most one bucket, and takes it unless it misses it.
+    fn take_first(&mut self) -> Option<Chunk>
+        ensures taken { IfSome result (λ chunk. may_take self.old (Ok chunk) self.new) }
+        ensures missed { IfNone result (misses_first self.old self.new) };
+
+    /// Goes on with a taking that has missed its first bucket. The first clause holds for each value with which the taking may have
+    /// begun.
+    fn take_later(&mut self) -> Result<Chunk, AllocationError>
+        requires { (before : Self) × misses_first before self.old }
+        ensures may { (before : Self) → misses_first before self.old → may_take before result self.new }
+        ensures refused { IfErr result (λ error. error ≡ AllocationError.OutOfMemory) };
 
     /// Returns a layout within which a request skips `layout_of`. Any layout is correct.
     fn limit(&self) -> Layout;

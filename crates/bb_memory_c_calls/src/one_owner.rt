@@ -1,7 +1,8 @@
 //! The allocators with one owner, as kinds.
 ghost use Rattle.bb_memory_c_calls.specs.OneOwner.{BumpAllocates, OneChunkAllocates, PoolAllocates, ShowsBump, ShowsOneChunk, ShowsPool};
 ghost use Rattle.bb_memory_owned.specs.Pool.{CountedPool, FreesBucket, HoldsPlace};
-ghost use Rattle.std.specs.Prelude.{None, Some, ◌≡◌};
+ghost use Rattle.bb_memory_traits.specs.declared.allocator.AllocationError.TheVariants.{OutOfMemory};
+ghost use Rattle.std.specs.Prelude.{Err, None, Some, ◌≡◌};
 
 use crate::answer::{BumpInfo, OneChunkInfo, PoolInfo};
 use crate::kind::{Bucketed, Gives, Keeps};
@@ -122,13 +123,15 @@ impl Bucketed for Pool {
 
     ghost may_take = { λ pool. PoolAllocates pool pool.pool.geometry.bucket };
 
+    ghost misses_first = { λ pool. PoolAllocates pool pool.pool.geometry.bucket (Err OutOfMemory) };
+
     #[inline(always)]
-    fn take(&mut self) -> Result<Chunk, AllocationError> {
-        self.pool.take()
+    fn take_first(&mut self) -> Option<Chunk> {
+        self.pool.take().ok()
     }
 
-    fn is_short(&self) -> bool {
-        true
+    fn take_later(&mut self) -> Result<Chunk, AllocationError> {
+        Err(AllocationError::OutOfMemory)
     }
 
     fn limit(&self) -> Layout {

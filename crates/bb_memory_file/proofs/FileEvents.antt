@@ -1,5 +1,5 @@
 -- The events that a log gets, one call after another.
-use Rattle.bb_memory_file.specs.FileCalls.{Gets, freed_in, has_some}
+use Rattle.bb_memory_file.specs.FileCalls.{Gets, freed_in, has_some, is_on_life, on_life}
 use Rattle.bb_memory_file.specs.FileCode.{Event, FileLog}
 use Rattle.std.proofs.Common.{Bool, List, [], ap, arith, false, refl, sym, true, ◌++◌, ◌+◌, ◌∙◌, ◌∷◌, ◌≡◌}
 use Rattle.std.specs.Prelude.{if◌then◌else◌}
@@ -15,12 +15,25 @@ gets_on old middle new first next one two =
     two ∙ ap (λ (log : FileLog). record log { events = next ++ log.events }) one
     ∙ ap (λ events. record old { events = events }) (sym (append_assoc next first old.events))
 
-pub gets_none : (log : FileLog) → Gets log [] log
-gets_none log = refl
-
 pub freed_on : (next first : List Event) → freed_in (next ++ first) ≡ freed_in next + freed_in first
 freed_on [] first = omega arith
 freed_on (event ∷ next) first = let rest = freed_on next first in omega (arith, rest)
+
+on_life_by : (event : Event) (next first : List Event) (is : Bool) → on_life (next ++ first) ≡ on_life next ++ on_life first →
+    (if is then event ∷ on_life (next ++ first) else on_life (next ++ first))
+    ≡ (if is then event ∷ on_life next else on_life next) ++ on_life first
+on_life_by event next first true rest = ap (λ events. event ∷ events) rest
+on_life_by event next first false rest = rest
+
+pub on_life_on : (next first : List Event) → on_life (next ++ first) ≡ on_life next ++ on_life first
+on_life_on [] first = refl
+on_life_on (event ∷ next) first = on_life_by event next first (is_on_life event) (on_life_on next first)
+
+-- the events of one after another are these
+pub on_lives : (next first later before : List Event) → on_life next ≡ later → on_life first ≡ before →
+    on_life (next ++ first) ≡ later ++ before
+on_lives next first later before one other =
+    on_life_on next first ∙ ap (λ events. events ++ on_life first) one ∙ ap (λ events. later ++ events) other
 
 module _ {X : Type 0} (test : X → Bool) (first : List X) where
   first_by : (x : X) (next : List X) (is : Bool) → has_some test (next ++ first) ≡ true →

@@ -1,7 +1,7 @@
 -- What a party knows of the words of a file is so after each event of its own, and after each step of
 -- another process.
 use Rattle.bb_memory_file.specs.FileCode.{ChangesNone, Finds, IsEntryIf, IsKnown, IsLifeIf, IsSeen, MayBe, left_by}
-use Rattle.bb_memory_file.specs.FileLog.{EmptySlot, Event, ExchangeFlag, ExchangeSlot, FileLog, Has, HasNot, Holds, Known, LoadEntry, LoadFlag, LoadLife, LoadSlot, MissFlag, MissSlot, Seen, StoreEntry, StoreFlag, StoreLife, Unknown, Unseen, gained, held_still, known_of, learns, life_by, seen_in, taken_from, told}
+use Rattle.bb_memory_file.specs.FileLog.{EmptySlot, Event, ExchangeFlag, ExchangeSlot, FileLog, Has, HasNot, Holds, Known, LoadEntry, LoadFlag, LoadLife, LoadSlot, MissFlag, MissSlot, Seen, StoreEntry, StoreFlag, StoreLife, Unknown, Unseen, held_still, known_of, learns, life_by, seen_in, taken_from, told}
 use Rattle.bb_memory_file.specs.FileLog as log
 use Rattle.bb_memory_file.specs.FileNames.{DetachedBy, Empty, Entry, FileFlag, FileStep, Free, HeldBy, Message, SentTo, Slot}
 use Rattle.bb_memory_file_machine.proofs.FileEffects.{Rests, below_end, one_value, rests}
@@ -83,24 +83,12 @@ module _ (words : FileWords) (party bucket : ℕ) (sound : Sound words) where
       (held, tt, ap (λ (l : List Slot). slice_get l slot) slots ∙ sound.sent bucket slot lap is)
   known_taken (HeldBy other) later is held entries slots = (held, tt, tt)
 
-  -- the party gains the bucket, or has it already
-  known_gained : (from : FileFlag) (known : Known) (later : FileWords) → IsFlag words bucket from → IsHolder later bucket party →
-      later.entries ≡ words.entries → later.slots ≡ words.slots → IsKnown words party bucket known →
-      IsKnown later party bucket (gained known from)
-  known_gained from Unknown later is held entries slots so = known_taken from later is held entries slots
-  known_gained from (Holds entry seen) later is held entries slots (was, known, has) = (
-    held,
-    entry_kept words later party bucket entry (ap (λ (l : List Entry). slice_get l bucket) entries) known,
-    seen_kept words later party bucket seen slots has,
-  )
-
   -- the flag of the bucket is exchanged
-  known_exchanged : (from to : FileFlag) (known : Known) (held : Bool) → same_flag to (HeldBy party) ≡ held →
-      IsFlag words bucket from → IsKnown words party bucket known →
-      IsKnown (with_flag words bucket to) party bucket (if held then gained known from else Unknown)
-  known_exchanged from to known false e is so = tt
-  known_exchanged from to known true e is so = known_gained from known (with_flag words bucket to) is
-      (slice_get-set_same words.flags bucket to from is ∙ ap (λ (f : FileFlag). Some f) (held_flag party to e)) refl refl so
+  known_exchanged : (from to : FileFlag) (held : Bool) → same_flag to (HeldBy party) ≡ held → IsFlag words bucket from →
+      IsKnown (with_flag words bucket to) party bucket (if held then taken_from from else Unknown)
+  known_exchanged from to false e is = tt
+  known_exchanged from to true e is = known_taken from (with_flag words bucket to) is
+      (slice_get-set_same words.flags bucket to from is ∙ ap (λ (f : FileFlag). Some f) (held_flag party to e)) refl refl
 
   -- the entry of the bucket is found
   known_entry : (found : Entry) (known : Known) → IsEntry words bucket found → IsKnown words party bucket known →
@@ -180,12 +168,12 @@ module _ (words : FileWords) (party bucket : ℕ) (sound : Sound words) where
   -- a flag is exchanged
   after_exchange : (other : ℕ) (from to : FileFlag) (known : Known) (same : Bool) → (other == bucket) ≡ same →
       IsFlag words other from → IsKnown words party bucket known → IsKnown (with_flag words other to) party bucket
-      (if same then (if same_flag to (HeldBy party) then gained known from else Unknown) else known)
+      (if same then (if same_flag to (HeldBy party) then taken_from from else Unknown) else known)
   after_exchange other from to known true e is so =
       let at : other ≡ bucket = eqb-true other bucket e in
-      subst (λ (b : ℕ). IsKnown (with_flag words b to) party bucket (if same_flag to (HeldBy party) then gained known from else Unknown))
+      subst (λ (b : ℕ). IsKnown (with_flag words b to) party bucket (if same_flag to (HeldBy party) then taken_from from else Unknown))
       (sym at)
-      (known_exchanged from to known (same_flag to (HeldBy party)) refl (ap (slice_get words.flags) (sym at) ∙ is) so)
+      (known_exchanged from to (same_flag to (HeldBy party)) refl (ap (slice_get words.flags) (sym at) ∙ is))
   after_exchange other from to known false e is so = known_apart other to known (eqb-false other bucket e) so
 
   -- a flag is stored

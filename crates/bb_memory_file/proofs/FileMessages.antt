@@ -77,15 +77,15 @@ module _ (process : ℕ) (old : FileLog) (slot lap bucket size : ℕ) where
     read_by one two party mine e1 e2 = e2 ∙ ap (λ log. told log (LoadEntry bucket entry))
         (e1 ∙ ap (λ p. told old (ExchangeFlag bucket (SentTo slot lap) (HeldBy p))) mine)
 
-    -- the party knows where the bucket is, if it didn't hold the bucket before
-    known_read : known_of old bucket ≡ Unknown → known_of read bucket ≡ Holds (Some entry) (Has slot lap)
-    known_read unknown = rw (test_same bucket bucket refl, test_same old.party old.party refl, unknown) refl
+    -- the party knows where the bucket is
+    known_read : known_of read bucket ≡ Holds (Some entry) (Has slot lap)
+    known_read = rw (test_same bucket bucket refl, test_same old.party old.party refl) refl
 
-    pub put_away : known_of old bucket ≡ Unknown → (one two new : FileLog) (party : ℕ) → party ≡ old.party →
+    pub put_away : (one two new : FileLog) (party : ℕ) → party ≡ old.party →
         one ≡ told old (ExchangeFlag bucket (SentTo slot lap) (HeldBy party)) → two ≡ told one (LoadEntry bucket entry) →
         is_fit slot size entry ≡ false → new ≡ told two (StoreFlag bucket (SentTo slot lap)) →
         IsReceive process old slot lap bucket size received.Wrong new
-    put_away unknown one two new party mine e1 e2 unfit e3 =
+    put_away one two new party mine e1 e2 unfit e3 =
         subst (λ log. IsReceive process old slot lap bucket size received.Wrong log)
         (sym (e3 ∙ ap (λ log. told log (StoreFlag bucket (SentTo slot lap))) (read_by one two party mine e1 e2))) (
           entry,
@@ -93,7 +93,7 @@ module _ (process : ℕ) (old : FileLog) (slot lap bucket size : ℕ) where
           record {
             path = steps read (Take process old.party slot bucket lap ∷ []) Outside (StoreFlag bucket (SentTo slot lap))
                 (PutBack process old.party slot bucket) Outside path_read refl
-                (puts_back read process slot bucket lap (Some entry) (known_read unknown));
+                (puts_back read process slot bucket lap (Some entry) known_read);
             scene = refl;
             party = refl;
           },
@@ -224,6 +224,7 @@ module _ (old : FileLog) (bucket : ℕ) (held : is_held (known_of old bucket) �
         events = LoadEntry bucket Nowhere ∷ [];
         gets = refl;
         frees = refl;
+        quiet = refl;
         looks = λ process here. record { path = looks old [] here (LoadEntry bucket Nowhere) begins tt; scene = refl; party = refl };
         found = (seen_of (known_of old bucket), rw (test_same bucket bucket refl) (held_entry (known_of old bucket) Nowhere held));
         others = λ other apart. rw (ne_eqb bucket other (λ same. apart (sym same))) refl;
@@ -249,6 +250,7 @@ module _ (old : FileLog) (bucket : ℕ) (held : is_held (known_of old bucket) �
           events = LoadSlot slot word ∷ LoadEntry bucket (In slot size) ∷ [];
           gets = refl;
           frees = refl;
+          quiet = refl;
           looks = λ process here. record {
             path = looks entry_read [] here (LoadSlot slot word) (looks old [] here (LoadEntry bucket (In slot size)) begins tt) tt;
             scene = refl;

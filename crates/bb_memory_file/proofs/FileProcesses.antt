@@ -1,5 +1,5 @@
 -- Paths don't depend on the number of processes.
-use Rattle.bb_memory_file.specs.FileCode.{Brings, Event, FileLog, Finds, IsSilent, IsStep, MayBe, Path, begins, left_by, looks, moves, steps}
+use Rattle.bb_memory_file.specs.FileCode.{FileLog, MayBe, Path, begins, looks, moves, steps}
 use Rattle.bb_memory_file.specs.FileNames.{FileStep, Place}
 use Rattle.bb_memory_file.specs.FileParties.{among}
 use Rattle.bb_memory_file_machine.specs.FileMachine.{FileWords}

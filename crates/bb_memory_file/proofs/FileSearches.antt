@@ -4,7 +4,6 @@ use Rattle.bb_memory_file.proofs.FileSteps.{allocates}
 use Rattle.bb_memory_file.proofs.FileWalks.{walk_look, walk_nowhere, walk_on, walk_step}
 use Rattle.bb_memory_file.specs.FileCalls.{AllocateSays, Gets, IsGained, IsPassed, Makes, SearchSays, missed, misses}
 use Rattle.bb_memory_file.specs.FileCode.{Event, ExchangeFlag, FileLog, MissFlag, known_of, told}
-use Rattle.bb_memory_file.specs.FileLog.{gained}
 use Rattle.bb_memory_file.specs.FileNames.{Allocate, Free, HeldBy, Outside}
 use Rattle.bb_memory_pool_machine.proofs.PoolSteps.{test_same}
 use Rattle.std.proofs.Common.{Bool, List, None, Option, Some, [], ap, arith, false, inl, inr, refl, subst, sym, true, ℕ, ◌++◌, ◌+◌, ◌<◌, ◌∙◌, ◌∷◌, ◌≡◌, ◌≤◌, ◌⊎◌}
@@ -72,7 +71,7 @@ search_ends old log new from to bucket party search below mine is =
       search.order,
       below,
       subst (λ (l : FileLog). IsGained old bucket l) (sym is') (
-        rw (test_same bucket bucket refl, test_same log.party log.party refl) (ap (λ k. gained k Free) (search.same bucket)),
+        rw (test_same bucket bucket refl, test_same log.party log.party refl) refl,
         (λ other apart. rw (ne_eqb bucket other (λ e. apart (sym e))) (search.same other)),
       ),
     )
@@ -155,7 +154,7 @@ module _ (old new : FileLog) (hint first buckets : ℕ) (all : buckets ≡ old.s
           (λ other below passed. passed_second two.0 bucket other two.5 below two.3
               (subst (λ (f : ℕ). IsPassed f bucket other) (sym start) passed)),
           subst (λ (n : ℕ). bucket < n) all (omega (arith, less, order)),
-          (two.6.0 ∙ ap (λ k. gained k Free) (one.4 bucket), (λ other apart. two.6.1 other apart ∙ one.4 other)),
+          (two.6.0, (λ other apart. two.6.1 other apart ∙ one.4 other)),
         )
 
     pub found_by : (answer : Option ℕ) → first ≤ buckets → SearchSays middle 0 first answer new → AllocateSays old hint answer new

@@ -1,12 +1,12 @@
 -- The walks of settlers.
-use Rattle.bb_memory_file.proofs.FileEvents.{append_assoc, freed_on, gets_on, has_first, has_next, has_none}
+use Rattle.bb_memory_file.proofs.FileEvents.{append_assoc, freed_on, gets_on, has_first, has_next, has_none, on_lives}
 use Rattle.bb_memory_file.proofs.FileSteps.{counts, counts_on, ends, leaves, passes, recovers, settles_clear, settles_free, settles_sent, stays}
 use Rattle.bb_memory_file.proofs.FileWalks.{walk_look, walk_move, walk_nowhere, walk_on, walk_step}
-use Rattle.bb_memory_file.specs.FileCalls.{Gets, IsFound, IsLifeOf, IsOver, IsRecovered, IsSettled, Whereabouts, freed_in, has_some, is_tried, tries, unseen}
+use Rattle.bb_memory_file.specs.FileCalls.{Gets, IsFound, IsLifeOf, IsOver, IsRecovered, IsSettled, Whereabouts, counting, freed_in, has_some, is_tried, locking, on_life, tries, unseen}
 use Rattle.bb_memory_file.specs.FileCalls as calls
 use Rattle.bb_memory_file.specs.FileCalls.whereabouts as whereabouts
 use Rattle.bb_memory_file.specs.FileCode.{Event, ExchangeFlag, FileLog, HasNot, Holds, IsStep, IsWalk, Known, LoadFlag, LoadLife, MissFlag, StoreEntry, StoreFlag, StoreLife, Unknown, known_of, life_by, told}
-use Rattle.bb_memory_file.specs.FileLog.{held_still, is_held, with_entry}
+use Rattle.bb_memory_file.specs.FileLog.{with_entry}
 use Rattle.bb_memory_file.specs.FileNames.{Count, Counting, DetachedBy, FileFlag, FileStep, Flags, Free, HeldBy, Leave, Next, Nowhere, Outside, Place, Recover, SentTo, Settled}
 use Rattle.bb_memory_file.specs.FileSettlers.{IsCounted, IsCountedOn, IsRecover, IsSettledAt}
 use Rattle.bb_memory_file_machine.specs.FileMachine.{same_flag}
@@ -30,6 +30,8 @@ module _ (process : ℕ) (old : FileLog) (bucket : ℕ) where
     walk = walk_look process old new here (LoadFlag bucket flag) tt is;
     frees = refl;
     tried = let other' = ap (λ p. same_flag flag (DetachedBy p)) (sym mine) ∙ other in rw (test_same bucket bucket refl, other') refl;
+    settles = refl;
+    quiet = refl;
     others = λ o apart. ap (λ l. known_of l o) is ∙ rw (ne_eqb bucket o (λ same. apart (sym same))) refl;
   }
 
@@ -51,6 +53,8 @@ module _ (process : ℕ) (old : FileLog) (bucket : ℕ) where
             (Recover process) here refl (recovers (told old (LoadFlag bucket flag)) process bucket) e2');
         frees = refl;
         tried = rw (test_same bucket bucket refl, test_same old.party old.party refl) refl;
+        settles = refl;
+        quiet = refl;
         others = λ o apart. ap (λ l. known_of l o) e2' ∙ rw (ne_eqb bucket o (λ same. apart (sym same))) refl;
       }
   recovered false one new flag party mine e1 e2 =
@@ -66,14 +70,12 @@ module _ (process : ℕ) (old : FileLog) (bucket : ℕ) where
             (walk_look process (told old (LoadFlag bucket flag)) new here (MissFlag bucket (DetachedBy old.party)) tt e2');
         frees = refl;
         tried = rw (test_same bucket bucket refl, test_same old.party old.party refl) refl;
+        settles = refl;
+        quiet = refl;
         others = λ o apart. ap (λ l. known_of l o) e2' ∙ rw (ne_eqb bucket o (λ same. apart (sym same))) refl;
       }
 
 -- ONE BUCKET
-
-pub held_by_flag : (known : Known) → is_held (held_still known) ≡ true
-held_by_flag Unknown = refl
-held_by_flag (Holds entry seen) = refl
 
 module _ (process : ℕ) (old : FileLog) (bucket : ℕ) (below : bucket < old.scene.buckets) where
   abbrev at : Place
@@ -92,6 +94,8 @@ module _ (process : ℕ) (old : FileLog) (bucket : ℕ) (below : bucket < old.sc
         (passes old process bucket below flag (ap (λ p. same_flag flag (HeldBy p)) (sym mine) ∙ other)) is;
     frees = refl;
     recovers_none = refl;
+    settles = refl;
+    quiet = refl;
     unknown = ap (λ l. known_of l bucket) is
         ∙ rw (test_same bucket bucket refl, ap (λ p. same_flag flag (HeldBy p)) (sym mine) ∙ other) refl;
     others = λ o apart. ap unseen (ap (λ l. known_of l o) is ∙ rw (ne_eqb bucket o (λ same. apart (sym same))) refl);
@@ -118,6 +122,9 @@ module _ (process : ℕ) (old : FileLog) (bucket : ℕ) (below : bucket < old.sc
 
       frees_two : freed_in (found.events ++ LoadFlag bucket flag ∷ []) ≡ 0
       frees_two = let on = freed_on found.events (LoadFlag bucket flag ∷ []) in let none = found.frees in omega (arith, on, none)
+
+      quiet_two : on_life (found.events ++ LoadFlag bucket flag ∷ []) ≡ []
+      quiet_two = on_lives found.events (LoadFlag bucket flag ∷ []) [] [] found.quiet refl
 
       others_two : (o : ℕ) → o ≢ bucket → unseen (known_of two o) ≡ unseen (known_of old o)
       others_two o apart = found.others o apart
@@ -148,6 +155,8 @@ module _ (process : ℕ) (old : FileLog) (bucket : ℕ) (below : bucket < old.sc
           (settles_sent two process bucket (below_two (whereabouts.In slot lap) found) slot found.found.0 lap found.found.1);
       frees = let none = frees_two (whereabouts.In slot lap) found in omega (arith, none);
       recovers_none = refl;
+      settles = refl;
+      quiet = quiet_two (whereabouts.In slot lap) found;
       unknown = stored_unknown two new (SentTo slot lap) is;
       others = others_stored (whereabouts.In slot lap) found new (SentTo slot lap) is;
     }
@@ -162,6 +171,8 @@ module _ (process : ℕ) (old : FileLog) (bucket : ℕ) (below : bucket < old.sc
           (settles_free two process bucket (below_two whereabouts.Nowhere found) found.found.0 found.found.1);
       frees = let none = frees_two whereabouts.Nowhere found in omega (arith, none);
       recovers_none = refl;
+      settles = refl;
+      quiet = quiet_two whereabouts.Nowhere found;
       unknown = stored_unknown two new Free is;
       others = others_stored whereabouts.Nowhere found new Free is;
     }
@@ -191,6 +202,8 @@ module _ (process : ℕ) (old : FileLog) (bucket : ℕ) (below : bucket < old.sc
               (Flags three.party (bucket + 1)) refl (settles_free three process bucket below_three (HasNot slot) known_three) e4));
           frees = let none = frees_two whereabouts.Entered found in omega (arith, none);
           recovers_none = refl;
+          settles = refl;
+          quiet = quiet_two whereabouts.Entered found;
           unknown = stored_unknown three new Free e4;
           others = λ o apart.
               let away = ne_eqb bucket o (λ same. apart (sym same)) in
@@ -216,6 +229,8 @@ pub record Settling (process : ℕ) (old : FileLog) (detached : Bool) (bucket fr
   pub walk : IsWalk process old (Flags old.party 0) new taken (Flags old.party bucket)
   pub frees : freed_in events ≡ freed
   pub recovered : RecoveredTo old.party detached bucket events taken
+  pub settles : has_some calls.strays taken ≡ false
+  pub quiet : on_life events ≡ []
   pub unknown : (other : ℕ) → other < bucket → known_of new other ≡ Unknown
 
 unseen_none : (known : Known) → unseen known ≡ Unknown → known ≡ Unknown
@@ -245,6 +260,8 @@ settling_none process old detached = record {
   walk = walk_nowhere process old (Flags old.party 0);
   frees = refl;
   recovered = none_yet old.party detached;
+  settles = refl;
+  quiet = refl;
   unknown = λ other below. absurd (omega (arith, below));
 }
 
@@ -266,6 +283,8 @@ module _ (process : ℕ) (old log new : FileLog) (detached : Bool) (bucket freed
     recovered = subst (λ (d : Bool). RecoveredTo old.party d (bucket + 1) (step.events ++ settling.events) (step.taken ++ settling.taken))
         (sym none) (has_none calls.recovers settling.taken step.taken
         (subst (λ (d : Bool). RecoveredTo old.party d bucket settling.events settling.taken) none settling.recovered) step.recovers_none);
+    settles = has_none calls.strays settling.taken step.taken settling.settles step.settles;
+    quiet = on_lives step.events settling.events [] [] step.quiet settling.quiet;
     unknown = unknown_on log new bucket settling.unknown step.unknown step.others;
   }
 
@@ -307,6 +326,9 @@ module _ (process : ℕ) (old log new : FileLog) (detached : Bool) (bucket freed
           (sym all) (λ other below. tried_to
           (subst (λ (d : Bool). RecoveredTo old.party d bucket settling.events settling.taken) all settling.recovered) other below
           (bucket == other) refl);
+      settles = has_none calls.strays (back.taken ++ settling.taken) step.taken
+          (has_none calls.strays settling.taken back.taken settling.settles back.settles) step.settles;
+      quiet = on_lives both settling.events [] [] (on_lives step.events back.events [] [] step.quiet back.quiet) settling.quiet;
       unknown = unknown_on log new bucket settling.unknown step.unknown
           (λ other apart. step.others other apart ∙ ap unseen (back.others other apart));
     }
@@ -322,7 +344,7 @@ recovered_all process old new detached bucket freed settling past taken same fal
     same ∙ subst (λ (d : Bool). RecoveredTo old.party d bucket settling.events settling.taken) e settling.recovered
 
 pub settled_all : (process : ℕ) (old new : FileLog) (detached : Bool) (bucket freed : ℕ) → Settling process old detached bucket freed new →
-    old.scene.buckets ≤ bucket → IsSettled process old detached (Flags old.party 0) freed new (Settled old.party)
+    old.scene.buckets ≤ bucket → IsSettled process old detached (Flags old.party 0) freed [] new (Settled old.party)
 settled_all process old new detached bucket freed settling past =
     let mine : new.party ≡ old.party = ap (λ (l : FileLog). l.party) settling.gets in
     let same : new.scene ≡ old.scene = ap (λ (l : FileLog). l.scene) settling.gets in
@@ -337,6 +359,8 @@ settled_all process old new detached bucket freed settling past =
           (ends new process bucket (subst (λ (s : ℕ). s ≤ bucket) (sym (ap (λ scene. scene.buckets) same)) past))));
       frees = settling.frees;
       recovered = recovered_all process old new detached bucket freed settling past (Next process ∷ settling.taken) refl detached refl;
+      settles = settling.settles;
+      counts = settling.quiet;
       unknown = λ other below. settling.unknown other (omega (arith, below, past));
     }
 
@@ -345,23 +369,31 @@ settled_all process old new detached bucket freed settling past =
 abbrev pub max_life : ℕ
 max_life = 18446744073709551615
 
-pub is_over : (old new : FileLog) (life : ℕ) → new ≡ told old (LoadLife life) → 18446744073709551612 ≤ life → IsOver old new
-is_over old new life is most = (life, is, omega (arith, most))
-
 module _ (process : ℕ) (old : FileLog) (life : ℕ) where
   abbrev loaded : FileLog
   loaded = told old (LoadLife life)
 
   pub counted_lock : (one new : FileLog) → one ≡ loaded → new ≡ told one (StoreLife (life + 2)) →
-      IsCounted process old (Some life) new
-  counted_lock one new e1 e2 =
+      life < 18446744073709551612 → IsCounted process old (Some life) new
+  counted_lock one new e1 e2 under =
       let e : new ≡ told loaded (StoreLife (life + 2)) = e2 ∙ ap (λ log. told log (StoreLife (life + 2))) e1 in (
         e,
         walk_on process old loaded new (Counting old.party) (Counting old.party) (Flags old.party 0) [] (Count process (life + 2) ∷ [])
             (walk_look process old loaded (Counting old.party) (LoadLife life) tt refl)
             (walk_step process loaded new (Counting old.party) (StoreLife (life + 2)) (Count process (life + 2)) (Flags old.party 0) refl
             (counts loaded process life (life + 2) refl (omega arith)) e),
+        omega (arith, under),
       )
+
+  already_by : (parity : ℕ) (is : Bool) → (life ≡ max_life) →
+      (if is then LoadLife life ∷ []
+      else (if life == 18446744073709551615 then LoadLife life ∷ [] else StoreLife (life + 1) ∷ LoadLife life ∷ [])) ≡ LoadLife life ∷ []
+  already_by parity true most = refl
+  already_by parity false most = rw (test_same life 18446744073709551615 most) refl
+
+  already : (parity : ℕ) → ((life % 2 ≡ parity) ⊎ (life ≡ max_life)) → counting parity life ≡ LoadLife life ∷ []
+  already parity (inl same) = rw (test_same (life % 2) parity same) refl
+  already parity (inr most) = already_by parity (life % 2 == parity) most
 
   -- the life says already what the process counts, or can't become greater
   pub counted_already : (new : FileLog) (parity : ℕ) → new ≡ loaded → ((life % 2 ≡ parity) ⊎ (life ≡ max_life)) →
@@ -376,12 +408,15 @@ module _ (process : ℕ) (old : FileLog) (life : ℕ) where
     taken = [];
     walk = walk_look process old new (Settled old.party) (LoadLife life) tt e;
     recovers_none = refl;
+    settles = refl;
+    found = life;
+    counts = sym (already parity says);
     same = λ bucket. ap (λ l. known_of l bucket) e;
   }
 
   pub counted_now : (one new : FileLog) (parity : ℕ) → one ≡ loaded → new ≡ told one (StoreLife (life + 1)) →
-      (life + 1) % 2 ≡ parity → IsCountedOn process old parity new
-  counted_now one new parity e1 e2 says =
+      (life + 1) % 2 ≡ parity → ¬ (life % 2 ≡ parity) → life < max_life → IsCountedOn process old parity new
+  counted_now one new parity e1 e2 says other less =
       let e : new ≡ told loaded (StoreLife (life + 1)) = e2 ∙ ap (λ log. told log (StoreLife (life + 1))) e1 in
       record {
         life = life + 1;
@@ -396,24 +431,32 @@ module _ (process : ℕ) (old : FileLog) (life : ℕ) where
             (walk_step process loaded new (Settled old.party) (StoreLife (life + 1)) (Count process (life + 1)) (Settled old.party) refl
             (counts_on loaded process life (life + 1) refl (omega arith)) e);
         recovers_none = refl;
+        settles = refl;
+        found = life;
+        counts = rw (
+          ne_eqb (life % 2) parity other,
+          ne_eqb life 18446744073709551615 (λ e. absurd (omega (arith, less, e))),
+        ) refl;
         same = λ bucket. ap (λ l. known_of l bucket) e;
       }
 
 -- WHOLE CALLS
 
 -- events that give back nothing, and steps that take back nothing
-pub record Quiet (process : ℕ) (old : FileLog) (from : Place) (new : FileLog) (there : Place) : Type 0 where
+pub record Quiet (process : ℕ) (old : FileLog) (from : Place) (lives : List Event) (new : FileLog) (there : Place) : Type 0 where
   pub events : List Event
   pub gets : Gets old events new
   pub taken : List FileStep
   pub walk : IsWalk process old from new taken there
   pub frees : freed_in events ≡ 0
   pub recovers_none : has_some calls.recovers taken ≡ false
+  pub settles : has_some calls.strays taken ≡ false
+  pub counts : on_life events ≡ lives
   pub same : (bucket : ℕ) → known_of new bucket ≡ known_of old bucket
 
 quiet_move : (process : ℕ) (log : FileLog) (here : Place) (step : FileStep) (there : Place) → calls.recovers step ≡ false →
-    IsWalk process log here log (step ∷ []) there → Quiet process log here log there
-quiet_move process log here step there none walk =
+    calls.strays step ≡ false → IsWalk process log here log (step ∷ []) there → Quiet process log here [] log there
+quiet_move process log here step there none settler walk =
     record {
       events = [];
       gets = refl;
@@ -421,19 +464,21 @@ quiet_move process log here step there none walk =
       walk = walk;
       frees = refl;
       recovers_none = rw none refl;
+      settles = rw settler refl;
+      counts = refl;
       same = λ bucket. refl;
     }
 
-pub quiet_leaves : (process : ℕ) (log : FileLog) → Quiet process log Outside log (Flags log.party 0)
-quiet_leaves process log = quiet_move process log Outside (Leave process log.party) (Flags log.party 0) refl
+pub quiet_leaves : (process : ℕ) (log : FileLog) → Quiet process log Outside [] log (Flags log.party 0)
+quiet_leaves process log = quiet_move process log Outside (Leave process log.party) (Flags log.party 0) refl refl
     (walk_move process log Outside (Leave process log.party) (Flags log.party 0) refl (leaves log process))
 
-pub quiet_stays : (process : ℕ) (log : FileLog) → Quiet process log (Settled log.party) log Outside
-quiet_stays process log = quiet_move process log (Settled log.party) (Next process) Outside refl
+pub quiet_stays : (process : ℕ) (log : FileLog) → Quiet process log (Settled log.party) [] log Outside
+quiet_stays process log = quiet_move process log (Settled log.party) (Next process) Outside refl refl
     (walk_move process log (Settled log.party) (Next process) Outside refl (stays log process))
 
 quiet_locked : (process : ℕ) (old new : FileLog) (life : ℕ) → IsCounted process old (Some life) new →
-    Quiet process old (Counting old.party) new (Flags old.party 0)
+    Quiet process old (Counting old.party) (locking life) new (Flags old.party 0)
 quiet_locked process old new life counted = record {
   events = StoreLife (life + 2) ∷ LoadLife life ∷ [];
   gets = counted.0;
@@ -441,11 +486,13 @@ quiet_locked process old new life counted = record {
   walk = counted.1;
   frees = refl;
   recovers_none = refl;
+  settles = refl;
+  counts = refl;
   same = λ bucket. ap (λ l. known_of l bucket) counted.0;
 }
 
-quiet_counted : (process : ℕ) (old new : FileLog) (parity : ℕ) → IsCountedOn process old parity new →
-    Quiet process old (Settled old.party) new (Settled old.party)
+quiet_counted : (process : ℕ) (old new : FileLog) (parity : ℕ) (counted : IsCountedOn process old parity new) →
+    Quiet process old (Settled old.party) (counting parity counted.found) new (Settled old.party)
 quiet_counted process old new parity counted = record {
   events = counted.events;
   gets = counted.gets;
@@ -453,6 +500,8 @@ quiet_counted process old new parity counted = record {
   walk = counted.walk;
   frees = counted.frees;
   recovers_none = counted.recovers_none;
+  settles = counted.settles;
+  counts = counted.counts;
   same = counted.same;
 }
 
@@ -460,9 +509,9 @@ quiet_counted process old new parity counted = record {
 party_on : (old new : FileLog) (events : List Event) → Gets old events new → new.party ≡ old.party
 party_on old new events gets = ap (λ (log : FileLog). log.party) gets
 
-module _ (process : ℕ) (old middle new : FileLog) (detached : Bool) (freed : ℕ) (from over there : Place) where
-  recovered_after : (is : Bool) → detached ≡ is → (quiet : Quiet process old from middle over) →
-      (settled : IsSettled process middle detached over freed new there) →
+module _ (process : ℕ) (old middle new : FileLog) (detached : Bool) (freed : ℕ) (lives more : List Event) (from over there : Place) where
+  recovered_after : (is : Bool) → detached ≡ is → (quiet : Quiet process old from lives middle over) →
+      (settled : IsSettled process middle detached over freed more new there) →
       IsRecovered old is (settled.events ++ quiet.events) (settled.taken ++ quiet.taken)
   recovered_after true e quiet settled = λ bucket below.
       has_next (tries old.party bucket) quiet.events settled.events
@@ -473,8 +522,8 @@ module _ (process : ℕ) (old middle new : FileLog) (detached : Bool) (freed : �
       (subst (λ (d : Bool). IsRecovered middle d settled.events settled.taken) e settled.recovered)
 
   -- a settler that has done something quiet before
-  pub settled_after : Quiet process old from middle over → IsSettled process middle detached over freed new there →
-      IsSettled process old detached from freed new there
+  pub settled_after : Quiet process old from lives middle over → IsSettled process middle detached over freed more new there →
+      IsSettled process old detached from freed (more ++ lives) new there
   settled_after quiet settled = record {
     events = settled.events ++ quiet.events;
     gets = gets_on old middle new quiet.events settled.events quiet.gets settled.gets;
@@ -482,12 +531,14 @@ module _ (process : ℕ) (old middle new : FileLog) (detached : Bool) (freed : �
     walk = walk_on process old middle new from over there quiet.taken settled.taken quiet.walk settled.walk;
     frees = let on = freed_on settled.events quiet.events in let one = quiet.frees in let two = settled.frees in omega (arith, on, one, two);
     recovered = recovered_after detached refl quiet settled;
+    settles = has_none calls.strays quiet.taken settled.taken quiet.settles settled.settles;
+    counts = on_lives settled.events quiet.events more lives settled.counts quiet.counts;
     unknown = λ bucket below. settled.unknown bucket
         (subst (λ (n : ℕ). bucket < n) (sym (ap (λ (log : FileLog). log.scene.buckets) quiet.gets)) below);
   }
 
-  recovered_before : (is : Bool) → detached ≡ is → (settled : IsSettled process old detached from freed middle over) →
-      (quiet : Quiet process middle over new there) → IsRecovered old is (quiet.events ++ settled.events) (quiet.taken ++ settled.taken)
+  recovered_before : (is : Bool) → detached ≡ is → (settled : IsSettled process old detached from freed lives middle over) →
+      (quiet : Quiet process middle over more new there) → IsRecovered old is (quiet.events ++ settled.events) (quiet.taken ++ settled.taken)
   recovered_before true e settled quiet = λ bucket below.
       has_first (tries old.party bucket) settled.events quiet.events
       (subst (λ (d : Bool). IsRecovered old d settled.events settled.taken) e settled.recovered bucket below)
@@ -495,8 +546,8 @@ module _ (process : ℕ) (old middle new : FileLog) (detached : Bool) (freed : �
       (subst (λ (d : Bool). IsRecovered old d settled.events settled.taken) e settled.recovered) quiet.recovers_none
 
   -- a settler that does something quiet afterwards
-  pub settled_before : IsSettled process old detached from freed middle over → Quiet process middle over new there →
-      IsSettled process old detached from freed new there
+  pub settled_before : IsSettled process old detached from freed lives middle over → Quiet process middle over more new there →
+      IsSettled process old detached from freed (more ++ lives) new there
   settled_before settled quiet = record {
     events = quiet.events ++ settled.events;
     gets = gets_on old middle new settled.events quiet.events settled.gets quiet.gets;
@@ -504,33 +555,44 @@ module _ (process : ℕ) (old middle new : FileLog) (detached : Bool) (freed : �
     walk = walk_on process old middle new from over there settled.taken quiet.taken settled.walk quiet.walk;
     frees = let on = freed_on quiet.events settled.events in let one = quiet.frees in let two = settled.frees in omega (arith, on, one, two);
     recovered = recovered_before detached refl settled quiet;
+    settles = has_none calls.strays settled.taken quiet.taken settled.settles quiet.settles;
+    counts = on_lives quiet.events settled.events more lives quiet.counts settled.counts;
     unknown = λ bucket below. quiet.same bucket ∙ settled.unknown bucket below;
   }
 
+append_none : (events : List Event) → events ++ [] ≡ events
+append_none [] = refl
+append_none (event ∷ events) = ap (λ rest. event ∷ rest) (append_none events)
+
 module _ (process : ℕ) (old new : FileLog) (freed : ℕ) where
   -- a party that settles its number in a call
-  left_settled : IsSettled process old false (Flags old.party 0) freed new (Settled old.party) →
-      IsSettled process old false Outside freed new (Settled old.party)
-  left_settled settled = settled_after process old old new false freed Outside (Flags old.party 0) (Settled old.party)
+  left_settled : IsSettled process old false (Flags old.party 0) freed [] new (Settled old.party) →
+      IsSettled process old false Outside freed [] new (Settled old.party)
+  left_settled settled = settled_after process old old new false freed [] [] Outside (Flags old.party 0) (Settled old.party)
       (quiet_leaves process old) settled
 
-  pub gives_all_back : IsSettled process old false (Flags old.party 0) freed new (Settled old.party) →
-      IsSettled process old false Outside freed new Outside
+  pub gives_all_back : IsSettled process old false (Flags old.party 0) freed [] new (Settled old.party) →
+      IsSettled process old false Outside freed [] new Outside
   gives_all_back settled =
-      settled_before process old new new false freed Outside (Settled old.party) Outside (left_settled settled)
-      (subst (λ (p : ℕ). Quiet process new (Settled p) new Outside) (party_on old new settled.events settled.gets)
+      settled_before process old new new false freed [] [] Outside (Settled old.party) Outside (left_settled settled)
+      (subst (λ (p : ℕ). Quiet process new (Settled p) [] new Outside) (party_on old new settled.events settled.gets)
       (quiet_stays process new))
 
   module _ (last : FileLog) (parity : ℕ) (counted : IsCountedOn process new parity last) where
-    quiet_on : (party : ℕ) → new.party ≡ party → Quiet process new (Settled party) last (Settled party)
-    quiet_on party mine = subst (λ (p : ℕ). Quiet process new (Settled p) last (Settled p)) mine
+    quiet_on : (party : ℕ) → new.party ≡ party → Quiet process new (Settled party) (counting parity counted.found) last (Settled party)
+    quiet_on party mine = subst (λ (p : ℕ). Quiet process new (Settled p) (counting parity counted.found) last (Settled p)) mine
         (quiet_counted process new last parity counted)
 
-    pub has_left : parity ≡ 0 → IsSettled process old false (Flags old.party 0) freed new (Settled old.party) →
+    pub has_left : parity ≡ 0 → IsSettled process old false (Flags old.party 0) freed [] new (Settled old.party) →
         calls.IsLeave process old freed last
     has_left even settled = (
-      settled_before process old new last false freed Outside (Settled old.party) (Settled old.party) (left_settled settled)
-          (quiet_on old.party (party_on old new settled.events settled.gets)),
+      (
+        counted.found,
+        subst (λ (p : ℕ). IsSettled process old false Outside freed (counting p counted.found) last (Settled old.party)) even
+            (subst (λ events. IsSettled process old false Outside freed events last (Settled old.party))
+            (append_none (counting parity counted.found)) (settled_before process old new last false freed [] (counting parity counted.found) Outside (Settled old.party) (Settled old.party)
+            (left_settled settled) (quiet_on old.party (party_on old new settled.events settled.gets)))),
+      ),
       (counted.life, counted.is_life, subst (λ (p : ℕ). (counted.life % 2 ≡ p) ⊎ (counted.life ≡ max_life)) even counted.says),
     )
 
@@ -542,38 +604,43 @@ module _ (process : ℕ) (old locked new : FileLog) (life freed : ℕ) (counted 
   party_locked : locked.party ≡ old.party
   party_locked = party_on old locked (StoreLife (life + 2) ∷ LoadLife life ∷ []) counted.0
 
-  settled_locked : (detached : Bool) → IsSettled process locked detached (Flags locked.party 0) freed new (Settled locked.party) →
-      IsSettled process old detached (Counting old.party) freed new (Settled old.party)
+  settled_locked : (detached : Bool) → IsSettled process locked detached (Flags locked.party 0) freed [] new (Settled locked.party) →
+      IsSettled process old detached (Counting old.party) freed (locking life) new (Settled old.party)
   settled_locked detached settled =
-      settled_after process old locked new detached freed (Counting old.party) (Flags old.party 0) (Settled old.party)
+      settled_after process old locked new detached freed (locking life) [] (Counting old.party) (Flags old.party 0) (Settled old.party)
       (quiet_locked process old locked life counted)
-      (subst (λ (p : ℕ). IsSettled process locked detached (Flags p 0) freed new (Settled p)) party_locked settled)
+      (subst (λ (p : ℕ). IsSettled process locked detached (Flags p 0) freed [] new (Settled p)) party_locked settled)
 
   pub reaped : (dead left detached : Bool) → detached ≡ calls.is_whose dead left life →
-      IsSettled process locked detached (Flags locked.party 0) freed new (Settled locked.party) →
+      IsSettled process locked detached (Flags locked.party 0) freed [] new (Settled locked.party) →
       calls.IsReap process old dead left (Some freed) new
   reaped dead left detached whose settled = (
     life,
+    counted.2,
     (
       settled.events ++ StoreLife (life + 2) ∷ [],
       gets_on old locked new (StoreLife (life + 2) ∷ LoadLife life ∷ []) settled.events counted.0 settled.gets
           ∙ ap (λ events. record old { events = events ++ old.events })
           (sym (append_assoc settled.events (StoreLife (life + 2) ∷ []) (LoadLife life ∷ []))),
     ),
-    subst (λ (d : Bool). IsSettled process old d (Counting old.party) freed new (Settled old.party)) whose
+    subst (λ (d : Bool). IsSettled process old d (Counting old.party) freed (locking life) new (Settled old.party)) whose
         (settled_locked detached settled),
   )
 
-  pub joined : (last : FileLog) → IsSettled process locked false (Flags locked.party 0) freed new (Settled locked.party) →
+  pub joined : (last : FileLog) → IsSettled process locked false (Flags locked.party 0) freed [] new (Settled locked.party) →
       IsCountedOn process new 1 last → calls.IsJoin process old true last
   joined last settled counted_on =
       let mine : new.party ≡ old.party = party_on locked new settled.events settled.gets ∙ party_locked in
       let mine' : last.party ≡ old.party = party_on new last counted_on.events counted_on.gets ∙ mine in (
         freed,
-        settled_before process old last last false freed (Counting old.party) (Settled old.party) Outside
-            (settled_before process old new last false freed (Counting old.party) (Settled old.party) (Settled old.party)
-            (settled_locked false settled)
-            (subst (λ (p : ℕ). Quiet process new (Settled p) last (Settled p)) mine (quiet_counted process new last 1 counted_on)))
-            (subst (λ (p : ℕ). Quiet process last (Settled p) last Outside) mine' (quiet_stays process last)),
+        life,
+        counted_on.found,
+        counted.2,
+        settled_before process old last last false freed (counting 1 counted_on.found ++ locking life) [] (Counting old.party)
+            (Settled old.party) Outside
+            (settled_before process old new last false freed (locking life) (counting 1 counted_on.found) (Counting old.party)
+            (Settled old.party) (Settled old.party) (settled_locked false settled)
+            (subst (λ (p : ℕ). Quiet process new (Settled p) (counting 1 counted_on.found) last (Settled p)) mine (quiet_counted process new last 1 counted_on)))
+            (subst (λ (p : ℕ). Quiet process last (Settled p) [] last Outside) mine' (quiet_stays process last)),
         (counted_on.life, counted_on.is_life, odd_life counted_on.life counted_on.says),
       )

@@ -1,9 +1,11 @@
+pub mod FileBeginnings
 pub mod FileBuckets
 pub mod FileEvents
 pub mod FileFlagWords
 pub mod FileKnows
 pub mod FileMade
 pub mod FileMessages
+pub mod FileNotes
 pub mod FileProcesses
 pub mod FileRecords
 pub mod FileRows

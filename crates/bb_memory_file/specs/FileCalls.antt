@@ -2,9 +2,9 @@
 --
 -- Each call takes some steps of the machine. A call that refuses says what it found: the events that
 -- its log gets are the operations that it made.
-use Rattle.bb_memory_file.specs.FileCode.{EmptySlot, Event, ExchangeFlag, ExchangeSlot, FileLog, Has, HasNot, Holds, IsWalk, Known, LoadEntry, LoadFlag, LoadLife, LoadSlot, MissFlag, MissSlot, Seen, StoreEntry, StoreFlag, Unknown, Unseen, known_of, life_by}
-use Rattle.bb_memory_file.specs.FileLog.{IsLap, gained}
-use Rattle.bb_memory_file.specs.FileNames.{Allocate, AttachNumber, Counting, Deallocate, DetachNumber, DetachedBy, Done, Empty, Entry, FileFlag, FileStep, Fill, Free, HeldBy, In, Message, Next, Nowhere, Outside, Place, Post, PutBack, Recover, SentTo, Settled, Take}
+use Rattle.bb_memory_file.specs.FileCode.{EmptySlot, Event, ExchangeFlag, ExchangeSlot, FileLog, Has, HasNot, Holds, IsWalk, Known, LoadEntry, LoadFlag, LoadLife, LoadSlot, MissFlag, MissSlot, Seen, StoreEntry, StoreFlag, StoreLife, Unknown, Unseen, known_of, life_by}
+use Rattle.bb_memory_file.specs.FileLog.{IsLap}
+use Rattle.bb_memory_file.specs.FileNames.{Allocate, AttachNumber, Count, Counting, Deallocate, DetachNumber, DetachedBy, Done, Empty, Entry, FileFlag, FileStep, Fill, Free, HeldBy, In, Leave, Message, Next, Nowhere, Outside, Place, Post, PutBack, Recover, SentTo, Settled, Take}
 pub use Rattle.bb_memory_file.specs.declared.calls.Received.{Received}
 pub use Rattle.bb_memory_file.specs.declared.calls.Received.TheVariants as received
 pub use Rattle.bb_memory_file.specs.declared.calls.Whereabouts.{Whereabouts}
@@ -44,7 +44,7 @@ IsPassed first bucket other =
 -- the party knows that it has taken the bucket, which was free, and of each other bucket what it knew
 abbrev pub IsGained : FileLog → ℕ → FileLog → Type 0
 IsGained old bucket new =
-    (known_of new bucket ≡ gained (known_of old bucket) Free)
+    (known_of new bucket ≡ Holds (Some Nowhere) Unseen)
     × ((other : ℕ) → other ≢ bucket → known_of new other ≡ known_of old other)
 
 -- Of these buckets the call has taken the first that was free when it came there, or none was.
@@ -153,6 +153,27 @@ abbrev pub freed_in : List Event → ℕ
 freed_in [] = 0
 freed_in (event ∷ events) = frees event + freed_in events
 
+-- the event is one on the life of the party's number
+abbrev pub is_on_life : Event → Bool
+is_on_life (LoadLife found) = true
+is_on_life (StoreLife to) = true
+is_on_life event = false
+
+-- those of these events that are on the life of the party's number
+abbrev pub on_life : List Event → List Event
+on_life [] = []
+on_life (event ∷ events) = if is_on_life event then event ∷ on_life events else on_life events
+
+-- the operations by which a process counts that it has taken the number's lock
+abbrev pub locking : ℕ → List Event
+locking life = StoreLife (life + 2) ∷ LoadLife life ∷ []
+
+-- the operations by which a process makes this life have the parity, if it can
+abbrev pub counting : ℕ → ℕ → List Event
+counting parity life =
+    if life % 2 == parity then LoadLife life ∷ []
+    else (if life == 2 ^ 64 - 1 then LoadLife life ∷ [] else StoreLife (life + 1) ∷ LoadLife life ∷ [])
+
 -- what a party knows, without what it has seen of slots
 abbrev pub unseen : Known → Known
 unseen Unknown = Unknown
@@ -171,6 +192,7 @@ pub record IsFound (old : FileLog) (bucket : ℕ) (answer : Whereabouts) (new : 
   pub events : List Event
   pub gets : Gets old events new
   pub frees : freed_in events ≡ 0
+  pub quiet : on_life events ≡ []
   pub looks : (process : ℕ) (here : Place) → IsWalk process old here new [] here
   pub found : IsAt bucket answer new
   pub others : (other : ℕ) → other ≢ bucket → unseen (known_of new other) ≡ unseen (known_of old other)
@@ -203,6 +225,14 @@ abbrev pub recovers : FileStep → Bool
 recovers (Recover process) = true
 recovers step = false
 
+-- the step is none of those that a settler takes
+abbrev pub strays : FileStep → Bool
+strays (Count process life) = false
+strays (Leave process party) = false
+strays (Next process) = false
+strays (Recover process) = false
+strays step = true
+
 -- what a settler does about detached buckets: it takes back each, or none
 abbrev pub IsRecovered : FileLog → Bool → List Event → List FileStep → Type 0
 IsRecovered old true events taken =
@@ -211,12 +241,14 @@ IsRecovered old false events taken = has_some recovers taken ≡ false
 
 -- The call walks from one place to another, and gives back so many buckets. If it is to, it also takes
 -- back each bucket that the party has detached.
-pub record IsSettled (process : ℕ) (old : FileLog) (detached : Bool) (from : Place) (freed : ℕ) (new : FileLog) (there : Place) : Type 0 where
+pub record IsSettled (process : ℕ) (old : FileLog) (detached : Bool) (from : Place) (freed : ℕ) (lives : List Event) (new : FileLog) (there : Place) : Type 0 where
   pub events : List Event
   pub gets : Gets old events new
   pub taken : List FileStep
   pub walk : IsWalk process old from new taken there
   pub frees : freed_in events ≡ freed
+  pub settles : has_some strays taken ≡ false
+  pub counts : on_life events ≡ lives
   pub recovered : IsRecovered old detached events taken
   pub unknown : (bucket : ℕ) → bucket < old.scene.buckets → known_of new bucket ≡ Unknown
 
@@ -231,14 +263,15 @@ IsOver old new = (life : ℕ) × Gets old (LoadLife life ∷ []) new × (2 ^ 64 
 -- the call has joined as the number, whose life is odd now, or found the life to be over
 abbrev pub IsJoin : ℕ → FileLog → Bool → FileLog → Type 0
 IsJoin process old true new =
-    (freed : ℕ) × IsSettled process old false (Counting old.party) freed new Outside
+    (freed : ℕ) × (found : ℕ) × (other : ℕ) × (found + 4 < 2 ^ 64)
+    × IsSettled process old false (Counting old.party) freed (counting 1 other ++ locking found) new Outside
     × ((life : ℕ) × IsLifeOf new life × (life % 2 ≡ 1))
 IsJoin process old false new = IsOver old new
 
 -- the call has settled the number, whose life is even now, or as great as it can be
 abbrev pub IsLeave : ℕ → FileLog → ℕ → FileLog → Type 0
 IsLeave process old freed new =
-    IsSettled process old false Outside freed new (Settled old.party)
+    ((found : ℕ) × IsSettled process old false Outside freed (counting 0 found) new (Settled old.party))
     × ((life : ℕ) × IsLifeOf new life × ((life % 2 ≡ 0) ⊎ (life ≡ 2 ^ 64 - 1)))
 
 -- whether the settler is to take back what a number with this life has detached: an odd life says that
@@ -249,6 +282,6 @@ is_whose dead left life = if life % 2 == 1 then dead else left
 -- The call has found this life and has settled the number, or found the life to be over.
 abbrev pub IsReap : ℕ → FileLog → Bool → Bool → Option ℕ → FileLog → Type 0
 IsReap process old dead left (Some freed) new =
-    (life : ℕ) × ((events : List Event) × Gets old (events ++ LoadLife life ∷ []) new)
-    × IsSettled process old (is_whose dead left life) (Counting old.party) freed new (Settled old.party)
+    (life : ℕ) × (life + 4 < 2 ^ 64) × ((events : List Event) × Gets old (events ++ LoadLife life ∷ []) new)
+    × IsSettled process old (is_whose dead left life) (Counting old.party) freed (locking life) new (Settled old.party)
 IsReap process old dead left None new = IsOver old new

@@ -20,17 +20,19 @@ pub record IsGeometry (geometry : FileGeometry) (words : ℕ) : Type 0 where
   pub row : geometry.first_slot + 16 * geometry.slots ≤ words
   pub numbered : words < 2 ^ 64
 
--- the numbers of the words of a flag, an entry, a life and a slot
-
+-- the number of the word of a bucket's flag
 abbrev pub flag_at : FileGeometry → ℕ → ℕ
 flag_at geometry bucket = geometry.first_flag + bucket
 
+-- the number of the word of a party's life
 abbrev pub life_at : FileGeometry → ℕ → ℕ
 life_at geometry party = geometry.first_life + party
 
+-- the number of the word of a bucket's entry
 abbrev pub entry_at : FileGeometry → ℕ → ℕ
 entry_at geometry bucket = geometry.first_entry + bucket
 
+-- the number of a slot's word
 abbrev pub slot_at : FileGeometry → ℕ → ℕ
 slot_at geometry slot = geometry.first_slot + 16 * slot
 

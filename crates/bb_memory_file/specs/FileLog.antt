@@ -43,12 +43,6 @@ taken_from (DetachedBy party) = Holds (Some Nowhere) Unseen
 taken_from (SentTo slot lap) = Holds None (Has slot lap)
 taken_from (HeldBy party) = Holds None Unseen
 
--- What it knows once it has taken the bucket by an exchange of this flag. If it held the bucket, no
--- exchange can have found such a flag, so it knows what it knew.
-abbrev pub gained : Known → FileFlag → Known
-gained Unknown from = taken_from from
-gained (Holds entry seen) from = Holds entry seen
-
 -- what it knows once it has seen that it holds the bucket
 abbrev pub held_still : Known → Known
 held_still Unknown = Holds None Unseen
@@ -74,7 +68,7 @@ abbrev pub learns : ℕ → ℕ → Known → Event → Known
 learns party bucket known (LoadFlag other found) =
     if other == bucket then (if same_flag found (HeldBy party) then held_still known else Unknown) else known
 learns party bucket known (ExchangeFlag other from to) =
-    if other == bucket then (if same_flag to (HeldBy party) then gained known from else Unknown) else known
+    if other == bucket then (if same_flag to (HeldBy party) then taken_from from else Unknown) else known
 learns party bucket known (MissFlag other from) = known
 learns party bucket known (StoreFlag other to) = if other == bucket then Unknown else known
 learns party bucket known (LoadEntry other found) = if other == bucket then with_entry known found else known

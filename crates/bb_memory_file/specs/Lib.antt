@@ -3,6 +3,7 @@ pub mod FileCode
 pub mod FileFormat
 pub mod FileLog
 pub mod FileNames
+pub mod FileNotes
 pub mod FileOperations
 pub mod FileParties
 pub mod FileRecords

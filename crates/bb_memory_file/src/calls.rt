@@ -3,7 +3,7 @@
 //! Each of them is given a party whose lock this process has, and what it needs to know of a bucket
 //! is in its `requires`: that the party holds the bucket, and what the bucket's entry says.
 ghost use Rattle.bb_memory_file.specs.FileCalls.{AllocateSays, IsAttach, IsDeallocate, IsDetach, IsDone, IsFound, IsJoin, IsLeave, IsPost, IsPutBack, IsReap, IsReceive, IsSettled, SearchSays, is_fit, length_in};
-ghost use Rattle.bb_memory_file.specs.FileLog.{IsKnownIn, IsLap, Unknown, is_clear, is_held, known_of};
+ghost use Rattle.bb_memory_file.specs.FileLog.{IsKnownIn, IsLap, is_clear, is_held, known_of};
 ghost use Rattle.bb_memory_file.specs.FileNames.{Deallocate, DetachNumber, Done, Flags, Next, Outside, Settled};
 ghost use Rattle.bb_memory_file.specs.FileSettlers.{IsCounted, IsCountedOn, IsRecover, IsSettledAt};
 ghost use Rattle.bb_memory_file_machine.specs.FileMachine.{same_flag};
@@ -109,12 +109,11 @@ pub fn post<W: Words>(words: &mut W, slot: u32, bucket: u32, length: u32) -> boo
     true
 }
 
-/// Takes the message in this bucket, which the party doesn't hold, and which a load of the slot has
-/// found there at this lap. `size` is the size of a bucket in bytes.
+/// Takes the message in this bucket, which a load of the slot has found there at this lap. `size` is
+/// the size of a bucket in bytes.
 pub fn receive<W: Words>(words: &mut W, slot: u32, lap: u32, bucket: u32, size: u32) -> Received
     requires lap { IsLap lap }
     requires below { bucket < (W.log words.old).scene.buckets }
-    requires unknown { known_of (W.log words.old) bucket ≡ Unknown }
     ensures { (process : ℕ) → IsReceive process (W.log words.old) slot lap bucket size result (W.log words.new) }
 {
     let sent = FileFlag::SentTo { slot, lap };
@@ -176,7 +175,7 @@ pub fn join<W: Words>(words: &mut W) -> bool
 /// Gives back all buckets that the party holds, but for its messages, which are put back. Returns how
 /// many these were.
 pub fn give_all_back<W: Words>(words: &mut W) -> u32
-    ensures { (process : ℕ) → IsSettled process (W.log words.old) false Outside result (W.log words.new) Outside }
+    ensures { (process : ℕ) → IsSettled process (W.log words.old) false Outside result [] (W.log words.new) Outside }
 {
     settle(words, false)
 }
@@ -208,7 +207,7 @@ pub fn reap<W: Words>(words: &mut W, dead: bool, left: bool) -> Option<u32>
 /// or for the first time if it was killed before it had sent them. If `detached` is true, also gives
 /// back what it has detached. Returns how many buckets were given back.
 fn settle<W: Words>(words: &mut W, detached: bool) -> u32
-    ensures { (process : ℕ) → IsSettled process (W.log words.old) detached (Flags (W.log words.old).party 0) result (W.log words.new) (Settled (W.log words.old).party) }
+    ensures { (process : ℕ) → IsSettled process (W.log words.old) detached (Flags (W.log words.old).party 0) result [] (W.log words.new) (Settled (W.log words.old).party) }
 {
     let mut freed = 0;
     for bucket in 0..words.buckets() {
@@ -257,7 +256,7 @@ fn settle_bucket<W: Words>(words: &mut W, bucket: u32) -> bool
 
 // LOOKS
 
-/// Looks where a bucket is that the party holds.
+/// Finds out whether a slot has a bucket that the party holds.
 fn find<W: Words>(words: &mut W, bucket: u32) -> Whereabouts
     requires below { bucket < (W.log words.old).scene.buckets }
     requires held { is_held (known_of (W.log words.old) bucket) ≡ true }

@@ -1,16 +1,16 @@
-//! What the walks of calls have to do with the machine of a pool in a file.
+//! Laws that lead from the calls' contracts to the machine of a pool in a file.
 ghost use Rattle.bb_memory_file.specs.FileCode.{FileLog, Path};
 ghost use Rattle.bb_memory_file.specs.FileFormat.{IsGeometry};
 ghost use Rattle.bb_memory_file.specs.FileNames.{FileStep, Place};
 ghost use Rattle.bb_memory_file.specs.FileOperations.{IsMade};
-ghost use Rattle.bb_memory_file.specs.FileParties.{among};
+ghost use Rattle.bb_memory_file.specs.FileParties.{among, scene_of, with_processes};
 ghost use Rattle.bb_memory_file.specs.FileRecords.{IsRecord, IsTold};
 ghost use Rattle.bb_memory_file.specs.FileRows.{IsEvent, Says};
 ghost use Rattle.bb_memory_file.specs.FileRuns.{Act, IsMachines, IsRun};
 ghost use Rattle.bb_memory_file.specs.Recorded.{IsFoundIn, Run, WordEvent};
 ghost use Rattle.bb_memory_file.specs.declared.geometry.FileGeometry.{FileGeometry};
-ghost use Rattle.bb_memory_file_machine.specs.FileMachine.{FileScene, FileWords};
-ghost use Rattle.std.specs.Prelude.{List, length, ℕ, ◌<◌};
+ghost use Rattle.bb_memory_file_machine.specs.FileMachine.{FileScene, FileWords, opening_state};
+ghost use Rattle.std.specs.Prelude.{List, length, replicate, ℕ, ◌<◌};
 
 /// States that the code is the machine: whatever processes do to a file by these calls, in any order
 /// of their operations, killed anywhere, some steps of the machine leave the same words and locks,
@@ -23,12 +23,14 @@ pub fn file_code_theorem()
 
 /// States that the operations on a file's row of words are events on the words of the machine: each
 /// event finds there what its operation found in the row, and leaves the words that the row says
-/// afterwards. An exchange that misses its flag finds another flag. The function does nothing: its
-/// contract is the law.
+/// afterwards. An exchange that misses its flag finds another flag. A row of zeros says the words with
+/// which the machine begins. The function does nothing: its contract is the law.
 pub fn words_law()
     ensures event { (geometry : FileGeometry) (party : ℕ) (row : List ℕ) (words : FileWords) (operation : WordEvent)
         → IsGeometry geometry (length row) → party < geometry.parties → Says geometry row words
         → IsMade geometry party operation → IsFoundIn row operation → IsEvent geometry party row words operation }
+    ensures new_file { (geometry : FileGeometry) (words processes : ℕ) → IsGeometry geometry words
+        → Says geometry (replicate words 0) (opening_state (with_processes (scene_of geometry) processes)).words }
 {}
 
 /// States that the recorded operations of all hands on the words of a file, which began as a new

@@ -3,6 +3,7 @@
 //!
 //! - `words`: the atomic operations
 //! - `calls`: the calls
+//! - `joined`: a party that has joined, with its notes of buckets
 //! - `geometry`, `table`, `party`: the words of a file in one row, with the parties that operate on them
 //! - `laws`: what the calls and the row of words have to do with the machine
 #![tactic(auto)]
@@ -10,6 +11,7 @@
 pub mod calls;
 mod format;
 pub mod geometry;
+pub mod joined;
 pub mod laws;
 pub mod party;
 mod party_words;

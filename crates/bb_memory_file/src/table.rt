@@ -36,6 +36,20 @@ impl FileTable {
         Ok(FileTable { words, geometry })
     }
 
+    /// Makes the words of a new file of this geometry, which are all 0. Fails if memory runs out. The
+    /// first request for memory is for a list of zeros, which is freed, and the second is for the row.
+    pub fn of_zeros(
+        alloc: Global,
+        words: usize,
+        geometry: FileGeometry,
+    ) -> Result<FileTable, AllocError>
+        requires { IsGeometry geometry words }
+        ensures { IfOk result (λ table. table.geometry ≡ geometry) }
+    {
+        let zeros = Vec::from_elem(alloc, 0, words)?;
+        FileTable::new(alloc, zeros.as_slice(), geometry)
+    }
+
     /// Returns the geometry of the file.
     pub fn geometry(&self) -> FileGeometry
         ensures { result ≡ self.now.geometry }

@@ -4,6 +4,7 @@ mod SharedPoolDetached
 mod SharedPoolDetaching
 mod SharedPoolFlagSteps
 mod SharedPoolKeeps
+mod SharedPoolLater
 pub mod SharedPoolLaws
 mod SharedPoolLeaving
 mod SharedPoolLooks
@@ -15,5 +16,7 @@ mod SharedPoolParties
 mod SharedPoolPasses
 mod SharedPoolRequests
 mod SharedPoolSeats
+mod SharedPoolSending
+mod SharedPoolSends
 pub mod SharedPoolTries
 mod SharedPoolWholes

@@ -1,21 +1,27 @@
 -- Lists of cached buckets that lose their last bucket or get one more; how requests are then
 -- answered; and which buckets are in use.
+use Rattle.bb_memory_pool_machine.proofs.PoolHolders.{held_through}
+use Rattle.bb_memory_pool_machine.proofs.PoolSteps.{test_apart}
 use Rattle.bb_memory_pool_machine.specs.PoolLogs.{IsHeldAfter, PoolLog}
 use Rattle.bb_memory_shared_pools.proofs.SharedPoolLaws.{held_below}
+use Rattle.bb_memory_shared_pools.proofs.SharedPoolNextFit.{missed_same}
 use Rattle.bb_memory_shared_pools.proofs.SharedPoolRequests.{not_within, refused_unasked, unasked}
-use Rattle.bb_memory_shared_pools.specs.SharedPool.{IsParty, PoolParty, Serves, ServesAlone, SharedPool, TakenBucket, return_entry, taken_bucket, with_entries}
-use Rattle.bb_memory_shared_pools.specs.SharedPoolCaching.{AreAllOut, AreCached, CachingParty, IsOut, TakesCaching, returns_of}
-use Rattle.bb_memory_shared_pools.specs.SharedPoolNextFit.{MayTakeFrom, hint_of}
+use Rattle.bb_memory_shared_pools.proofs.SharedPoolTries.{held-append}
+use Rattle.bb_memory_shared_pools.specs.SharedPool.{IsParty, PoolParty, Serves, ServesAlone, SharedPool, TakenBucket, detach_entry, return_entry, taken_bucket, with_entries}
+use Rattle.bb_memory_shared_pools.specs.SharedPoolCaching.{AreAllOut, AreCached, CachingParty, IsOut, MissesFirst, ServesCaching, TakesCaching, returns_of}
+use Rattle.bb_memory_shared_pools.specs.SharedPoolNextFit.{BeginsSearch, MayTakeFrom, hint_of, probes_before}
 use Rattle.bb_memory_traits.proofs.Measures.{bucket-inside, bucket_place-multiple}
 use Rattle.bb_memory_traits.specs.Geometry.{Admits}
 use Rattle.bb_memory_traits.specs.PoolObject.{IsWithin}
 use Rattle.bb_memory_traits.specs.declared.allocator.AllocationError.{AllocationError}
 use Rattle.bb_memory_traits.specs.declared.layout.Layout.{Layout}
-use Rattle.std.proofs.Common.{List, [], ap, append_assoc, arith, length, refl, subst, sym, ℕ, ⊎_elim, ◌++◌, ◌∙◌, ◌∷◌, ◌≡◌, ◌≢◌}
+use Rattle.std.proofs.Common.{Bool, List, [], ap, append_assoc, arith, false, inl, inr, length, refl, subst, sym, true, ℕ, ⊎_elim, ◌++◌, ◌∙◌, ◌∷◌, ◌≡◌, ◌≢◌}
+use Rattle.std.proofs.lemmas.Bool.{cases_eq, false≢true}
+use Rattle.std.proofs.lemmas.Bool.Decides.{nat_tests}
 use Rattle.std.proofs.lemmas.List.{get_or_append_left, get_or_default, get_or_push, length_push, same_from_push}
 use Rattle.std.proofs.lemmas.List.Elements.{All-push, Contains-append_left, Contains-push, Contains-push_cases}
 use Rattle.std.proofs.lemmas.List.Quantifiers.{all_pairs_push}
-use Rattle.std.specs.Prelude.{Contains, Err, IfOk, IsErr, Ok, Result, ◌↔◌, ◌⊎◌}
+use Rattle.std.specs.Prelude.{Contains, Err, IfOk, IsErr, Ok, Result, if◌then◌else◌, ◌==◌, ◌↔◌, ◌⊎◌}
 
 -- a token's number
 pub number_of : (pool : SharedPool) (token : TakenBucket) (bucket len : ℕ) → token ≡ taken_bucket pool bucket len →
@@ -188,12 +194,12 @@ returns_push party (bucket ∷ others) last =
 pub returns_last : (party new : PoolParty) (cached before : List ℕ) (last bucket : ℕ) → cached ≡ before ++ last ∷ [] →
     bucket ≡ last → new ≡ with_entries party (return_entry party.number bucket) →
     with_entries new (returns_of new.number before) ≡ with_entries party (returns_of party.number cached)
-returns_last party new cached before last bucket is same then =
+returns_last party new cached before last bucket is same gave =
     let all = append_assoc party.log (return_entry party.number last) (returns_of party.number before)
     ∙ ap (λ (log : PoolLog). party.log ++ log)
     (sym (returns_push party.number before last) ∙ ap (λ (b : List ℕ). returns_of party.number b) (sym is)) in
     ap (λ (p : PoolParty). with_entries p (returns_of p.number before))
-    (then ∙ ap (λ (n : ℕ). with_entries party (return_entry party.number n)) same) ∙ λ i. record {
+    (gave ∙ ap (λ (n : ℕ). with_entries party (return_entry party.number n)) same) ∙ λ i. record {
       allocator = party.allocator;
       number = party.number;
       log = all i;
@@ -304,3 +310,110 @@ unfolding IsOut
 found_fresh old new layout (Ok bucket) answer =
     λ other out same. answer.0.free (subst (λ (n : ℕ). IsHeldAfter old.party.log n) same out.0)
 found_fresh old new layout (Err error) answer = tt
+
+-- WHOLE TAKINGS
+
+-- a taking of the bucket that was cached last
+pub serves_cached : (pool : SharedPool) (old : CachingParty) (party : PoolParty) (cached rest : List ℕ) (most last len : ℕ)
+    (token : TakenBucket) (layout : Layout) → record { party = party; cached = cached; most = most } ≡ old →
+    old.party.allocator ≡ pool → IsParty party → AreCached party cached → cached ≡ rest ++ last ∷ [] →
+    token ≡ taken_bucket pool last len → len ≡ layout.size → IsWithin pool.scene.geometry.bucket layout →
+    ServesCaching old layout (Ok token) (record { party = party; cached = rest; most = most })
+serves_cached pool old party cached rest most last len token layout is own its are cut token_is size within =
+    let new : CachingParty = record { party = party; cached = rest; most = most } in
+    let same_party = ap (λ (p : CachingParty). p.party) is in
+    let same_cached = ap (λ (p : CachingParty). p.cached) is in
+    let same_most = ap (λ (p : CachingParty). p.most) is in record {
+      answer = takes_last pool old new layout last len token same_party same_most own (sym same_cached ∙ cut) token_is size
+          within;
+      serves = served_last pool old.party party layout cached rest last len token same_party own its are cut token_is size
+          within;
+      taken = last_out party cached rest most last len pool token are cut token_is;
+      fresh = λ other. last_fresh old cached rest last len pool token other same_cached cut token_is;
+      others_kept = λ other. out_less old new last other same_party (sym same_cached ∙ cut);
+      others = λ other apart out. out_more new old last other (sym same_party) (sym same_cached ∙ cut)
+          (λ same. apart (same ∙ sym (ap (λ (b : TakenBucket). b.number) token_is))) out;
+      alone = λ one wanted. (
+        λ refused. absurd (false≢true refused),
+        λ all. absurd (last_not_all old cached rest last (subst (λ (p : CachingParty). IsParty p.party) is its)
+            (subst (λ (p : CachingParty). AreCached p.party p.cached) is are) same_cached cut all),
+      );
+      party = ap (λ (p : PoolParty). p.allocator) same_party;
+      most = same_most;
+    }
+
+-- a taking that searches the pool, as none is cached
+pub serves_searched : (pool : SharedPool) (old new : CachingParty) (layout : Layout) (result : Result TakenBucket AllocationError) →
+    old.party.allocator ≡ pool → old.cached ≡ [] → new ≡ record old { party = new.party } →
+    MayTakeFrom (hint_of old.party) old.party layout result new.party → ServesAlone pool old.party layout result new.party →
+    new.party.allocator ≡ pool → ServesCaching old layout result new
+serves_searched pool old new layout result own none unchanged answer told its =
+    let serves = subst (λ (p : SharedPool). ServesAlone p old.party layout result new.party) (sym own) told in
+    let now : new.cached ≡ [] = ap (λ (p : CachingParty). p.cached) unchanged ∙ none in record {
+      answer = searches old new layout result none answer serves unchanged;
+      serves = serves.serves;
+      taken = found_out old new layout none now result serves;
+      fresh = found_fresh old new.party layout result answer;
+      others_kept = found_kept old new layout none now result serves;
+      others = found_others old new layout none now result serves;
+      alone = found_alone old new layout none now result serves;
+      party = its ∙ sym own;
+      most = ap (λ (p : CachingParty). p.most) unchanged;
+    }
+
+-- a first probe that missed leaves the same buckets in use
+pub misses_first : (old new : CachingParty) → old.cached ≡ [] → BeginsSearch old.party new.party →
+    new ≡ record old { party = new.party } → MissesFirst old new
+unfolding IsOut
+misses_first old new none begun unchanged =
+    let buckets = old.party.allocator.scene.geometry.buckets in
+    let first = hint_of old.party in
+    let probes = probes_before buckets first in
+    let same : (bucket : ℕ) → held_through bucket false new.party.log ≡ held_through bucket false old.party.log =
+    λ bucket. ap (λ (p : PoolParty). held_through bucket false p.log) begun.logged
+    ∙ missed_same buckets old.party.number first probes bucket old.party.log in
+    let cached : new.cached ≡ old.cached = ap (λ (p : CachingParty). p.cached) unchanged in record {
+      none_cached = none;
+      party = begun;
+      unchanged = unchanged;
+      out = λ bucket. (
+        λ out. (same bucket ∙ out.0, λ at. out.1 (subst (λ (xs : List ℕ). Contains xs bucket) cached at)),
+        λ out. (sym (same bucket) ∙ out.0, λ at. out.1 (subst (λ (xs : List ℕ). Contains xs bucket) (sym cached) at)),
+      );
+    }
+
+-- a taking and a detachment, whichever way the bucket was taken
+module _ (old taken new : CachingParty) (bucket : TakenBucket) (layout : Layout) (serves : ServesCaching old layout (Ok bucket) taken)
+    (logged : new ≡ record taken { party = with_entries taken.party (detach_entry taken.party.number bucket.number) })
+  where
+    abbrev before : ℕ → Bool
+    before other = held_through other false taken.party.log
+
+    now_holds : (other : ℕ) → held_through other false new.party.log ≡ (if bucket.number == other then false else before other)
+    now_holds other = ap (λ (c : CachingParty). held_through other false c.party.log) logged
+        ∙ held-append other false taken.party.log (detach_entry taken.party.number bucket.number)
+
+    same_cached : new.cached ≡ taken.cached
+    same_cached = ap (λ (c : CachingParty). c.cached) logged
+
+    pub out_sent : (other : ℕ) → IsOut old other ↔ IsOut new other
+    unfolding IsOut
+    out_sent other = (
+      λ out.
+          let kept = serves.others_kept other out in
+          let apart = test_apart bucket.number other (λ same. serves.fresh other out (sym same)) in (
+            now_holds other ∙ ap (λ (b : Bool). if b then false else before other) apart ∙ kept.0,
+            λ at. kept.1 (subst (λ (xs : List ℕ). Contains xs other) same_cached at),
+          ),
+      λ out. elim (cases_eq other bucket.number) [
+        | inl same ↦
+            let here : (bucket.number == other) ≡ true = grind (arith, nat_tests, same) in
+            absurd (false≢true (sym (now_holds other ∙ ap (λ (b : Bool). if b then false else before other) here) ∙ out.0))
+        | inr apart ↦
+            let there = test_apart bucket.number other (λ same. apart (sym same)) in
+            serves.others other apart (
+              sym (now_holds other ∙ ap (λ (b : Bool). if b then false else before other) there) ∙ out.0,
+              λ at. out.1 (subst (λ (xs : List ℕ). Contains xs other) (sym same_cached) at),
+            )
+      ],
+    )

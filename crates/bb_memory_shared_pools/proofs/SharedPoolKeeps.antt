@@ -24,7 +24,7 @@ use mathlib.Core.Option.{none}
 -- EXCHANGES AND LOADS
 
 -- an idle party misses a taken bucket, by an exchange or by a load
-misses_at : (tells : StepEffect) (scene : PoolScene) (seat party bucket : ℕ) (log : PoolLog) (becomes : ℕ → ℕ) →
+pub misses_at : (tells : StepEffect) (scene : PoolScene) (seat party bucket : ℕ) (log : PoolLog) (becomes : ℕ → ℕ) →
     pass_in log ≡ None → ((mark : Flag) → is_taken mark ≡ true → becomes (as_word mark) ≡ as_word mark) →
     ((found : ℕ) (new : Me ℕ SeatView) → found ≢ 0 → AfterMiss scene party log bucket new →
     tells scene party log bucket found new) →

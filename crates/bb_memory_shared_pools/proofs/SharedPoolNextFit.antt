@@ -7,8 +7,9 @@ use Rattle.bb_memory_pool_machine.specs.declared.steps.pool.PoolOutcome.TheVaria
 use Rattle.bb_memory_seats.specs.Seats.{number_of, view_log}
 use Rattle.bb_memory_shared_pools.proofs.SharedPoolRequests.{HasAsked}
 use Rattle.bb_memory_shared_pools.proofs.SharedPoolTries.{held-append, hint-append, hint_through, test_below, test_not_below}
-use Rattle.bb_memory_shared_pools.specs.SharedPoolNextFit.{hint_after, miss_at, misses, probed, refused_search, start_of, taking_at, taking_search}
-use Rattle.bb_memory_shared_pools.specs.SharedPoolRule.{AfterGain, AfterMiss, AfterProbe, AfterRefusal, AfterSearchWin, IsInSearch, IsSeatOfIdle, SeatView, probes_before}
+use Rattle.bb_memory_shared_pools.specs.SharedPool.{detach_entry}
+use Rattle.bb_memory_shared_pools.specs.SharedPoolNextFit.{hint_after, miss_at, misses, probed, probes_before, refused_search, start_of, taking_at, taking_search}
+use Rattle.bb_memory_shared_pools.specs.SharedPoolRule.{AfterCall, AfterGain, AfterMiss, AfterProbe, AfterRefusal, AfterSearchSending, AfterSearchWin, AfterSending, AfterSendingProbe, IsInSearch, IsSeatOfIdle, SeatView}
 use Rattle.bb_memory_shared_pools.specs.declared.shared_pool.party.Hint.{Hint}
 use Rattle.std.proofs.Common.{Bool, None, Some, add-one, ap, append-nil, append_assoc, arith, false, inl, inr, refl, subst, suc, sym, true, zero, ℕ, ◌%◌, ◌++◌, ◌+◌, ◌-◌, ◌<◌, ◌∙◌, ◌≡◌, ◌≤◌}
 use Rattle.std.proofs.Math.Nat.{add-mod_left, add-zero, mod-eq_of_lt}
@@ -194,6 +195,17 @@ module _ (scene : PoolScene) (number : ℕ) (log : PoolLog) (first : ℕ) where
           free = subst (λ (b : ℕ). ¬ IsHeldAfter log b) (sym is) free;
         }
 
+  -- an exchange that also detaches the bucket
+  pub search_sends : (me new : Me ℕ SeatView) (probe : ℕ) (so_far : IsInSearch scene number log first probe me) (bucket : ℕ) →
+      bucket ≡ probed scene.geometry.buckets first probe → AfterSending scene (number_of me.0) (view_log me.0) bucket new →
+      probe < scene.geometry.buckets → AfterSearchSending scene number log first new bucket
+  search_sends me new probe so_far bucket is sent below = record {
+    between = sent.between;
+    taken = search_takes me sent.between probe so_far bucket is sent.taken below;
+    ended = subst (λ (m : Me ℕ SeatView). AfterCall scene (number_of m.0) (view_log sent.between.0)
+        (detach_entry (number_of m.0) bucket) new) so_far.ended.seat.is sent.ended;
+  }
+
   -- the first probe, if the pool has bucket `first`
   pub first_probed : (me new : Me ℕ SeatView) → IsInSearch scene number log first 0 me → first < scene.geometry.buckets →
       (told : Bool) → AfterProbe scene (number_of me.0) (view_log me.0) first new told →
@@ -202,6 +214,16 @@ module _ (scene : PoolScene) (number : ℕ) (log : PoolLog) (first : ℕ) where
   first_probed me new begun inside true won =
       search_takes me new 0 begun first (sym (first_probe scene.geometry.buckets first inside)) won (omega arith)
   first_probed me new begun inside false lost =
+      subst (λ (n : ℕ). IsInSearch scene number log first n new) (sym (probes_one scene.geometry.buckets first inside))
+      (search_goes_on me new 0 begun first (sym (first_probe scene.geometry.buckets first inside)) lost)
+
+  pub first_sent : (me new : Me ℕ SeatView) → IsInSearch scene number log first 0 me → first < scene.geometry.buckets →
+      (told : Bool) → AfterSendingProbe scene (number_of me.0) (view_log me.0) first new told →
+      MatchBool told (AfterSearchSending scene number log first new first)
+      (IsInSearch scene number log first (probes_before scene.geometry.buckets first) new)
+  first_sent me new begun inside true sent =
+      search_sends me new 0 begun first (sym (first_probe scene.geometry.buckets first inside)) sent (omega arith)
+  first_sent me new begun inside false lost =
       subst (λ (n : ℕ). IsInSearch scene number log first n new) (sym (probes_one scene.geometry.buckets first inside))
       (search_goes_on me new 0 begun first (sym (first_probe scene.geometry.buckets first inside)) lost)
 

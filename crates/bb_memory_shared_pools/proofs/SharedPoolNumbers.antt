@@ -67,7 +67,7 @@ set_again (x ∷ xs) zero one other = refl
 set_again (x ∷ xs) (suc i) one other = ap (λ (rest : List _). x ∷ rest) (set_again xs i one other)
 
 -- flags and logs after two steps of a party at a bucket
-at_once : (scene : PoolScene) (flags : List Flag) (logs : List PoolLog) (party bucket : ℕ) (log one other : PoolLog)
+pub at_once : (scene : PoolScene) (flags : List Flag) (logs : List PoolLog) (party bucket : ℕ) (log one other : PoolLog)
     (between next : Flag) →
     LogsAgree scene (slice_set (slice_set flags bucket between) bucket next)
     (slice_set (slice_set logs party (log ++ one)) party (log ++ one ++ other)) →

@@ -5,12 +5,13 @@ use Rattle.bb_memory_pool_machine.specs.PoolLogs.{IsAllowed, PoolEntry, PoolLog}
 use Rattle.bb_memory_pool_machine.specs.PoolMachine.{PoolScene}
 use Rattle.bb_memory_seats.specs.Seats.{alone, number_of, view_log}
 use Rattle.bb_memory_shared_pools.proofs.SharedPoolTries.{hint-append, hint_through}
-use Rattle.bb_memory_shared_pools.specs.SharedPool.{IsParty, IsSharedScene, SharedPool}
+use Rattle.bb_memory_shared_pools.specs.SharedPool.{IsMissFrom, IsParty, IsSharedScene, SharedPool, attach_from_entry, miss_from_entry, token_entry}
 use Rattle.bb_memory_shared_pools.specs.SharedPoolNextFit.{first_hint, hint_in}
-use Rattle.bb_memory_shared_pools.specs.SharedPoolRule.{AfterCall, IsPartySeat, IsSeatOfIdle, SeatView, party_in}
+use Rattle.bb_memory_shared_pools.specs.SharedPoolRule.{AfterCall, AfterGain, AfterMissFrom, IsPartySeat, IsSeatOfIdle, SeatView, party_in}
 use Rattle.bb_memory_shared_pools.specs.declared.shared_pool.party.Hint.{Hint}
-use Rattle.std.proofs.Common.{[], ap, refl, subst, sym, ℕ, ◌++◌, ◌<◌, ◌∙◌, ◌≡◌}
+use Rattle.std.proofs.Common.{Bool, [], ap, false, inl, inr, refl, subst, sym, true, ℕ, ◌++◌, ◌<◌, ◌∙◌, ◌≡◌}
 use Rattle.std.proofs.lemmas.List.Elements.{All-nil}
+use Rattle.std.specs.Prelude.{MatchBool}
 
 pub party_seat : (scene : PoolScene) (number : ℕ) (hint : Hint) (log : PoolLog) (me : Me ℕ SeatView) →
     IsSeatOfIdle scene number log me → number < scene.parties → IsSharedScene scene → hint ≡ hint_in scene number log →
@@ -52,6 +53,22 @@ module _ (pool : SharedPool) (table : TableId) (me : Me ℕ SeatView) (number : 
       (next_fit ∙ ap (λ (h : Hint). hint_through h added)
       (is.next_fit ∙ ap (λ (s : PoolScene). hint_in s number (view_log me.0)) own_scene)
       ∙ sym (hint-append (first_hint pool.scene number) (view_log me.0) added))
+
+  -- a missed exchange by number leaves the hint
+  seated_missed : (new : Me ℕ SeatView) (bucket from : ℕ) (step : PoolLog) → IsMissFrom (number_of me.0) bucket from step →
+      AfterCall pool.scene (number_of me.0) (view_log me.0) step new → IsPartySeat number hint new
+  seated_missed new bucket from step (inl same) ended = seated_then new (miss_from_entry (number_of me.0) bucket from) hint refl
+      (subst (λ (l : PoolLog). AfterCall pool.scene (number_of me.0) (view_log me.0) l new) same ended)
+  seated_missed new bucket from step (inr same) ended = seated_then new (token_entry (number_of me.0) bucket from) hint refl
+      (subst (λ (l : PoolLog). AfterCall pool.scene (number_of me.0) (view_log me.0) l new) same ended)
+
+  -- so does one that attached the bucket
+  pub seated_by_number : (won : Bool) (new : Me ℕ SeatView) (bucket from : ℕ) →
+      MatchBool won (AfterGain pool.scene (number_of me.0) (view_log me.0) (attach_from_entry (number_of me.0) bucket from) bucket new)
+      (AfterMissFrom pool.scene (number_of me.0) (view_log me.0) bucket from new) → IsPartySeat number hint new
+  seated_by_number true new bucket from gain =
+      seated_then new (attach_from_entry (number_of me.0) bucket from) hint refl gain.ended
+  seated_by_number false new bucket from missed = seated_missed new bucket from missed.step missed.miss missed.ended
 
 -- the facts about every party
 pub is_party : (table : TableId) (number : ℕ) (hint : Hint) (me : Me ℕ SeatView) → IsPartySeat number hint me →

@@ -1,7 +1,7 @@
 -- Parties of a shared pool that cache buckets: which buckets they cache for their next requests, and which are in use.
 use Rattle.bb_memory_pool_machine.specs.PoolLogs.{IsHeldAfter, PoolLog}
-use Rattle.bb_memory_shared_pools.specs.SharedPool.{HasAttachedFrom, HasMissedFrom, HasReturnedFrom, PoolParty, Serves, ServesAlone, TakenBucket, attach_from_entry, return_entry, return_from_entries, taken_bucket, with_entries}
-use Rattle.bb_memory_shared_pools.specs.SharedPoolNextFit.{MayTakeFrom, hint_of}
+use Rattle.bb_memory_shared_pools.specs.SharedPool.{HasAttachedFrom, HasMissedFrom, HasReturnedFrom, PoolParty, Serves, ServesAlone, TakenBucket, attach_from_entry, detach_entry, return_entry, return_from_entries, taken_bucket, with_entries}
+use Rattle.bb_memory_shared_pools.specs.SharedPoolNextFit.{BeginsSearch, MayTakeFrom, hint_of}
 use Rattle.bb_memory_traits.specs.PoolObject.{IsWithin}
 use Rattle.bb_memory_traits.specs.declared.allocator.AllocationError.{AllocationError}
 use Rattle.bb_memory_traits.specs.declared.allocator.AllocationError.TheVariants.{OutOfMemory}
@@ -67,6 +67,24 @@ pub record ServesCaching (old : CachingParty) (layout : Layout) (result : Result
       (IsErr result ↔ AreAllOut old)
   pub party : new.party.allocator ≡ old.party.allocator
   pub most : new.most ≡ old.most
+
+-- The first probe of the party's request for a whole bucket missed, and its search isn't over. No bucket is cached, and the same
+-- buckets are in use as before.
+pub record MissesFirst (old new : CachingParty) : Type 0 where
+  pub none_cached : old.cached ≡ []
+  pub party : BeginsSearch old.party new.party
+  pub unchanged : new ≡ record old { party = new.party }
+  pub out : (bucket : ℕ) → IsOut old bucket ↔ IsOut new bucket
+
+-- The party took a whole bucket, of this number, and detached it: `taken` is the party after the taking. The same buckets are in use
+-- as before.
+pub record SendsCaching (old : CachingParty) (number : ℕ) (new : CachingParty) : Type 0 where
+  pub taken : CachingParty
+  pub bucket : TakenBucket
+  pub serves : ServesCaching old old.party.allocator.scene.geometry.bucket (Ok bucket) taken
+  pub its_number : number ≡ bucket.number
+  pub logged : new ≡ record taken { party = with_entries taken.party (detach_entry taken.party.number bucket.number) }
+  pub out : (other : ℕ) → IsOut old other ↔ IsOut new other
 
 -- a return: the bucket is cached if the party caches fewer than it may, and otherwise goes back to the pool by one step
 pub record ReturnsCaching (old : CachingParty) (number : ℕ) (new : CachingParty) : Type 0 where

@@ -16,7 +16,7 @@ use Rattle.bb_memory_shared_pools.specs.declared.shared_pool.party.Hint.{Hint}
 use Rattle.bb_memory_traits.specs.Chunk.{IsRegion, region_at}
 use Rattle.bb_memory_traits.specs.PoolObject.{pool_geometry}
 use Rattle.bb_memory_traits.specs.declared.layout.Layout.{Layout}
-use Rattle.std.specs.Prelude.{Bool, IsFalse, IsTrue, List, MatchBool, None, Some, [], if◌then◌else◌, length, nat_lt, slice_get, ℕ, ◌++◌, ◌<◌, ◌↔◌, ◌∷◌, ◌≡◌, ◌≢◌, ◌≤◌}
+use Rattle.std.specs.Prelude.{Bool, IsFalse, IsTrue, List, MatchBool, None, Some, [], length, slice_get, ℕ, ◌++◌, ◌<◌, ◌↔◌, ◌∷◌, ◌≡◌, ◌≢◌, ◌≤◌}
 use mathlib.Core.Path.{refl}
 use native.Mathlib.Nat.{zero-lt-suc}
 
@@ -190,6 +190,23 @@ abbrev pub AfterTryAt : PoolScene → ℕ → PoolLog → ℕ → ℕ → Me ℕ
 AfterTryAt scene number log bucket found new = (found ≡ 0 → AfterGain scene number log (taking_at number bucket) bucket new)
     × (found ≢ 0 → AfterMiss scene number log bucket new)
 
+-- An exchange of an idle party took the bucket, which the party didn't hold, and detached it: the log has both steps. The seat
+-- `between` has only the first of them.
+pub record AfterSending (scene : PoolScene) (number : ℕ) (log : PoolLog) (bucket : ℕ) (new : Me ℕ SeatView) : Type 0 where
+  pub between : Me ℕ SeatView
+  pub taken : AfterGain scene number log (taking_at number bucket) bucket between
+  pub ended : AfterCall scene number (view_log between.0) (detach_entry number bucket) new
+
+-- a probe of a bucket by an idle party, which took and detached the bucket or missed it, as `told` says
+abbrev pub AfterSendingProbe : PoolScene → ℕ → PoolLog → ℕ → Me ℕ SeatView → Bool → Type 0
+AfterSendingProbe scene number log bucket new told =
+    MatchBool told (AfterSending scene number log bucket new) (AfterMiss scene number log bucket new)
+
+-- an exchange of an idle party, which found this word: it took and detached the bucket if the word is 0, and otherwise missed it
+abbrev pub AfterSendAt : PoolScene → ℕ → PoolLog → ℕ → ℕ → Me ℕ SeatView → Type 0
+AfterSendAt scene number log bucket found new = (found ≡ 0 → AfterSending scene number log bucket new)
+    × (found ≢ 0 → AfterMiss scene number log bucket new)
+
 -- An idle party's load of a flag, which found this word. If the flag is taken, the load is a miss. If it is free, the load is
 -- in no log, and the party is unchanged.
 abbrev pub AfterLook : PoolScene → ℕ → PoolLog → ℕ → ℕ → Me ℕ SeatView → Type 0
@@ -340,10 +357,6 @@ pub record IsInSearch (scene : PoolScene) (number : ℕ) (log : PoolLog) (first 
   pub ended : AfterCall scene number log (misses scene.geometry.buckets number first probe) me
   pub held : scene.parties ≡ 1 → (earlier : ℕ) → earlier < probe → IsHeldAfter log (probed scene.geometry.buckets first earlier)
 
--- how many probes a search makes before its later ones: one of bucket `first`, if the pool has that bucket
-abbrev pub probes_before : ℕ → ℕ → ℕ
-probes_before buckets first = if nat_lt first buckets then 1 else 0
-
 -- a search took this bucket at some probe, and the party didn't hold it
 pub record AfterSearchWin (scene : PoolScene) (number : ℕ) (log : PoolLog) (first : ℕ)
     (new : Me ℕ SeatView) (bucket : ℕ) : Type 0 where
@@ -353,3 +366,10 @@ pub record AfterSearchWin (scene : PoolScene) (number : ℕ) (log : PoolLog) (fi
   pub ended : AfterCall scene number log (taking_search scene.geometry.buckets number first probe) new
   pub below : bucket < scene.geometry.buckets
   pub free : ¬ IsHeldAfter log bucket
+
+-- a search took this bucket at some probe, and detached it by the same exchange. The seat `between` has no step after the taking
+pub record AfterSearchSending (scene : PoolScene) (number : ℕ) (log : PoolLog) (first : ℕ)
+    (new : Me ℕ SeatView) (bucket : ℕ) : Type 0 where
+  pub between : Me ℕ SeatView
+  pub taken : AfterSearchWin scene number log first between bucket
+  pub ended : AfterCall scene number (view_log between.0) (detach_entry number bucket) new

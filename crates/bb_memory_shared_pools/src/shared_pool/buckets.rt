@@ -76,11 +76,10 @@ impl<const CAPPED: usize, const MOST: usize> SharedBucketPool<CAPPED, MOST> {
     {
         for number in 0..parties {
             let seat = self.flags.split_first(&mut rest);
-            let bucket = self.part_of(number);
-            let hint = Hint {
-                bucket,
-                rover: bucket,
-            };
+            let buckets = self.number_of_buckets();
+            let home = self.part_of(number);
+            let least = self.least_walk();
+            let hint = Hint::new(buckets, home, least);
             all.push_reserved(PoolParty { number, seat, hint });
         }
     }

@@ -1,10 +1,11 @@
 //! Parties that cache the buckets that they gave back last: a layer over the shared pools.
 ghost use Rattle.bb_memory_pool_machine.specs.PoolLogs.{IsHeldAfter};
 ghost use Rattle.bb_memory_shared_pools.specs.SharedPool.{HasAttached, HasDetached, HasReturned, IsSameParty, attach_entry, detach_entry, return_detached_entry, with_entries};
-ghost use Rattle.bb_memory_shared_pools.specs.SharedPoolCaching.{AreCached, AttachesCaching, IsOut, MissesCaching, ReturnsCaching, ReturnsFromCaching, ServesCaching, returns_of};
+ghost use Rattle.bb_memory_shared_pools.specs.SharedPoolCaching.{AreCached, AttachesCaching, CachingParty, IsOut, MissesCaching, MissesFirst, ReturnsCaching, ReturnsFromCaching, SendsCaching, ServesCaching, returns_of};
 ghost use Rattle.bb_memory_shared_pools.specs.SharedPoolLeaving.{GivesAllBack};
 ghost use Rattle.bb_memory_shared_pools.specs.SharedPoolMeetings.{AreBothOf, AreInterleaved};
-ghost use Rattle.std.specs.Prelude.{Contains, IfErr, IfOk, IsFalse, IsTrue, Ok, [], length, true, vec_capacity, ℕ, ◌<◌, ◌↔◌, ◌≡◌, ◌≢◌, ◌≤◌};
+ghost use Rattle.bb_memory_traits.specs.declared.allocator.AllocationError.TheVariants.{OutOfMemory};
+ghost use Rattle.std.specs.Prelude.{Contains, Err, IfErr, IfNone, IfOk, IfSome, IsFalse, IsTrue, Ok, [], length, true, vec_capacity, ℕ, ◌<◌, ◌↔◌, ◌≡◌, ◌≢◌, ◌≤◌};
 
 use super::bucket::Bucket;
 use super::buckets::SharedBucketPool;
@@ -171,8 +172,51 @@ impl CachingParty {
         ensures answer { ServesCaching self.old pool.now.scene.geometry.bucket result self.new }
         ensures refused { IfErr result (λ error. error ≡ AllocationError.OutOfMemory) }
     {
-        let bucket = pool.bucket_layout();
-        self.allocate(pool, bucket)
+        match self.take_first(pool) {
+            Some(bucket) => Ok(bucket),
+            None => self.take_later(pool),
+        }
+    }
+
+    /// Takes a whole bucket as `take` does, but makes only the first probe of a search. If no bucket is cached and that probe
+    /// misses, the search isn't over, and `take_later` goes on with it. The party has to be this pool's.
+    #[inline(always)]
+    #[tactic(auto, unfolding(crate::specs::SharedPoolCaching::IsOut))]
+    pub fn take_first<'p, const CAPPED: usize, const MOST: usize>(
+        &mut self,
+        pool: &'p SharedBucketPool<CAPPED, MOST>,
+    ) -> Option<Bucket<'p>>
+        requires party { self.old.party.allocator ≡ pool.now }
+        ensures taken { IfSome result (λ bucket. ServesCaching self.old
+            pool.now.scene.geometry.bucket (Ok bucket) self.new) }
+        ensures missed { IfNone result (MissesFirst self.old self.new) }
+    {
+        // Proof hint: brings the party's invariant into scope on the return without a step.
+        let _ = self.party.number();
+        let len = pool.bucket_size();
+        match self.cached.pop() {
+            Some(number) => {
+                let bucket = by_number::bucket(pool, &self.party, number, len);
+                Some(bucket)
+            }
+            None => pool.take_first(&mut self.party),
+        }
+    }
+
+    /// Goes on with the search of a taking whose first probe missed. Fails with `OutOfMemory` if each probe misses. The first
+    /// clause holds for each party with which the taking may have begun. The party has to be this pool's.
+    #[tactic(auto, unfolding(crate::specs::SharedPoolCaching::IsOut))]
+    pub fn take_later<'p, const CAPPED: usize, const MOST: usize>(
+        &mut self,
+        pool: &'p SharedBucketPool<CAPPED, MOST>,
+    ) -> Result<Bucket<'p>, AllocationError>
+        requires party { self.old.party.allocator ≡ pool.now }
+        requires begun { (before : CachingParty) × MissesFirst before self.old }
+        ensures answer { (before : CachingParty) → MissesFirst before self.old
+            → ServesCaching before pool.now.scene.geometry.bucket result self.new }
+        ensures refused { IfErr result (λ error. error ≡ AllocationError.OutOfMemory) }
+    {
+        pool.take_later(&mut self.party)
     }
 
     /// Gives back a bucket. If fewer than `most` are cached, the bucket is cached without a step. Otherwise it goes back to the
@@ -281,6 +325,34 @@ impl CachingParty {
         ensures others { (other : ℕ) → IsOut self.new other → IsOut self.old other }
     {
         pool.detach_number(&mut self.party, bucket)
+    }
+
+    /// Takes a whole bucket and detaches it, as `take` and `detach_number` do one after the other. Returns the bucket's number. If no
+    /// bucket is cached, one exchange of a search does both. Returns `None` if none is cached and each probe of the search misses.
+    /// The pool needs at least two parties. The party has to be this pool's.
+    #[inline(always)]
+    #[tactic(auto, unfolding(crate::specs::SharedPoolCaching::IsOut))]
+    pub fn take_detached<const CAPPED: usize, const MOST: usize>(
+        &mut self,
+        pool: &SharedBucketPool<CAPPED, MOST>,
+    ) -> Option<u32>
+        requires others { 1 < pool.now.scene.parties }
+        requires party { self.old.party.allocator ≡ pool.now }
+        ensures sent { IfSome result (λ number. SendsCaching self.old number self.new) }
+        ensures refused { IfNone result (ServesCaching self.old pool.now.scene.geometry.bucket
+            (Err OutOfMemory) self.new) }
+    {
+        // Proof hint: brings the party's invariant into scope.
+        let _ = self.party.number();
+        let len = pool.bucket_size();
+        match self.cached.pop() {
+            Some(number) => {
+                let token = by_number::bucket(pool, &self.party, number, len);
+                pool.detach_number(&mut self.party, token);
+                Some(number)
+            }
+            None => pool.take_detached(&mut self.party),
+        }
     }
 
     /// Attaches the bucket of this number if the party of number `from` has detached it by `detach_number`, and returns whether

@@ -2,11 +2,12 @@
 //!
 //! - `try_flag`, `try_at`, `probe`, `give_back`, `detach_number` and `attach_number` make one logged step each, by the seat of
 //!   the party whose step it is. That party's log then ends with the step and what it found.
-//! - `return_number` makes one exchange, which the log has as two steps if it wins: an attach and a return.
+//! - `return_number` makes one exchange, which the log has as two steps if it wins: an attach and a return. `send_at` and
+//!   `probe_to_send` make one, too, which is a taking and a detachment.
 //! - So do `detach`, `attach` and `return_detached`. Each of these three also loads one more word, for the seat of the detached
 //!   bucket.
 //! - `split_first`, `merge`, `load_for_meeting`, `meet`, `is_held`, `is_detached_when_met` and `found` only load words, and are
-//!   in no log. Nor is the load with which `probe` begins, if it finds the flag free.
+//!   in no log. Nor is the load with which `probe` or `probe_to_send` begins, if it finds the flag free.
 //! - `open` runs before anything is shared, and `geometry` touches no word.
 ghost use Rattle.bb_memory_pool_machine.specs.PoolLogs.{IsHeldAfter, MayBeFound, next_bucket};
 ghost use Rattle.bb_memory_pool_machine.specs.PoolMachine.{NamesMade};
@@ -15,7 +16,7 @@ ghost use Rattle.bb_memory_pool_machine.specs.declared.steps.pool.Flag.TheVarian
 ghost use Rattle.bb_memory_seats.specs.Seats.{IsSplit, MayMerge, Stays, alone_with, both_of, number_of, view_log};
 ghost use Rattle.bb_memory_shared_pools.specs.FlagWords.{as_word, flag_in, with_token, word_of};
 ghost use Rattle.bb_memory_shared_pools.specs.SharedPool.{attach_entry, attach_from_entry, return_detached_entry, return_from_entries};
-ghost use Rattle.bb_memory_shared_pools.specs.SharedPoolRule.{AfterDetachSplit, AfterGain, AfterMeeting, AfterMeetingLoad, AfterMissFrom, AfterProbe, AfterReturn, AfterTryLoss, AfterTryWin, FoundDetached, FoundOther, IsDetachedAt, IsHeldAt, IsIdleAt, IsSeatAt, StandsAt, all_parties};
+ghost use Rattle.bb_memory_shared_pools.specs.SharedPoolRule.{AfterDetachSplit, AfterGain, AfterMeeting, AfterMeetingLoad, AfterMissFrom, AfterProbe, AfterReturn, AfterSendingProbe, AfterTryLoss, AfterTryWin, FoundDetached, FoundOther, IsDetachedAt, IsHeldAt, IsIdleAt, IsSeatAt, StandsAt, all_parties};
 ghost use Rattle.bb_memory_traits.specs.Chunk.{IsRegion};
 ghost use Rattle.bb_memory_traits.specs.PoolObject.{IsPoolGeometry};
 ghost use Rattle.std.specs.Prelude.{IfOk, IsFalse, IsTrue, MatchBool, [], true, ◌<◌, ◌^◌, ◌↔◌, ◌≡◌, ◌≤◌};
@@ -102,6 +103,15 @@ impl Play<u8, View> for TriesAt {
     ghost use Rattle.bb_memory_shared_pools.specs.SharedPoolRule.{AfterTryAt, at_flag};
 
     ghost then = { at_flag AfterTryAt };
+}
+
+/// An exchange from free to detached by the party without a token, by a party that is in no pass.
+struct Sends;
+
+impl Play<u8, View> for Sends {
+    ghost use Rattle.bb_memory_shared_pools.specs.SharedPoolRule.{AfterSendAt, at_flag};
+
+    ghost then = { at_flag AfterSendAt };
 }
 
 /// A load of a flag by a party that is in no pass.
@@ -359,6 +369,38 @@ impl Flags {
             return false;
         }
         self.try_at(party, seat, bucket)
+    }
+
+    /// Exchanges the flag of `bucket` from free to detached without a token, by a party in no pass, which must not be the only one.
+    /// Returns whether that took and detached the bucket.
+    pub(super) fn send_at(&self, party: u32, seat: &mut Seat<u8, View>, bucket: u32) -> bool
+        requires party { number_of seat.old.me.0 ≡ party }
+        requires others { 1 < self.now.scene.parties }
+        requires seat { IsIdleAt self.now seat.old.table_id seat.old.me }
+        requires below { bucket < self.now.scene.geometry.buckets }
+        ensures { Stays seat.old.table_id seat.new.table_id (AfterSendingProbe self.now.scene
+            (number_of seat.old.me.0) (view_log seat.old.me.0) bucket seat.new.me result) }
+    {
+        let shared = &self.table.shared;
+        let word = word_of(bucket);
+        let flag = shared.compare_exchange::<Sends>(seat, word, FREE, detached_by(party));
+        flag == FREE
+    }
+
+    /// Tries this bucket as `send_at` does, but makes the exchange only if a load finds the flag free, as `probe` does.
+    pub(super) fn probe_to_send(&self, party: u32, seat: &mut Seat<u8, View>, bucket: u32) -> bool
+        requires party { number_of seat.old.me.0 ≡ party }
+        requires others { 1 < self.now.scene.parties }
+        requires seat { IsIdleAt self.now seat.old.table_id seat.old.me }
+        requires below { bucket < self.now.scene.geometry.buckets }
+        ensures { Stays seat.old.table_id seat.new.table_id (AfterSendingProbe self.now.scene
+            (number_of seat.old.me.0) (view_log seat.old.me.0) bucket seat.new.me result) }
+    {
+        let loaded = self.table.shared.load::<LooksAt>(seat, word_of(bucket));
+        if loaded != FREE {
+            return false;
+        }
+        self.send_at(party, seat, bucket)
     }
 
     /// Stores free in the flag of a bucket that is held after the party's log.

@@ -3,7 +3,7 @@ ghost use Rattle.bb_memory_file.specs.FileLog.{IsLap, IsSaid};
 ghost use Rattle.std.specs.Prelude.{IfOk, ◌<◌, ◌≡◌};
 
 use super::checks::{check, same};
-use bb_memory_file::calls::{Taken, allocate, join, leave, post, take};
+use bb_memory_file::calls::{join, leave};
 use bb_memory_file::geometry::FileGeometry;
 use bb_memory_file::party::FileParty;
 use bb_memory_file::table::FileTable;
@@ -12,10 +12,10 @@ use bb_memory_file_machine::steps::{Entry, FileFlag, Slot};
 use std::alloc::{AllocError, Global};
 use std::process::Abort;
 
-/// Three buckets, one slot and two parties, whose words are next to each other.
-const GEOMETRY: FileGeometry = FileGeometry {
+/// Three buckets, two slots and two parties, whose words are next to each other.
+pub(super) const GEOMETRY: FileGeometry = FileGeometry {
     buckets: 3,
-    slots: 1,
+    slots: 2,
     parties: 2,
     first_flag: 16,
     first_life: 19,
@@ -23,20 +23,20 @@ const GEOMETRY: FileGeometry = FileGeometry {
     first_slot: 24,
 };
 
-/// Makes the words of a file that begins with these flags, lives, entries and slot.
-pub(super) fn table(alloc: Global, words: [u64; 9]) -> Result<FileTable, AllocError>
+/// Makes the words of a file that begins with these flags, lives, entries and slots.
+pub(super) fn table(alloc: Global, words: [u64; 10]) -> Result<FileTable, AllocError>
     ensures { IfOk result (λ table. table.geometry.parties ≡ 2) }
 {
-    let [a, b, c, d, e, f, g, h, i] = words;
+    let [a, b, c, d, e, f, g, h, i, j] = words;
     let row = [
         0, 0, 0, 0, 0, 0, 0, 0, 0, 0, 0, 0, 0, 0, 0, 0, a, b, c, d, e, f, g, h, i, 0, 0, 0, 0, 0,
-        0, 0, 0, 0, 0, 0, 0, 0, 0, 0,
+        0, 0, 0, 0, 0, 0, 0, 0, 0, 0, j, 0, 0, 0, 0, 0, 0, 0, 0, 0, 0, 0, 0, 0, 0, 0,
     ];
     FileTable::new(alloc, &row, GEOMETRY)
 }
 
 /// Makes the words of a file.
-fn made(rt: &(impl Abort + AllocGlobal), words: [u64; 9]) -> FileTable
+fn made(rt: &(impl Abort + AllocGlobal), words: [u64; 10]) -> FileTable
     ensures { result.geometry.parties ≡ 2 }
 {
     let table = table(rt.alloc(), words).ok();
@@ -106,24 +106,6 @@ fn count(party: &mut FileParty) -> u64 {
     life
 }
 
-/// Posts a message of 7 bytes in the first free bucket, if there are such a slot and bucket. Returns the
-/// bucket if the slot was empty.
-fn post_first(party: &mut FileParty, slot: u32) -> Option<u32> {
-    if slot >= party.slots() {
-        return None;
-    }
-    let bucket = allocate(party, 0)?;
-    post(party, slot, bucket, 7).then_some(bucket)
-}
-
-/// Takes the message in a slot, if there is one.
-fn take_from(party: &mut FileParty, slot: u32) -> Option<Taken> {
-    if slot >= party.slots() {
-        return None;
-    }
-    Some(take(party, slot, 100))
-}
-
 /// Takes a value that several threads may use at the same time.
 fn share<T: Send + Sync>(_value: &T) {}
 
@@ -133,15 +115,15 @@ fn send<T: Send>(_value: &T) {}
 #[test]
 fn a_geometry_is_in_a_row_with_room(rt: HostRuntime) {
     let rt = &rt;
-    check(rt, GEOMETRY.is_in(40));
-    check(rt, !GEOMETRY.is_in(39));
+    check(rt, GEOMETRY.is_in(56));
+    check(rt, !GEOMETRY.is_in(55));
     check(
         rt,
         !FileGeometry {
             first_flag: 15,
             ..GEOMETRY
         }
-        .is_in(40),
+        .is_in(56),
     );
     check(
         rt,
@@ -149,7 +131,7 @@ fn a_geometry_is_in_a_row_with_room(rt: HostRuntime) {
             first_life: 18,
             ..GEOMETRY
         }
-        .is_in(40),
+        .is_in(56),
     );
     check(
         rt,
@@ -157,7 +139,7 @@ fn a_geometry_is_in_a_row_with_room(rt: HostRuntime) {
             first_entry: 20,
             ..GEOMETRY
         }
-        .is_in(40),
+        .is_in(56),
     );
     check(
         rt,
@@ -165,7 +147,7 @@ fn a_geometry_is_in_a_row_with_room(rt: HostRuntime) {
             first_slot: 23,
             ..GEOMETRY
         }
-        .is_in(40),
+        .is_in(56),
     );
 }
 
@@ -176,10 +158,11 @@ fn words_say_what_the_format_says(rt: HostRuntime) {
     let detached_by_0 = 2;
     let sent_to_2_at_lap_3 = 51539607563;
     let in_slot_0_with_7_bytes = 30064771073;
-    let in_slot_1 = 2;
+    let in_slot_2 = 3;
+    let empty_at_lap_5_of_31_bits = 4611686039902224384;
     let bucket_1_at_lap_5 = 21474836482;
     let flags = [held_by_1, detached_by_0, sent_to_2_at_lap_3];
-    let entries = [0, in_slot_0_with_7_bytes, in_slot_1];
+    let entries = [0, in_slot_0_with_7_bytes, in_slot_2];
     let table = made(
         rt,
         [
@@ -191,6 +174,7 @@ fn words_say_what_the_format_says(rt: HostRuntime) {
             entries[0],
             entries[1],
             entries[2],
+            empty_at_lap_5_of_31_bits,
             bucket_1_at_lap_5,
         ],
     );
@@ -210,9 +194,10 @@ fn words_say_what_the_format_says(rt: HostRuntime) {
         Some(Entry::In { slot: 0, length: 7 }),
     );
     same(rt, entry(&mut party, 2), Some(Entry::Nowhere));
+    same(rt, slot(&mut party, 0), Some(Slot::Empty { lap: 5 }));
     same(
         rt,
-        slot(&mut party, 0),
+        slot(&mut party, 1),
         Some(Slot::Message { lap: 5, bucket: 1 }),
     );
 }
@@ -228,7 +213,7 @@ fn a_word_that_is_no_flags_is_never_exchanged(rt: HostRuntime) {
         held_by_a_33_bit_number,
         detached_by_a_33_bit_number,
     ];
-    let table = made(rt, [flags[0], flags[1], flags[2], 0, 0, 0, 0, 0, 0]);
+    let table = made(rt, [flags[0], flags[1], flags[2], 0, 0, 0, 0, 0, 0, 0]);
     let mut party = party(rt, &table, 0);
     let none = FileFlag::SentTo {
         slot: 0,
@@ -258,7 +243,7 @@ fn a_word_that_is_no_flags_is_never_exchanged(rt: HostRuntime) {
 #[test]
 fn a_bucket_goes_to_another_party(rt: HostRuntime) {
     let rt = &rt;
-    let table = made(rt, [0; 9]);
+    let table = made(rt, [0; 10]);
     let mut sender = party(rt, &table, 0);
     let mut taker = party(rt, &table, 1);
     let (held, taken) = (FileFlag::HeldBy(0), FileFlag::HeldBy(1));
@@ -287,36 +272,69 @@ fn a_bucket_goes_to_another_party(rt: HostRuntime) {
     same(rt, flag(&mut sender, 2), Some(taken));
 }
 
-/// The taker leaves before it is done, so the message is taken once more.
 #[test]
-fn a_message_goes_to_another_party(rt: HostRuntime) {
+fn a_new_file_is_empty(rt: HostRuntime) {
     let rt = &rt;
-    let table = made(rt, [0; 9]);
-    let mut sender = party(rt, &table, 0);
-    check(rt, join(&mut sender));
-    same(rt, sender.load_life(), 3);
-    same(rt, post_first(&mut sender, 0), Some(0));
-    same(rt, post_first(&mut sender, 0), None);
-    let mut taker = party(rt, &table, 1);
-    check(rt, join(&mut taker));
-    let message = Taken::Message {
-        bucket: 0,
-        length: 7,
-    };
-    same(rt, take_from(&mut taker, 0), Some(message));
-    same(rt, take_from(&mut taker, 0), Some(Taken::NotSent));
-    same(rt, leave(&mut taker), 0);
+    let table = FileTable::of_zeros(rt.alloc(), 56, GEOMETRY).ok();
+    let table = table.expect(rt, "there is memory for the words");
+    same(rt, table.geometry().buckets, 3);
     let mut last = party(rt, &table, 1);
-    check(rt, join(&mut last));
-    same(rt, take_from(&mut last, 0), Some(message));
-    same(rt, leave(&mut sender), 1);
-    same(rt, sender.load_life(), 4);
+    same(rt, last.party(), 1);
+    same(rt, (last.buckets(), last.slots()), (3, 2));
+    same(rt, flag(&mut last, 2), Some(FileFlag::Free));
+    same(rt, entry(&mut last, 2), Some(Entry::Nowhere));
+    same(rt, slot(&mut last, 1), Some(Slot::Empty { lap: 0 }));
+    same(rt, last.load_life(), 0);
+}
+
+/// Party 0 holds bucket 0, whose entry names a slot that doesn't have the bucket, and bucket 1, which is
+/// in its slot. It has detached bucket 2.
+#[test]
+fn a_party_leaves_what_it_holds(rt: HostRuntime) {
+    let rt = &rt;
+    let (held_by_0, detached_by_0) = (1, 2);
+    let (in_slot_0, in_slot_1) = (30064771073, 30064771074);
+    let bucket_1_at_lap_5 = 21474836482;
+    let table = made(
+        rt,
+        [
+            held_by_0,
+            held_by_0,
+            detached_by_0,
+            3,
+            0,
+            in_slot_1,
+            in_slot_0,
+            0,
+            bucket_1_at_lap_5,
+            0,
+        ],
+    );
+    let mut leaver = party(rt, &table, 0);
+    same(rt, leave(&mut leaver), 1);
+    same(rt, leaver.load_life(), 4);
+    let mut other = party(rt, &table, 1);
+    check(rt, join(&mut other));
+    same(rt, other.load_life(), 3);
+    same(rt, flag(&mut other, 0), Some(FileFlag::Free));
+    same(rt, entry(&mut other, 0), Some(Entry::Nowhere));
+    same(
+        rt,
+        flag(&mut other, 1),
+        Some(FileFlag::SentTo { slot: 0, lap: 5 }),
+    );
+    same(
+        rt,
+        entry(&mut other, 1),
+        Some(Entry::In { slot: 0, length: 7 }),
+    );
+    same(rt, flag(&mut other, 2), Some(FileFlag::DetachedBy(0)));
 }
 
 #[test]
 fn a_party_has_its_own_life(rt: HostRuntime) {
     let rt = &rt;
-    let table = made(rt, [0, 0, 0, 6, 0, 0, 0, 0, 0]);
+    let table = made(rt, [0, 0, 0, 6, 0, 0, 0, 0, 0, 0]);
     let mut one = party(rt, &table, 1);
     same(rt, count(&mut one), 0);
     same(rt, count(&mut one), 1);
@@ -325,7 +343,7 @@ fn a_party_has_its_own_life(rt: HostRuntime) {
 
 #[test]
 fn threads_share_the_words(rt: HostRuntime) {
-    let table = made(&rt, [0; 9]);
+    let table = made(&rt, [0; 10]);
     share(&table);
     send(&party(&rt, &table, 0));
 }

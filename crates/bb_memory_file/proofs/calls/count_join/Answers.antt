@@ -6,7 +6,8 @@ pub returns-then-life-eq0 : goal.returns-then-life-eq0
 returns-then-life-eq0 g c process =
     let even = c.if-life-eq0.true in
     counted_now process (g.W.Words.log c.args.words.now) c.load_life-life.result _ _ 1 c.load_life-life.ensures c.store_life.ensures
-    (omega (arith, even))
+    (omega (arith, even)) (λ e. absurd (omega (arith, even, e)))
+    (let fits = c.load_life-life.type_inv in omega (arith, even, fits))
 
 pub returns-else-life-eq0 : goal.returns-else-life-eq0
 returns-else-life-eq0 g c process =

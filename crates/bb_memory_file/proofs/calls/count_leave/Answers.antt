@@ -7,7 +7,7 @@ pub returns-then-life-lt18446744073709551615 : goal.returns-then-life-lt18446744
 returns-then-life-lt18446744073709551615 g c process =
     let odd = c.if-life-eq1.true in
     counted_now process (g.W.Words.log c.args.words.now) c.load_life-life.result _ _ 0 c.load_life-life.ensures c.store_life.ensures
-    (omega (arith, odd))
+    (omega (arith, odd)) (λ e. absurd (omega (arith, odd, e))) c.if-life-lt18446744073709551615.true
 
 pub returns-else-life-eq1 : goal.returns-else-life-eq1
 returns-else-life-eq1 g c process =

@@ -16,5 +16,5 @@ returns-then-is_fit g c process =
 pub returns : goal.returns
 returns g c process =
     put_away process (g.W.Words.log c.args.words.now) c.args.slot c.args.lap c.args.bucket c.args.size c.load_entry-entry.result
-    c.requires.unknown _ _ _ c.party.result c.party.ensures c.if-not-exchange_flag.ensures c.load_entry-entry.ensures.told
+    _ _ _ c.party.result c.party.ensures c.if-not-exchange_flag.ensures c.load_entry-entry.ensures.told
     (sym c.is_fit.ensures ∙ c.if-is_fit.false) c.store_flag.ensures

@@ -179,6 +179,28 @@ fn a_number_is_attached_once(rt: HostRuntime) {
     none_requested(rt);
 }
 
+/// A bucket is taken and detached by one call, and attached by its number. If no bucket is free, none
+/// is detached.
+#[test]
+fn a_bucket_is_taken_to_be_sent(rt: HostRuntime) {
+    let (pool, mut a, mut b) = two(&rt, 256);
+    let (rt, pool) = (&rt, &pool);
+    let sender = a.number();
+    let Some(number) = pool.take_detached(&mut a) else {
+        panic!(rt; "both buckets are free");
+    };
+    same(rt, number, 0);
+    same(rt, pool.holder(number), Flag::DetachedBy(sender));
+    same(rt, pool.take_detached(&mut a), Some(1));
+    same(rt, pool.take_detached(&mut a), None);
+    same(rt, pool.held_buckets(), 2);
+    same(rt, attaches_number(pool, &mut b, number, sender), true);
+    same(rt, pool.holder(number), Flag::Free);
+    same(rt, pool.take_detached(&mut b), Some(0));
+    same(rt, pool.take_detached(&mut b), None);
+    none_requested(rt);
+}
+
 /// A search begins in the party's part. The next one begins where the last one ended, or at the
 /// bucket that came back last, and goes on at bucket 0.
 #[test]

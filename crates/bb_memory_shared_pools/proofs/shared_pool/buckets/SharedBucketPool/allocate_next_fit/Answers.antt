@@ -63,8 +63,8 @@ invariant_of-party-2 g c =
     let me = party.seat.me in
     let took = c.in-Some.ensures.step.step (number_of me.0) (view_log me.0) c.if-try_first.ensures.step.step in
     seated_then c.args.self.now party.seat.table_id me party.number party.hint c.party.invariant own
-    c.later_probes-later.new.seat.me _ c.follow_taking.new.self
-    (c.follow_taking.ensures
+    c.search_on-later.new.seat.me _ c.search_on-later.new.hint
+    (c.in-Some.ensures.moved
     ∙ hint_by_search c.args.self.now.scene.geometry.buckets (number_of me.0) party.hint.bucket took.probe
     c.in-Some.number party.hint took.there)
     took.ended
@@ -72,7 +72,7 @@ invariant_of-party-2 g c =
 pub returns-clause-serves : goal.returns-clause-serves
 returns-clause-serves g c =
     let old = c.party.inside in
-    let new = c.later_probes-later.new.seat in
+    let new = c.search_on-later.new.seat in
     let number = number_of old.seat.me.0 in
     let log = view_log old.seat.me.0 in
     let geometry = c.geometry.ensures.value ∙ ap (λ (p : SharedPool). p.scene.geometry) c.self.view_is in
@@ -94,13 +94,13 @@ invariant_of-party-in_default g c =
     let buckets = c.args.self.now.scene.geometry.buckets in
     let lost = c.in_default.ensures.step.step (number_of me.0) (view_log me.0) c.if-try_first.ensures.step.step in
     seated_then c.args.self.now party.seat.table_id me party.number party.hint c.party.invariant own
-    c.later_probes-later.new.seat.me _ party.hint
-    (hint-misses buckets (number_of me.0) party.hint.bucket buckets party.hint) lost.ended
+    c.search_on-later.new.seat.me _ c.search_on-later.new.hint
+    (c.in_default.ensures.stays ∙ hint-misses buckets (number_of me.0) party.hint.bucket buckets party.hint) lost.ended
 
 pub returns-in_default-clause-serves : goal.returns-in_default-clause-serves
 returns-in_default-clause-serves g c =
     let old = c.party.inside in
-    let new = c.later_probes-later.new.seat in
+    let new = c.search_on-later.new.seat in
     let number = number_of old.seat.me.0 in
     let log = view_log old.seat.me.0 in
     refused c.args.self.now old.seat.table_id new.table_id old.seat.me new.me old.number old.hint _ _ c.args.party.now

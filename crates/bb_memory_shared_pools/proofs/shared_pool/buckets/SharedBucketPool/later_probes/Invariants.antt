@@ -1,7 +1,8 @@
 use Rattle.bb_memory_pool_machine.specs.PoolLogs.{PoolLog}
 use Rattle.bb_memory_seats.specs.Seats.{number_of, view_log}
 use Rattle.bb_memory_shared_pools.proofs.shared_pool.buckets.SharedBucketPool.later_probes.Given as goal
-use Rattle.bb_memory_shared_pools.specs.SharedPoolRule.{IsInSearch, IsSeatOfIdle, probes_before}
+use Rattle.bb_memory_shared_pools.specs.SharedPoolNextFit.{probes_before}
+use Rattle.bb_memory_shared_pools.specs.SharedPoolRule.{IsInSearch, IsSeatOfIdle}
 use Rattle.std.proofs.Common.{ℕ, ◌≡◌}
 
 abbrev pub invariant-loop-probe : goal.invariant-loop-probe

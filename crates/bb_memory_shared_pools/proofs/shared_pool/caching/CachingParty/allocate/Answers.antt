@@ -1,13 +1,12 @@
-use Rattle.bb_memory_shared_pools.proofs.SharedPoolCaching.{cached_less, found_alone, found_fresh, found_kept, found_others, found_out, last_fresh, last_held, last_not_all, last_out, out_less, out_more, searches, served_last, takes_last, unasked_answer}
+use Rattle.bb_memory_shared_pools.proofs.SharedPoolCaching.{cached_less, last_held, serves_cached, serves_searched, unasked_answer}
 use Rattle.bb_memory_shared_pools.proofs.SharedPoolRequests.{not_within, unasked}
 use Rattle.bb_memory_shared_pools.proofs.shared_pool.caching.CachingParty.allocate.Goals as goal
-use Rattle.bb_memory_shared_pools.specs.SharedPool.{IsParty, PoolParty, ServesAlone, SharedPool, TakenBucket}
+use Rattle.bb_memory_shared_pools.specs.SharedPool.{IsParty, ServesAlone, SharedPool}
 use Rattle.bb_memory_shared_pools.specs.SharedPoolCaching.{AreCached, CachingParty}
 use Rattle.bb_memory_shared_pools.specs.SharedPoolNextFit.{MayTakeFrom, hint_of}
 use Rattle.bb_memory_traits.specs.Geometry.{Admits}
 use Rattle.bb_memory_traits.specs.PoolObject.{IsWithin, PoolGeometry}
 use Rattle.std.proofs.Common.{[], ap, append-nil, arith, length, refl, rules, subst, sym, ◌∙◌, ◌≡◌}
-use Rattle.std.proofs.lemmas.Bool.{false≢true}
 use Rattle.std.proofs.lemmas.List.{length_push}
 use Rattle.std.specs.Prelude.{Err}
 
@@ -63,39 +62,12 @@ invariant_of-self g c =
 
 pub returns-in-Some : goal.returns-in-Some
 returns-in-Some g c =
-    let old = c.args.self.now in
     let before = c.self.inside in
-    let rest = c.pop.new.self.items in
-    let number = c.in-Some.number in
-    let len = c.size.result in
-    let token = c.bucket-bucket.result in
-    let party = ap (λ (p : CachingParty). p.party) c.self.view_is in
-    let most = ap (λ (p : CachingParty). p.most) c.self.view_is in
-    let cached = ap (λ (p : CachingParty). p.cached) c.self.view_is in
-    let items = c.in-Some.ensures.items in
-    let its = c.bucket-bucket.ensures.value in
     let geometry = c.geometry.ensures.value ∙ ap (λ (p : SharedPool). p.scene.geometry) c.pool.view_is in
     let within = subst (λ (x : PoolGeometry). IsWithin x.bucket c.args.layout) geometry c.in_ok-admit.ensures in
-    record {
-      answer = takes_last c.args.pool.now old _ c.args.layout number len token party most c.requires.party
-          (sym cached ∙ items) its c.size.ensures within;
-      serves = served_last c.args.pool.now old.party before.party c.args.layout before.cached.items rest number len token party
-          c.requires.party c.number.ensures.party c.self.invariant.0 items its c.size.ensures within;
-      taken = last_out before.party before.cached.items rest before.most number len c.args.pool.now token c.self.invariant.0
-          items its;
-      fresh = λ other. last_fresh old before.cached.items rest number len c.args.pool.now token other cached items its;
-      others_kept = λ other. out_less old _ number other party (sym cached ∙ items);
-      others = λ other apart out. out_more _ old number other (sym party) (sym cached ∙ items)
-          (λ same. apart (same ∙ sym (ap (λ (b : TakenBucket). b.number) its))) out;
-      alone = λ one wanted. (
-        λ refused. absurd (false≢true refused),
-        λ all. absurd (last_not_all old before.cached.items rest number
-            (subst (λ (p : CachingParty). IsParty p.party) c.self.view_is c.number.ensures.party)
-            (subst (λ (p : CachingParty). AreCached p.party p.cached) c.self.view_is c.self.invariant.0) cached items all),
-      );
-      party = ap (λ (p : PoolParty). p.allocator) party;
-      most = most;
-    }
+    serves_cached c.args.pool.now c.args.self.now before.party before.cached.items c.pop.new.self.items before.most
+    c.in-Some.number c.size.result c.bucket-bucket.result c.args.layout c.self.view_is c.requires.party c.number.ensures.party
+    c.self.invariant.0 c.in-Some.ensures.items c.bucket-bucket.ensures.value c.size.ensures within
 
 -- a search, if none is cached
 pub invariant_of-self-in-None : goal.invariant_of-self-in-None
@@ -121,21 +93,8 @@ returns-in-None g c =
     let now : c.pop.new.self.items ≡ [] = search rules in
     let none : old.cached ≡ [] =
     ap (λ (p : CachingParty). p.cached) (sym c.self.view_is) ∙ c.in-None.ensures.items ∙ append-nil _ ∙ now in
-    let serves : ServesAlone old.party.allocator old.party layout result new =
-    subst (λ (x : SharedPool × PoolParty). ServesAlone x.0 x.1 layout result new)
-    (λ i. (sym c.requires.party i, (c.self.view_is i).party)) asked.serves in
-    let answer : MayTakeFrom (hint_of old.party) old.party layout result new =
-    subst (λ (p : CachingParty). MayTakeFrom (hint_of p.party) p.party layout result new) c.self.view_is asked.answer in
-    record {
-      answer = searches old _ layout result none answer serves
-          (λ i. record { party = new; cached = (now ∙ sym none) i; most = (c.self.view_is i).most });
-      serves = serves.serves;
-      taken = found_out old _ layout none now result serves;
-      fresh = found_fresh old new layout result answer;
-      others_kept = found_kept old _ layout none now result serves;
-      others = found_others old _ layout none now result serves;
-      alone = found_alone old (record { party = new; cached = c.pop.new.self.items; most = old.most }) layout none now result
-          serves;
-      party = asked.party ∙ sym c.requires.party;
-      most = ap (λ (p : CachingParty). p.most) c.self.view_is;
-    }
+    serves_searched c.args.pool.now old _ layout result c.requires.party none
+    (λ i. record { party = new; cached = (now ∙ sym none) i; most = (c.self.view_is i).most })
+    (subst (λ (p : CachingParty). MayTakeFrom (hint_of p.party) p.party layout result new) c.self.view_is asked.answer)
+    (subst (λ (p : CachingParty). ServesAlone c.args.pool.now p.party layout result new) c.self.view_is asked.serves)
+    asked.party

@@ -3,7 +3,7 @@ use Rattle.bb_memory_seats.specs.Seats.{alone, number_of, view_log}
 use Rattle.bb_memory_shared_pools.proofs.SharedPoolNumbers.{returns_number_as}
 use Rattle.bb_memory_shared_pools.proofs.shared_pool.flags.Flags.return_number.Goals as goal
 use Rattle.bb_memory_shared_pools.specs.SharedPool.{SharedPool}
-use Rattle.std.proofs.Common.{[], ap, arith, refl, subst, sym, ℕ, ◌<◌, ◌∙◌, ◌≡◌}
+use Rattle.std.proofs.Common.{[], ap, arith, refl, subst, sym, ◌<◌, ◌∙◌, ◌≡◌}
 
 pub compare_exchange-flag-requires : goal.compare_exchange-flag-requires
 compare_exchange-flag-requires c =

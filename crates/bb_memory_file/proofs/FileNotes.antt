@@ -1,0 +1,289 @@
+-- The notes of a party say what it knows of its buckets, before each call and after it.
+use Rattle.bb_memory_file.proofs.FileMessages.{seen_away}
+use Rattle.bb_memory_file.proofs.FileWalks.{path_on}
+use Rattle.bb_memory_file.specs.FileCalls.{IsAttach, IsDeallocate, IsDetach, IsDone, IsPost, IsPutBack, IsReceive, IsSettled, unseen}
+use Rattle.bb_memory_file.specs.FileCalls.received as received
+use Rattle.bb_memory_file.specs.FileCalls.whereabouts as whereabouts
+use Rattle.bb_memory_file.specs.FileCode.{FileLog, Has, HasNot, Holds, IsWalk, Known, LoadSlot, Path, Seen, Unknown, begins, known_of, looks, told}
+use Rattle.bb_memory_file.specs.FileLog.{IsKnownIn, fresh_log, held_still, is_clear, is_held, seen_in, with_entry, with_seen}
+use Rattle.bb_memory_file.specs.FileNames.{Counting, Entry, FileStep, HeldBy, In, Message, Nowhere, Outside, Slot}
+use Rattle.bb_memory_file.specs.FileNotes.{InUse, IsHome, IsJoined, IsNoted, Note, Undone, Unheld, looked}
+use Rattle.bb_memory_file_machine.specs.FileMachine.{same_flag}
+use Rattle.bb_memory_lists.proofs.SliceGets.{length-set_at, slice_get-replicated, slice_get-set_other, slice_get-set_same}
+use Rattle.bb_memory_pool_machine.proofs.PoolSteps.{test_same}
+use Rattle.std.proofs.Common.{Bool, List, None, Option, Some, [], ap, arith, false, inl, inr, length, refl, subst, sym, true, ℕ, ◌++◌, ◌<◌, ◌∙◌, ◌≡◌, ◌≢◌}
+use Rattle.std.proofs.lemmas.Bool.{eqb-false, eqb-true, ne_eqb}
+use Rattle.std.proofs.lemmas.List.{length-replicate}
+use Rattle.std.proofs.lemmas.Option.{slice_get_within}
+use Rattle.std.specs.Prelude.{if◌then◌else◌, replicate, slice_get, slice_set, ◌==◌}
+
+-- A NOTE
+
+-- a note of what is known doesn't depend on what was seen of slots
+noted_away : (known : Known) (note : Note) → IsNoted known note → IsNoted (unseen known) note
+noted_away Unknown note noted = noted
+noted_away (Holds None seen) note noted = noted
+noted_away (Holds (Some Nowhere) seen) note noted = noted
+noted_away (Holds (Some (In slot size)) seen) note noted = noted
+
+noted_back : (known : Known) (note : Note) → IsNoted (unseen known) note → IsNoted known note
+noted_back Unknown note noted = noted
+noted_back (Holds None seen) note noted = noted
+noted_back (Holds (Some Nowhere) seen) note noted = noted
+noted_back (Holds (Some (In slot size)) seen) note noted = noted
+
+pub noted_still : (old new : Known) (note : Note) → unseen new ≡ unseen old → IsNoted old note → IsNoted new note
+noted_still old new note same noted =
+    noted_back new note (subst (λ known. IsNoted known note) (sym same) (noted_away old note noted))
+
+clear_by : (known : Known) → IsNoted known InUse → is_clear known ≡ true
+clear_by Unknown noted = absurd noted
+clear_by (Holds None seen) noted = absurd noted
+clear_by (Holds (Some Nowhere) seen) noted = refl
+clear_by (Holds (Some (In slot size)) seen) noted = absurd noted
+
+held_by : (known : Known) → IsNoted known Undone → is_held known ≡ true
+held_by Unknown noted = absurd noted
+held_by (Holds entry seen) noted = refl
+
+seen_by : (known : Known) (seen : Seen) → IsNoted known Undone → (entry : Option Entry) × (with_seen known seen ≡ Holds entry seen)
+seen_by Unknown seen noted = absurd noted
+seen_by (Holds entry old) seen noted = (entry, refl)
+
+-- a bucket with a note is one of as many
+pub within : (notes : List Note) (bucket : ℕ) (note : Note) (size : ℕ) → size ≡ length notes →
+    slice_get notes bucket ≡ Some note → bucket < size
+within notes bucket note size same is = let less = slice_get_within notes bucket note is in omega (arith, less, same)
+
+module _ (log : FileLog) (notes : List Note) (joined : IsJoined log notes) (bucket : ℕ) where
+  -- a bucket with a note is one of the file
+  pub below_by : (note : Note) → slice_get notes bucket ≡ Some note → bucket < log.scene.buckets
+  below_by note is = within notes bucket note log.scene.buckets (sym joined.noted.enough) is
+
+  -- the party holds a bucket in use, which is in no slot
+  pub in_use_clear : slice_get notes bucket ≡ Some InUse → is_clear (known_of log bucket) ≡ true
+  in_use_clear is = clear_by (known_of log bucket) (joined.noted.each bucket InUse is)
+
+  -- the party holds a bucket with whose message it isn't done
+  pub undone_held : slice_get notes bucket ≡ Some Undone → is_held (known_of log bucket) ≡ true
+  undone_held is = held_by (known_of log bucket) (joined.noted.each bucket Undone is)
+
+  -- the party knows where such a bucket is once it has found it in a slot
+  pub undone_in : (new : FileLog) (slot lap : ℕ) → slice_get notes bucket ≡ Some Undone → new ≡ looked log slot (Message lap bucket) →
+      IsKnownIn new bucket slot lap
+  undone_in new slot lap is told = subst (λ log. IsKnownIn log bucket slot lap) (sym told)
+      (rw (test_same bucket bucket refl) (seen_by (known_of log bucket) (Has slot lap) (joined.noted.each bucket Undone is)))
+
+-- THE INVARIANT
+
+same_some : {X : Type 0} (one other : X) → Some one ≡ Some other → one ≡ other
+same_some one other same = cc
+
+-- the process walks from no call to no call
+abbrev Goes : FileLog → FileLog → Type 0
+Goes old new = (process : ℕ) → (taken : List FileStep) × IsWalk process old Outside new taken Outside
+
+home_on : (old new : FileLog) → IsHome old → Goes old new → IsHome new
+home_on old new home goes process =
+    let first = home process in
+    let next = goes process in (
+      next.0 ++ first.0,
+      subst (λ (scene : _). Path process (fresh_log scene new.party) (Counting new.party) new (next.0 ++ first.0) Outside)
+          (sym next.1.scene)
+          (subst (λ (party : ℕ). Path process (fresh_log old.scene party) (Counting party) new (next.0 ++ first.0) Outside)
+          (sym next.1.party)
+          (path_on process (fresh_log old.scene old.party) old (Counting old.party) Outside first.0 first.1 new next.0 Outside next.1.path)),
+    )
+
+same_buckets : (old new : FileLog) → Goes old new → new.scene.buckets ≡ old.scene.buckets
+same_buckets old new goes = ap (λ scene. scene.buckets) (goes 0).1.scene
+
+module _ (old new : FileLog) (notes : List Note) (joined : IsJoined old notes) (goes : Goes old new) where
+  -- the party goes on with these notes, each of which is right
+  go_on : (later : List Note) → length later ≡ length notes →
+      ((other : ℕ) (note : Note) → slice_get later other ≡ Some note → IsNoted (known_of new other) note) → IsJoined new later
+  go_on later same each = record {
+    home = home_on old new joined.home goes;
+    noted = record { enough = same ∙ joined.noted.enough ∙ sym (same_buckets old new goes); each = each };
+  }
+
+  -- of each bucket the party knows what it knew
+  pub go_same : ((other : ℕ) → unseen (known_of new other) ≡ unseen (known_of old other)) → IsJoined new notes
+  go_same others = go_on notes refl
+      (λ other note is. noted_still (known_of old other) (known_of new other) note (others other) (joined.noted.each other note is))
+
+  module _ (bucket : ℕ) (note : Note) (is : IsNoted (known_of new bucket) note)
+      (others : (other : ℕ) → other ≢ bucket → unseen (known_of new other) ≡ unseen (known_of old other)) where
+    each_by : (other : ℕ) (noted : Note) (same : Bool) → (other == bucket) ≡ same →
+        (other ≡ bucket → noted ≡ note) → (other ≢ bucket → slice_get notes other ≡ Some noted) → IsNoted (known_of new other) noted
+    each_by other noted true e this that =
+        let at : other ≡ bucket = eqb-true other bucket e in
+        subst (λ (b : ℕ). IsNoted (known_of new b) noted) (sym at) (subst (λ n. IsNoted (known_of new bucket) n) (sym (this at)) is)
+    each_by other noted false e this that =
+        let apart : other ≢ bucket = eqb-false other bucket e in
+        noted_still (known_of old other) (known_of new other) noted (others other apart) (joined.noted.each other noted (that apart))
+
+    -- the party notes something else of a bucket
+    pub go_noted : (before : Note) → slice_get notes bucket ≡ Some before → IsJoined new (slice_set notes bucket note)
+    go_noted before was = go_on (slice_set notes bucket note) (length-set_at notes bucket note)
+        (λ other noted there. each_by other noted (other == bucket) refl
+        (λ at. same_some noted note (sym there
+        ∙ ap (slice_get (slice_set notes bucket note)) at ∙ slice_get-set_same notes bucket note before was))
+        (λ apart. sym (slice_get-set_other notes bucket other note apart) ∙ there))
+
+    -- what was noted of the bucket is right again
+    pub go_again : slice_get notes bucket ≡ Some note → IsJoined new notes
+    go_again was = go_on notes refl
+        (λ other noted there. each_by other noted (other == bucket) refl
+        (λ at. same_some noted note (sym there ∙ ap (slice_get notes) at ∙ was)) (λ apart. there))
+
+-- A LOOK
+
+-- what was noted is right after a look at a slot
+pub after_look : (old new : FileLog) (notes : List Note) (slot : ℕ) (word : Slot) → IsJoined old notes → new ≡ looked old slot word →
+    IsJoined new notes
+after_look old new notes slot word joined is = subst (λ log. IsJoined log notes) (sym is)
+    (go_same old (looked old slot word) notes joined
+    (λ process. ([], record { path = looks old [] Outside (LoadSlot slot word) begins tt; scene = refl; party = refl }))
+    (λ other. seen_away (known_of old other) (seen_in other slot word)))
+
+-- KNOWLEDGE OF A BUCKET
+
+-- a look at the flag of a bucket that the party hasn't taken
+still_unheld : (known : Known) (held : Bool) → IsNoted known Unheld → IsNoted (if held then held_still known else Unknown) Unheld
+still_unheld known false noted = tt
+still_unheld Unknown true noted = tt
+still_unheld (Holds entry seen) true noted = noted
+
+-- a post that is given up
+given_up : (known : Known) (seen : Seen) (entry : Entry) → IsNoted known InUse →
+    IsNoted (with_entry (with_entry (with_seen known seen) entry) Nowhere) InUse
+given_up Unknown seen entry noted = absurd noted
+given_up (Holds before old) seen entry noted = tt
+
+-- a message that the party is done with
+finished : (known : Known) (seen : Seen) → IsNoted known Undone → IsNoted (with_entry (with_seen known seen) Nowhere) InUse
+finished Unknown seen noted = absurd noted
+finished (Holds before old) seen noted = tt
+
+-- CALLS
+
+module _ (old new : FileLog) (notes : List Note) (joined : IsJoined old notes) (bucket : ℕ) where
+  -- what is so of the log with these events is so of the log that got them
+  abbrev IsSame : FileLog → ℕ → Type 0
+  IsSame log other = unseen (known_of log other) ≡ unseen (known_of old other)
+
+  apart_by : (other : ℕ) → other ≢ bucket → (bucket == other) ≡ false
+  apart_by other apart = ne_eqb bucket other (λ same. apart (sym same))
+
+  pub after_deallocate : slice_get notes bucket ≡ Some InUse → ((process : ℕ) → IsDeallocate process old bucket new) →
+      IsJoined new (slice_set notes bucket Unheld)
+  after_deallocate was did = go_noted old new notes joined (λ process. (_, (did process).0)) bucket Unheld
+      (subst (λ log. IsNoted (known_of log bucket) Unheld) (sym (did 0).1) (rw (test_same bucket bucket refl) tt))
+      (λ other apart. subst (λ log. IsSame log other) (sym (did 0).1) (rw (apart_by other apart) refl)) InUse was
+
+  pub after_detach : slice_get notes bucket ≡ Some InUse → ((process : ℕ) → IsDetach process old bucket new) →
+      IsJoined new (slice_set notes bucket Unheld)
+  after_detach was did = go_noted old new notes joined (λ process. (_, (did process).0)) bucket Unheld
+      (subst (λ log. IsNoted (known_of log bucket) Unheld) (sym (did 0).1) (rw (test_same bucket bucket refl) tt))
+      (λ other apart. subst (λ log. IsSame log other) (sym (did 0).1) (rw (apart_by other apart) refl)) InUse was
+
+  pub after_attach : slice_get notes bucket ≡ Some Unheld → ((process : ℕ) → IsAttach process old bucket true new) →
+      IsJoined new (slice_set notes bucket InUse)
+  after_attach was did = go_noted old new notes joined (λ process. (_, (did process).1)) bucket InUse
+      (subst (λ log. IsNoted (known_of log bucket) InUse) (sym (did 0).2)
+      (rw (test_same bucket bucket refl, test_same old.party old.party refl) tt))
+      (λ other apart. subst (λ log. IsSame log other) (sym (did 0).2) (rw (apart_by other apart) refl)) Unheld was
+
+  pub after_no_attach : slice_get notes bucket ≡ Some Unheld → ((process : ℕ) → IsAttach process old bucket false new) →
+      IsJoined new notes
+  after_no_attach was did = elim (did 0).1 [
+    | inl (flag, gets, not_so) ↦ go_again old new notes joined (λ process. (_, (did process).0)) bucket Unheld
+        (subst (λ log. IsNoted (known_of log bucket) Unheld) (sym gets) (rw (test_same bucket bucket refl)
+        (still_unheld (known_of old bucket) (same_flag flag (HeldBy old.party)) (joined.noted.each bucket Unheld was))))
+        (λ other apart. subst (λ log. IsSame log other) (sym gets) (rw (apart_by other apart) refl)) was
+    | inr (from, gets) ↦ go_again old new notes joined (λ process. (_, (did process).0)) bucket Unheld
+        (subst (λ log. IsNoted (known_of log bucket) Unheld) (sym gets) (rw (test_same bucket bucket refl) tt))
+        (λ other apart. subst (λ log. IsSame log other) (sym gets) (rw (apart_by other apart) refl)) was
+  ]
+
+  module _ (slot : ℕ) where
+    -- of another bucket a message's slot says nothing that is noted
+    pub after_post : (size : ℕ) → slice_get notes bucket ≡ Some InUse →
+        ((process : ℕ) → IsPost process old slot bucket size true new) → IsJoined new (slice_set notes bucket Unheld)
+    after_post size was did = go_noted old new notes joined (λ process. (_, (did process).1)) bucket Unheld
+        (subst (λ log. IsNoted (known_of log bucket) Unheld) (sym (did 0).2) (rw (test_same bucket bucket refl) tt))
+        (λ other apart. subst (λ log. IsSame log other) (sym (did 0).2) (rw (apart_by other apart)
+        (seen_away (with_seen (known_of old other) (HasNot slot)) (HasNot slot) ∙ seen_away (known_of old other) (HasNot slot))))
+        InUse was
+
+    pub after_no_post : (size : ℕ) → slice_get notes bucket ≡ Some InUse →
+        ((process : ℕ) → IsPost process old slot bucket size false new) → IsJoined new notes
+    after_no_post size was did = elim (did 0).1 [
+      | inl (other, gets, made) ↦ after_look old new notes slot (Message (did 0).0 other) joined gets
+      | inr (gets, made) ↦ go_again old new notes joined (λ process. goes_up (did process)) bucket InUse
+          (subst (λ log. IsNoted (known_of log bucket) InUse) (sym gets) (rw (test_same bucket bucket refl)
+          (given_up (known_of old bucket) (HasNot slot) (In slot size) (joined.noted.each bucket InUse was))))
+          (λ other apart. subst (λ log. IsSame log other) (sym gets) (rw (apart_by other apart)
+          (seen_away (known_of old other) (HasNot slot)))) was
+    ]
+      where
+        goes_up : {process : ℕ} → IsPost process old slot bucket size false new →
+            (taken : List FileStep) × IsWalk process old Outside new taken Outside
+        goes_up (lap, inl (other, gets, made)) = ([], made)
+        goes_up (lap, inr (gets, made)) = (_, made)
+
+    module _ (lap size : ℕ) (was : slice_get notes bucket ≡ Some Unheld) where
+      pub after_not_sent : ((process : ℕ) → IsReceive process old slot lap bucket size received.NotSent new) → IsJoined new notes
+      after_not_sent did = go_same old new notes joined (λ process. (_, (did process).0))
+          (λ other. subst (λ log. IsSame log other) (sym (did 0).1) refl)
+
+      pub after_wrong : ((process : ℕ) → IsReceive process old slot lap bucket size received.Wrong new) → IsJoined new notes
+      after_wrong did = go_again old new notes joined (λ process. (_, (did process).2)) bucket Unheld
+          (subst (λ log. IsNoted (known_of log bucket) Unheld) (sym (did 0).3) (rw (test_same bucket bucket refl) tt))
+          (λ other apart. subst (λ log. IsSame log other) (sym (did 0).3) (rw (apart_by other apart) refl)) was
+
+      pub after_message : (length : ℕ) → ((process : ℕ) → IsReceive process old slot lap bucket size (received.Message length) new) →
+          IsJoined new (slice_set notes bucket Undone)
+      after_message length did = go_noted old new notes joined (λ process. (_, (did process).1)) bucket Undone
+          (subst (λ log. IsNoted (known_of log bucket) Undone) (sym (did 0).2)
+          (rw (test_same bucket bucket refl, test_same old.party old.party refl) tt))
+          (λ other apart. subst (λ log. IsSame log other) (sym (did 0).2) (rw (apart_by other apart) refl)) Unheld was
+
+    pub after_done : (lap : ℕ) → slice_get notes bucket ≡ Some Undone → ((process : ℕ) → IsDone process old slot bucket lap new) →
+        IsJoined new (slice_set notes bucket InUse)
+    after_done lap was did = go_noted old new notes joined (λ process. (_, (did process).0)) bucket InUse
+        (subst (λ log. IsNoted (known_of log bucket) InUse) (sym (did 0).1) (rw (test_same bucket bucket refl)
+        (finished (known_of old bucket) (HasNot slot) (joined.noted.each bucket Undone was))))
+        (λ other apart. subst (λ log. IsSame log other) (sym (did 0).1) (rw (apart_by other apart)
+        (seen_away (known_of old other) (HasNot slot)))) Undone was
+
+    pub after_put_back : (lap : ℕ) → slice_get notes bucket ≡ Some Undone →
+        ((process : ℕ) → IsPutBack process old bucket (whereabouts.In slot lap) new) → IsJoined new (slice_set notes bucket Unheld)
+    after_put_back lap was did = go_noted old new notes joined (λ process. (_, (did process).0)) bucket Unheld
+        (subst (λ known. IsNoted known Unheld) (sym (did 0).1) tt) (did 0).2 Undone was
+
+  pub after_entered : slice_get notes bucket ≡ Some Undone →
+      ((process : ℕ) → IsPutBack process old bucket whereabouts.Entered new) → IsJoined new notes
+  after_entered was did = go_again old new notes joined (λ process. (_, (did process).0)) bucket Undone
+      (subst (λ known. IsNoted known Undone) (sym (did 0).1.2) tt) (did 0).2 was
+
+  pub after_nowhere : slice_get notes bucket ≡ Some Undone →
+      ((process : ℕ) → IsPutBack process old bucket whereabouts.Nowhere new) → IsJoined new (slice_set notes bucket InUse)
+  after_nowhere was did = go_noted old new notes joined (λ process. (_, (did process).0)) bucket InUse
+      (subst (λ known. IsNoted known InUse) (sym (did 0).1.1) tt) (did 0).2 Undone was
+
+-- ALL BUCKETS
+
+pub after_all : (old new : FileLog) (notes : List Note) (freed : ℕ) → IsJoined old notes →
+    ((process : ℕ) → IsSettled process old false Outside freed [] new Outside) → IsJoined new (replicate (length notes) Unheld)
+after_all old new notes freed joined did =
+    let goes : Goes old new = λ process. ((did process).taken, (did process).walk) in
+    go_on old new notes joined goes (replicate (length notes) Unheld) (length-replicate (length notes) Unheld)
+    (λ other note is.
+    let unheld = slice_get-replicated (length notes) other Unheld note is in
+    let below = slice_get_within (replicate (length notes) Unheld) other note is in
+    let same = length-replicate (length notes) Unheld in
+    let enough = joined.noted.enough in
+    subst (λ n. IsNoted (known_of new other) n) unheld
+    (subst (λ known. IsNoted known Unheld) (sym ((did 0).unknown other (omega (arith, below, same, enough)))) tt))

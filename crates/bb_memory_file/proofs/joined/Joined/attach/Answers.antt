@@ -1,0 +1,33 @@
+use Rattle.bb_memory_file.proofs.FileNotes.{after_attach, after_no_attach}
+use Rattle.bb_memory_file.proofs.joined.Joined.attach.Goals as goal
+use Rattle.bb_memory_file.specs.FileNotes.{Unheld}
+use Rattle.std.proofs.Common.{Some, inl, refl, ◌≡◌}
+use Rattle.std.specs.Prelude.{slice_get}
+
+pub invariant_of-self : goal.invariant_of-self
+invariant_of-self g c =
+    let was : slice_get c.args.self.now.notes c.args.bucket ≡ Some Unheld = cc in
+    after_attach _ _ c.self.inside.notes.items c.self.invariant c.args.bucket (rw (← c.self.view_is) at was)
+    c.if-is_attached.ensures
+
+pub invariant_of-self-else-is_attached : goal.invariant_of-self-else-is_attached
+invariant_of-self-else-is_attached g c =
+    let was : slice_get c.args.self.now.notes c.args.bucket ≡ Some Unheld = cc in
+    after_no_attach _ _ c.self.inside.notes.items c.self.invariant c.args.bucket (rw (← c.self.view_is) at was)
+    c.if-is_attached.ensures
+
+pub returns-then-is_attached : goal.returns-then-is_attached
+returns-then-is_attached g c =
+    let was : slice_get c.args.self.now.notes c.args.bucket ≡ Some Unheld = cc in
+    rw (c.if-is_attached.true, ← c.self.view_is) (
+      (rw (← c.self.view_is) at was),
+      (c.if-is_attached.ensures, refl),
+    )
+
+pub returns-else-is_attached : goal.returns-else-is_attached
+returns-else-is_attached g c =
+    let was : slice_get c.args.self.now.notes c.args.bucket ≡ Some Unheld = cc in
+    rw (c.if-is_attached.false, ← c.self.view_is) (inl (
+      (rw (← c.self.view_is) at was),
+      (c.if-is_attached.ensures, refl),
+    ))

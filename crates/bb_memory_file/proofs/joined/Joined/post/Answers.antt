@@ -1,0 +1,35 @@
+use Rattle.bb_memory_file.proofs.FileNotes.{after_no_post, after_post, in_use_clear, within}
+use Rattle.bb_memory_file.proofs.joined.Joined.post.Goals as goal
+use Rattle.std.proofs.Common.{refl}
+
+pub post-is_posted-requires-clause-clear : goal.post-is_posted-requires-clause-clear
+post-is_posted-requires-clause-clear g c =
+    in_use_clear _ c.self.inside.notes.items c.self.invariant c.args.bucket
+    (rw (← c.self.view_is) at c.in_ok-check.ensures.held)
+
+pub index_mut-requires : goal.index_mut-requires
+index_mut-requires g c =
+    within c.self.inside.notes.items c.args.bucket _ _ c.self.inside.notes.ok.0
+    (rw (← c.self.view_is) at c.in_ok-check.ensures.held)
+
+pub invariant_of-self : goal.invariant_of-self
+invariant_of-self g c =
+    after_post _ _ c.self.inside.notes.items c.self.invariant c.args.bucket c.args.slot c.args.length
+    (rw (← c.self.view_is) at c.in_ok-check.ensures.held) c.if-is_posted.ensures
+
+pub invariant_of-self-else-is_posted : goal.invariant_of-self-else-is_posted
+invariant_of-self-else-is_posted g c =
+    after_no_post _ _ c.self.inside.notes.items c.self.invariant c.args.bucket c.args.slot c.args.length
+    (rw (← c.self.view_is) at c.in_ok-check.ensures.held) c.if-is_posted.ensures
+
+pub returns-then-is_posted : goal.returns-then-is_posted
+returns-then-is_posted g c = rw (c.if-is_posted.true, ← c.self.view_is) (
+  (rw (← c.self.view_is) at c.in_ok-check.ensures.held),
+  (c.if-is_posted.ensures, refl),
+)
+
+pub returns-else-is_posted : goal.returns-else-is_posted
+returns-else-is_posted g c = rw (c.if-is_posted.false, ← c.self.view_is) (
+  (rw (← c.self.view_is) at c.in_ok-check.ensures.held),
+  (c.if-is_posted.ensures, refl),
+)
