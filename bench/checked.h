@@ -1,5 +1,5 @@
 // Allocators in plain C that make the same tests as the library: of the handle, the layout and the
-// place, and for a second free. They are in a file of their own, so that each call is a real call,
+// place, and for a double free. They are in a file of their own, so that each call is a real call,
 // as into a library.
 #include <stddef.h>
 #include <stdint.h>

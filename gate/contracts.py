@@ -37,6 +37,10 @@ from gate.process import Failed, say
 EDIT_PATH = re.compile(r"crates/\w+/must-fail/[^/]+\.edit")
 # How the heading begins of a table column that names what carries a promise.
 CALLS = re.compile(r"Carried by|Calls\b")
+# A function that does nothing: its contract is a theorem about the definitions.
+LAW = re.compile(r"\w+_(?:law|theorem)")
+# The crate with the laws of lists.
+OF_LISTS = "bb_memory_lists"
 NAMES_OF_A_CELL = re.compile(r"((?:(?:, )?`[\w:]+`)+)((?::(?:(?:,| and|)+ `[a-z_]+`)+)?)")
 
 
@@ -205,15 +209,20 @@ def untrue(index: Index) -> Iterator[str]:
 
 
 def uncited(index: Index) -> Iterator[str]:
-    """Yields each clause of a theorem that no row of PROMISES.md cites."""
-    cited = {
-        (name, label)
-        for row in rows_of(index.texts[counts.PAGE].partition(counts.HEADING)[0])
-        for name, labels in row.names
-        for label in labels
-    }
+    """Yields each clause of a theorem or a law that no row of PROMISES.md cites.
+
+    A row that names one without labels cites all of its clauses. The laws of lists are about no
+    allocator, so the page has none of them.
+    """
+    cited: set[tuple[str, str]] = set()
+    whole: set[str] = set()
+    for row in rows_of(index.texts[counts.PAGE].partition(counts.HEADING)[0]):
+        for name, labels in row.names:
+            cited.update((name, label) for label in labels)
+            if not labels:
+                whole.add(name)
     for call in index.declared:
-        if not call.name.endswith("_theorem"):
+        if LAW.fullmatch(call.name) is None or call.name in whole or call.within[0] == OF_LISTS:
             continue
         for clause in call.clauses:
             if (call.name, clause.label) not in cited:

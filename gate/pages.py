@@ -9,7 +9,8 @@ It checks that
 - what pages and comments name or link to exists,
 - the calls and labels of clauses that PROMISES.md and the edits name exist,
 - each function of C, and each row of PROMISES.md with its calls, has a mutant (`gate/promised.py`),
-- the numbers that pages repeat are right,
+- the numbers that pages repeat are right, and so are the words of the headline (`gate/stated.py`),
+- each clause of a theorem or a law is on PROMISES.md,
 - pages, and comments that users read, have none of the words in `gate/wording.py`,
 - each definition and each lemma has a use (`gate/unused.py`),
 - what threads share has no new text by which a call could wait (`gate/places.py`),
@@ -30,6 +31,7 @@ from gate import (
     promised,
     public,
     readings,
+    stated,
     unused,
     versions,
     wording,
@@ -247,6 +249,7 @@ def findings(tree: Tree) -> Iterator[str]:
     yield from unused.findings(tree.texts)
     yield from places.findings(tree.texts)
     yield from readings.findings(tree.texts)
+    yield from stated.findings(tree.texts)
     yield from long_subject(tree.top)
 
 

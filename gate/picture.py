@@ -46,8 +46,16 @@ ROW = 74
 BAR = 30
 # The least width of a chunk with room for the number of its position.
 LABEL = 14
-FILLS = {FREE: "#ffffff", KEPT: "#e4e4e4"}
+FILLS = {FREE: "#ffffff", KEPT: "url(#kept)"}
 LIVE_FILL = "#b0b0b0"
+# The pattern of bytes that no request can get: slanted lines, which differ from white in any print.
+PATTERN = (
+    '<defs><pattern id="kept" width="6" height="6" patternUnits="userSpaceOnUse">'
+    '<path d="M0 6 L6 0" stroke="#606060"/></pattern></defs>'
+)
+# What the fills mean, and the height of the line that says so.
+MEANINGS = {LIVE_FILL: "a chunk", FILLS[KEPT]: "unusable", FILLS[FREE]: "free"}
+LEGEND = 34
 
 
 @dataclass(frozen=True)
@@ -224,6 +232,8 @@ def rectangle(region: Region, part: Part, top: int) -> Iterator[str]:
 def row_svg(region: Region, step: Step, top: int) -> Iterator[str]:
     """Yields a command with its reply, and the region below it."""
     said = f"{step.command}: {step.reply}" if step.reply else step.command
+    if region.kind == "bump" and step.reply == "released":
+        said += " (a bump frees everything)"
     bar = top + 14
     yield f'<text x="{LEFT}" y="{top + 6}" font-weight="bold">{escape(said)}</text>'
     if region.size > 0:
@@ -239,19 +249,30 @@ def row_svg(region: Region, step: Step, top: int) -> Iterator[str]:
     yield f'<text x="{LEFT + REGION}" y="{under}" text-anchor="end">{region.end}</text>'
 
 
+def legend(top: int) -> Iterator[str]:
+    """Yields what each fill means, in a line."""
+    for at, (fill, meaning) in enumerate(MEANINGS.items()):
+        x = LEFT + 110 * at
+        yield f'<rect x="{x}" y="{top}" width="26" height="16" fill="{fill}" stroke="#000000"/>'
+        yield f'<text x="{x + 34}" y="{top + 13}">{meaning}</text>'
+
+
 def svg_of(first: str, region: Region, steps: Sequence[Step]) -> str:
     """Returns the pictures as an SVG file."""
     rows = [Step(first, ""), *steps]
     width = REGION + 2 * LEFT
-    height = ROW * len(rows) + LEFT
+    top_of_legend = ROW * len(rows) + LEFT
+    height = top_of_legend + LEGEND
     lines = [
         f'<svg xmlns="http://www.w3.org/2000/svg" width="{width}" height="{height}" '
         'font-family="Helvetica, Arial, sans-serif" font-size="13" role="img" '
         'aria-label="A region after each command of a script">',
+        PATTERN,
         f'<rect width="{width}" height="{height}" fill="#ffffff"/>',
     ]
     for number, step in enumerate(rows):
         lines += row_svg(region, step, LEFT + ROW * number)
+    lines += legend(top_of_legend)
     return "\n".join([*lines, "</svg>", ""])
 
 

@@ -31,7 +31,6 @@ MUTANT_PATH = re.compile(r"crates/bb_memory_c/tests/pool_file/mutants/[^/]+\.mut
 
 DECLARED = re.compile(r"^(?:BB_MUST_USE )?[a-z0-9_]+ \*?(bb_[a-z0-9_]+)\(", re.M)
 CHANGED = re.compile(r"^# (?:function|call): (\w+)$", re.M)
-LAW = re.compile(r"\w+_(?:law|theorem)")
 
 
 @dataclass(frozen=True)
@@ -106,7 +105,7 @@ class Rows:
             broken = False
             is_law = True
             for name, labels in row.names:
-                if LAW.fullmatch(name):
+                if contracts.LAW.fullmatch(name):
                     continue
                 is_law = False
                 if not self.index.calls(name):

@@ -12,10 +12,14 @@ from dataclasses import dataclass
 
 @dataclass(frozen=True)
 class Word:
-    """A pattern, in which a blank also matches a line break, and what to write instead."""
+    """A pattern, in which a blank also matches a line break, and what to write instead.
+
+    Only files whose whole path matches `paths` are checked for the word.
+    """
 
     pattern: str
     instead: str
+    paths: str = ".*"
 
     def compiled(self) -> re.Pattern[str]:
         """Returns the compiled pattern, for prose that may have line breaks."""
@@ -29,6 +33,17 @@ SUBJECT = r"(?:it|this|that|they|these|each|every|all|both|neither|some|any|the|
 IS = r"(?:is|are|isn't|aren't|was|were)"
 PLACED = r"(?:at|found|in|kept|made|on)\b"
 NOT_PLACED = rf"(?! *(?:[.,;:)|]|\n\n|\Z)| {PLACED})"
+
+# What users of the libraries read, but not the pages about proofs and measurements, which define
+# such words.
+OF_USERS = (
+    r"(?:README|GUIDE)\.md|bindings/.*|crates/bb_memory_c/(?:README\.md|bb_\w+\.hp?p?)"
+    r"|examples/.*"
+)
+# The same, and the pages.
+OF_READERS = rf"{OF_USERS}|.*\.md"
+# Pages that define takings and returns, or prove something about them.
+DEFINING = r"PROMISES\.md|CHANGELOG\.md|docs/(?:definitions|proofs|DECISIONS|differences)\.md"
 
 WORDS = (
     Word(r"\b[Bb]ehind\b", "after, in, or with"),
@@ -50,12 +65,21 @@ WORDS = (
     Word(r"\b[Aa]s of (?:a|an|the|one)\b", "as for"),
     Word(r"\b[Mm]easured of\b", "measured with"),
     Word(r"\b[Ee]ach \w+ more\b", "each additional"),
+    Word(r"\b[Ss]econd frees?\b|\b[Ff]reed twice\b", "double free"),
+    Word(
+        r"\b[Tt]akings\b|\b(?:[Aa]|[Oo]ne|[Ee]ach|[Tt]he) taking\b",
+        "allocation or acquisition",
+        rf"(?!(?:{DEFINING})\Z)(?:{OF_READERS})",
+    ),
+    Word(r"\b[Ff]igures?\b", "statistics, or sizes", OF_USERS),
+    Word(r"(?m)^ *Has (?:an?|all|each|the) ", "Makes", OF_USERS),
+    Word(r"\b[Ee]xactly if\b", "if and only if, or only if", OF_READERS),
     Word(r"\b[Ww]here (?:no|none|nothing|nobody|there (?:is|are|was|were))\b", "if"),
     Word(rf"{NOT_A_PLACE}\b[Ww]here {SUBJECT} (?:[\w'-]+ ){{0,4}}?{IS}\b{NOT_PLACED}", "if"),
 )
 
 # Phrases in which such a word is right.
-ALLOWED = ("Where a peer is quicker",)
+ALLOWED = ("Where a peer is quicker", "A layer above by contract alone")
 
 PAGE = re.compile(r".*\.md")
 # The page of which only the part of the newest version is checked: the others are published.
@@ -120,6 +144,8 @@ def wrong(texts: Mapping[str, str], allowed: Collection[str] = ALLOWED) -> Itera
             continue
         right = list(spans(allowed, prose))
         for word, pattern in patterns:
+            if re.fullmatch(word.paths, path) is None:
+                continue
             for found in pattern.finditer(prose):
                 if any(start <= found.start() and found.end() <= end for start, end in right):
                     continue

@@ -4,7 +4,7 @@
 // scope, a `std::unique_ptr` that frees its bucket, and a `std::pmr::memory_resource` over a bump,
 // a pool or a party.
 
-// A refusal is a value: an `error`, or an empty result. Only a memory resource throws:
+// An error is a value: an `error`, or an empty result. Only a memory resource throws:
 // `std::bad_alloc`, as containers require.
 
 //     alignas(64) static unsigned char region[BB_BYTES_FOR(64, 64, 16)];
@@ -20,7 +20,7 @@
 //     auto number = bb::make<int>(party.get(), 7);
 //     bb::pool_resource nodes(party.get());
 //     std::pmr::list<int> numbers({1, 2, 3}, &nodes);
-//     // There are no figures if there is no party.
+//     // There are no statistics if there is no party.
 //     if (party.info()->held_buckets != 4)
 //         return;
 
@@ -98,7 +98,7 @@ inline const char *name(error code) noexcept {
 // FIGURES
 //
 
-// Returns the figures of what is in the handle, or nothing if the handle is empty.
+// Returns the statistics of what is in the handle, or nothing if the handle is empty.
 template<class Figures, class Handle>
 std::optional<Figures> figures(std::uint32_t (*info)(Handle *, Figures *),
                                std::remove_const_t<Handle> *of) noexcept {
@@ -106,33 +106,33 @@ std::optional<Figures> figures(std::uint32_t (*info)(Handle *, Figures *),
     return info(of, &result) == BB_OK ? std::optional<Figures>(result) : std::nullopt;
 }
 
-// Returns the figures of a bump, or nothing if the handle is empty.
+// Returns the statistics of a bump, or nothing if the handle is empty.
 inline std::optional<bb_bump_figures> info(bb_bump *of) noexcept {
     return figures(bb_bump_info, of);
 }
 
-// Returns the figures of a party's bump, or nothing if the handle is empty.
+// Returns the statistics of a party's bump, or nothing if the handle is empty.
 inline std::optional<bb_bump_figures> info(bb_bump_party *of) noexcept {
     return figures(bb_bump_party_info, of);
 }
 
-// Returns the figures of a one-chunk allocator, or nothing if the handle is empty.
+// Returns the statistics of a one-chunk allocator, or nothing if the handle is empty.
 inline std::optional<bb_one_chunk_figures> info(bb_one_chunk *of) noexcept {
     return figures(bb_one_chunk_info, of);
 }
 
-// Returns the figures of a pool, or nothing if the handle is empty.
+// Returns the statistics of a pool, or nothing if the handle is empty.
 inline std::optional<bb_pool_figures> info(bb_pool *of) noexcept {
     return figures(bb_pool_info, of);
 }
 
-// Returns the figures of a party's pool, or nothing if the handle is empty. Only the buckets that
-// the party holds and doesn't cache count as held.
+// Returns the statistics of a party's pool, or nothing if the handle is empty. Only the buckets
+// that the party holds and doesn't cache count as held.
 inline std::optional<bb_shared_pool_figures> info(bb_pool_party *of) noexcept {
     return figures(bb_pool_party_info, of);
 }
 
-// Returns the figures of a shared pool, or nothing if the handle is empty.
+// Returns the statistics of a shared pool, or nothing if the handle is empty.
 inline std::optional<bb_shared_pool_figures> info(bb_shared_pool *of) noexcept {
     return figures(bb_shared_pool_info, of);
 }
@@ -176,7 +176,7 @@ public:
     // must not be used anymore.
     error reset() noexcept { return static_cast<error>(bb_bump_deallocate(get())); }
 
-    // Returns the figures of the bump, or nothing if there is none.
+    // Returns the statistics of the bump, or nothing if there is none.
     std::optional<bb_bump_figures> info() noexcept { return bb::info(get()); }
 };
 
@@ -188,7 +188,7 @@ public:
         return static_cast<error>(bb_one_chunk_init(get(), start, size));
     }
 
-    // Returns the figures of the allocator, or nothing if there is none.
+    // Returns the statistics of the allocator, or nothing if there is none.
     std::optional<bb_one_chunk_figures> info() noexcept { return bb::info(get()); }
 };
 
@@ -202,7 +202,7 @@ public:
         return static_cast<error>(bb_pool_init(get(), bucket_size, bucket_align, start, size));
     }
 
-    // Returns the figures of the pool, or nothing if there is none.
+    // Returns the statistics of the pool, or nothing if there is none.
     std::optional<bb_pool_figures> info() noexcept { return bb::info(get()); }
 };
 
@@ -259,7 +259,7 @@ public:
 
         ~party() { leave(); }
 
-        // Has the party leave. It can join again later. Each bucket that it holds is freed, and
+        // Makes the party leave. It can join again later. Each bucket that it holds is freed, and
         // must not be used anymore.
         void leave() noexcept { end_by(Leave); }
 
@@ -270,7 +270,7 @@ public:
         const PartyHandle *get() const noexcept { return &handle_; }
 
     protected:
-        // Has the party leave with `Leave`, or with another call that empties its handle.
+        // Makes the party leave with `Leave`, or with another call that empties its handle.
         void end_by(std::uint32_t (*call)(Handle *, PartyHandle *)) noexcept {
             if (shared *of = std::exchange(of_, nullptr)) {
                 std::lock_guard<std::mutex> lock(of->lock_);
@@ -301,11 +301,11 @@ public:
         return owner<Handle, Destroy>::destroy();
     }
 
-    // Has the party `into` join. The call is refused if that party has joined already.
+    // Makes the party `into` join. The call fails if that party has joined already.
     error join(party &into) noexcept { return join_by(Join, into); }
 
 protected:
-    // Has the party join with `Join`, or with another call that fills its handle.
+    // Makes the party join with `Join`, or with another call that fills its handle.
     template<class Call>
     error join_by(Call call, party &into) noexcept {
         std::lock_guard<std::mutex> lock(lock_);
@@ -330,7 +330,7 @@ using shared_pool = shared<bb_shared_pool, bb_shared_pool_destroy, bb_shared_poo
 // A party of a bump that threads share.
 class bump_party : public detail::shared_bump::party {
 public:
-    // Returns the figures of the bump, or nothing if the party hasn't joined.
+    // Returns the statistics of the bump, or nothing if the party hasn't joined.
     std::optional<bb_bump_figures> info() noexcept { return bb::info(get()); }
 };
 
@@ -355,8 +355,8 @@ public:
 // A party of a pool that threads share.
 class pool_party : public detail::shared_pool::party {
 public:
-    // Returns the figures of the pool, or nothing if the party hasn't joined. Only the buckets that
-    // this party holds and doesn't cache count as held.
+    // Returns the statistics of the pool, or nothing if the party hasn't joined. Only the buckets
+    // that this party holds and doesn't cache count as held.
     std::optional<bb_shared_pool_figures> info() noexcept { return bb::info(get()); }
 
     // Returns the number by which flags name this party, or nothing if it hasn't joined.
@@ -367,7 +367,7 @@ public:
         return static_cast<std::uint32_t>(result.number);
     }
 
-    // Has the party cache at most `most` of the buckets that it frees from now on.
+    // Makes the party cache at most `most` of the buckets that it frees from now on.
     error cache(std::uint32_t most) noexcept {
         return static_cast<error>(bb_pool_party_cache(get(), most));
     }
@@ -385,8 +385,8 @@ public:
         return static_cast<error>(bb_pool_party_give_all_back(get()));
     }
 
-    // Has the party leave without freeing anything: the next party that joins with its number holds
-    // what this one held.
+    // Makes the party leave without freeing anything: the next party that joins with its number
+    // holds what this one held.
     void forget() noexcept { end_by(bb_shared_pool_forget); }
 };
 
@@ -403,7 +403,7 @@ public:
             bb_shared_pool_init(get(), bucket_size, bucket_align, start, size, parties));
     }
 
-    // Returns the figures of the pool, or nothing if there is none.
+    // Returns the statistics of the pool, or nothing if there is none.
     std::optional<bb_shared_pool_figures> info() noexcept { return bb::info(get()); }
 
     // Has `into` join as the party with this number, which `number()` returns.
@@ -481,14 +481,12 @@ inline std::size_t take_many(bb_pool *from, void **slots, std::size_t count) {
     return bb_pool_take_many(from, slots, count).number;
 }
 
-// Frees the buckets at these places, up to the first one that is refused. Returns how many were
-// freed.
+// Frees the buckets at these places, up to the first one that fails. Returns how many were freed.
 inline std::size_t deallocate_many(bb_pool *to, void *const *places, std::size_t count) {
     return bb_pool_deallocate_many(to, places, count).number;
 }
 
-// Frees the buckets at these places, up to the first one that is refused. Returns how many were
-// freed.
+// Frees the buckets at these places, up to the first one that fails. Returns how many were freed.
 inline std::size_t deallocate_many(bb_pool_party *to, void *const *places, std::size_t count) {
     return bb_pool_party_deallocate_many(to, places, count).number;
 }
@@ -499,7 +497,7 @@ inline error return_number(bb_pool_party *to, std::uint32_t number, std::uint32_
 }
 
 // Frees the buckets with these numbers, which party `from` has detached, up to the first one that
-// is refused. Returns how many were freed.
+// fails. Returns how many were freed.
 inline std::size_t return_many(bb_pool_party *to, const std::uint32_t *numbers, std::size_t count,
                                std::uint32_t from) {
     return bb_pool_party_return_many(to, numbers, count, from).number;
@@ -546,9 +544,9 @@ unique<void, Handle> take(Handle *from) {
     return unique<void, Handle>(given.code == BB_OK ? given.place : nullptr, {from});
 }
 
-// Makes a T in a bucket of a pool or of a party's pool, whose handle has to outlive the pointer.
-// An aggregate, such as a struct without constructors, gets its members in their order. The pointer
-// is empty if the pool refuses. If T's constructor throws, the bucket is freed.
+// Makes a T in a bucket of a pool or of a party's pool, whose handle has to outlive the pointer. An
+// aggregate, such as a struct without constructors, gets its members in their order. The pointer is
+// empty if the pool has no such bucket. If T's constructor throws, the bucket is freed.
 template<class T, class Handle, class... Arguments>
 std::enable_if_t<has_buckets<Handle>, unique<T, Handle>> make(Handle *from,
                                                               Arguments &&...arguments) {
@@ -570,9 +568,9 @@ std::enable_if_t<has_buckets<Handle>, unique<T, Handle>> make(Handle *from,
 //
 
 // A call that detaches a bucket takes the pointer that owns the bucket, and empties it. So nobody
-// destroys the value on its way: whoever attaches the bucket owns the value. If the call is
-// refused, the pointer keeps both. A bucket that no such pointer owns is detached by the functions
-// of bb_memory.h.
+// destroys the value on its way: whoever attaches the bucket owns the value. If the call fails, the
+// pointer keeps both. A bucket that no such pointer owns is detached by the functions of
+// bb_memory.h.
 
 // Detaches the bucket of `from`, with its T, into a `bb_detached`. Returns `not_held` if `from` is
 // empty, and otherwise the codes of `bb_pool_party_detach`.
@@ -614,8 +612,8 @@ std::optional<std::uint32_t> detach_number(unique<T, bb_pool_party> &from) {
 }
 
 // Attaches the bucket that is in `from`. The sender has made a T in it, unless T is `void`. The
-// pointer is empty if the pool refuses, or if the chunk in `from` doesn't have the size of a T:
-// then the bucket stays in `from`.
+// pointer is empty if the pool has no such bucket, or if the chunk in `from` doesn't have the size
+// of a T: then the bucket stays in `from`.
 template<class T = void>
 unique<T, bb_pool_party> attach(bb_pool_party *to, detached &from) {
     if constexpr (!std::is_void_v<T>)
@@ -641,11 +639,11 @@ unique<T, bb_pool_party> attach_number(bb_pool_party *to, std::uint32_t number,
 // MEMORY RESOURCES
 //
 
-// A resource serves requests from a handle, which has to outlive it. If the handle refuses a
+// A resource serves requests from a handle, which has to outlive it. If the handle can't serve a
 // request, the upstream resource serves it, and throws if it can't. Two resources over one handle
 // are equal if their upstream resources are: then one may free what the other allocated, and
-// containers move their elements from one to the other without a copy. A program without RTTI
-// finds a resource equal only to itself.
+// containers move their elements from one to the other without a copy. A program without RTTI finds
+// a resource equal only to itself.
 
 // As long as a chunk is in use, the handle isn't used for another region.
 

@@ -1,4 +1,4 @@
-// `bb-pool FILE` shows a shared pool in a file (bb_pool_file.h): its figures, which parties are
+// `bb-pool FILE` shows a shared pool in a file (bb_pool_file.h): its sizes, which parties are
 // alive, what each holds, which slots are full, and a map of the buckets.
 #include <errno.h>
 #include <stdio.h>
@@ -23,7 +23,7 @@ enum {
 static const char USAGE[] =
     "usage: bb-pool [--reap [--detached] [--left]] [--watch] [--json] FILE\n"
     "\n"
-    "Shows the shared pool in FILE: its figures, its parties, its full slots, and a map of its\n"
+    "Shows the shared pool in FILE: its sizes, its parties, its full slots, and a map of its\n"
     "buckets. Each party is a letter, A for party 0, in lower case if the party is dead.\n"
     "\n"
     "  --reap      first frees what dead parties hold; messages in slots stay. This needs the\n"

@@ -37,7 +37,7 @@
 //     if (bucket.post<order>(0) != BB_OK)
 //         return;
 
-// A refusal is a code. Files, watches, parties, buckets and messages can be moved, but not copied.
+// An error is a code. Files, watches, parties, buckets and messages can be moved, but not copied.
 // Only one thread at a time uses a party with its buckets and messages.
 
 #ifndef BB_POOL_FILE_HPP
@@ -185,7 +185,7 @@ public:
         return open_by(bb_pool_file_open, path, &options);
     }
 
-    // Opens the pool in a file that exists, whatever its figures.
+    // Opens the pool in a file that exists, whatever its sizes.
     [[nodiscard]] std::uint32_t open(const char *path) noexcept {
         return open_by(bb_pool_file_open, path, nullptr);
     }
@@ -200,7 +200,7 @@ public:
     // to unmap or to unlock it, as `bb_pool_file_close` says. Otherwise the last of them closes it.
     std::uint32_t close() noexcept { return file_.close(); }
 
-    // Returns the figures of the file, or nothing if there are none.
+    // Returns the statistics of the file, or nothing if there are none.
     std::optional<bb_pool_file_figures> info() const noexcept {
         bb_pool_file_figures figures{};
         if (get() == nullptr || bb_pool_file_info(get(), &figures) != BB_OK)
@@ -214,7 +214,7 @@ public:
 
     // Returns these bytes as a T, whose members other processes may change at any time: so they are
     // atomics, or are used under a lock of the host. Returns null if there are fewer bytes than a T
-    // has. Call this once, since it looks up the figures of the file, as `info` does.
+    // has. Call this once, since it looks up the statistics of the file, as `info` does.
     template<class T>
     T *user() const noexcept {
         static_assert(std::is_trivially_destructible_v<T> && std::is_standard_layout_v<T>);
@@ -340,7 +340,7 @@ private:
     int fd_ = -1;
 };
 
-// A message that a party has taken, or the code of a refusal. When it goes out of scope after
+// A message that a party has taken, or the code of an error. When it goes out of scope after
 // `done`, its bucket is freed. Without `done` the message is put back, and can be taken again.
 //
 // If the party leaves or gives all back before that, there is no message here anymore, and the
@@ -416,7 +416,7 @@ private:
     bool is_done_ = false;
 };
 
-// A bucket that a party holds, or the code of a refusal. When it goes out of scope, the bucket is
+// A bucket that a party holds, or the code of an error. When it goes out of scope, the bucket is
 // freed, unless it was posted or detached.
 //
 // If the party leaves or gives all back before that, there is no bucket here anymore, and others
@@ -450,7 +450,7 @@ public:
     void *data() const noexcept { return code() == BB_OK ? chunk_.place : nullptr; }
 
     // Posts the bucket, with a message of `len` bytes, without copying it. Returns `code()` if
-    // there is no bucket; then the codes of `bb_pool_file_post`. After a refusal this still has its
+    // there is no bucket; then the codes of `bb_pool_file_post`. After a failure this still has its
     // bucket.
     [[nodiscard]] std::uint32_t post(std::uint32_t slot, std::size_t len) noexcept {
         if (code() != BB_OK)

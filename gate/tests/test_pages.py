@@ -84,8 +84,15 @@ class Faults(unittest.TestCase):
         theorem = "pub fn pool_theorem()\n    ensures run { 0 ≡ 0 }\n{\n}\n"
         pools = {"crates/high/src/pools.rt": f"{TEXTS['crates/high/src/pools.rt']}\n{theorem}"}
         self.finds(pools, "PROMISES.md: no row cites pool_theorem: run")
-        row = "; `pool_theorem`: `run` | none |"
-        self.assertEqual(found_in({**pools, **changed("PROMISES.md", " | none |", row)}), [])
+        for row in ("; `pool_theorem`: `run` | none |", "; `pool_theorem` | none |"):
+            self.assertEqual(found_in({**pools, **changed("PROMISES.md", " | none |", row)}), [])
+
+    def test_clause_of_a_law_that_no_row_cites(self) -> None:
+        law = "pub fn pool_law()\n    ensures run { 0 ≡ 0 }\n    ensures held { 0 ≡ 0 }\n{\n}\n"
+        pools = {"crates/high/src/pools.rt": f"{TEXTS['crates/high/src/pools.rt']}\n{law}"}
+        row = "; `pool_law`: `run` | none |"
+        changes = {**pools, **changed("PROMISES.md", " | none |", row)}
+        self.finds(changes, "PROMISES.md: no row cites pool_law: held")
 
     def test_name(self) -> None:
         self.finds(changed("README.md", "`Pool::count`", "`Pool::size_of`"), "Pool::size_of")

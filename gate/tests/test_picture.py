@@ -112,13 +112,17 @@ class PictureTest(unittest.TestCase):
         root = ElementTree.fromstring(svg_of("bump 4096 64", BUMP, steps))
         name = "{http://www.w3.org/2000/svg}"
         texts = [text.text for text in root.iter(f"{name}text")]
-        self.assertEqual(
-            texts,
-            ["bump 4096 64", "4096", "4160", "alloc 10 1: chunk 4096 32", "0", "4096", "4160"],
-        )
+        row = ["bump 4096 64", "4096", "4160", "alloc 10 1: chunk 4096 32", "0", "4096", "4160"]
+        self.assertEqual(texts, [*row, "a chunk", "unusable", "free"])
         # Half of the region is live.
         fills = [(rect.get("fill"), rect.get("width")) for rect in root.iter(f"{name}rect")]
         self.assertEqual(fills[3:5], [("#b0b0b0", "320.0"), ("#ffffff", "320.0")])
+
+    def test_svg_of_a_free(self) -> None:
+        everything = svg_of("bump 4096 64", BUMP, [Step("free 0", "released")])
+        self.assertIn(">free 0: released (a bump frees everything)<", everything)
+        one = svg_of("pool 4100 40 12 8", POOL, [Step("free 0", "released")])
+        self.assertIn(">free 0: released<", one)
 
     def test_draw(self) -> None:
         with temporary_folder() as work:

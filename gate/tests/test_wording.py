@@ -34,6 +34,13 @@ WRONG = {
     "It is refused where the size is greater.": "where the size is",
     "A request is refused where each bucket is held or cached.": "where each bucket is",
     "It is refused where it was lost before.": "where it was",
+    "A second free is refused.": "second free",
+    "The chunk is freed twice.": "freed twice",
+    "Each taking is one step.": "Each taking",
+    "The time of 1,000 takings.": "takings",
+    "Returns the figures of the pool.": "figures",
+    "Has the library call another function.": "Has the",
+    "It fails exactly if the pool is empty.": "exactly if",
 }
 # Sentences in which the same words are right.
 RIGHT = (
@@ -49,6 +56,8 @@ RIGHT = (
     "A mark shows where the values are made.",
     "It follows from the machine, where the bucket is held after the step.",
     "Something else happens.",
+    "Looks at a message without taking it.",
+    "The pool has the library's memory.",
     "A name in code: `behind`, `alone`, `stands`.",
 )
 
@@ -100,6 +109,12 @@ class Places(unittest.TestCase):
     def test_line_of_a_page(self) -> None:
         page = "A page.\n\n```c\nint behind;\n```\n\n    behind\n\nIt is behind.\n"
         self.assertIn("docs/a.md:9: ", self.one("docs/a.md", page))
+
+    def test_words_that_some_pages_define(self) -> None:
+        self.one("docs/benchmarks.md", "The time of 1,000 takings.\n")
+        self.none("PROMISES.md", "The takings and returns are a run.\n")
+        self.none("crates/high/src/pools.rt", "/// The takings are a run.\n")
+        self.none("docs/benchmarks.md", "All figures are in the file.\n")
 
     def test_changes_of_the_newest_version(self) -> None:
         page = "# Changes\n\n## 1.2.3\n\nNow it is behind.\n\n## 1.2.2\n\nIt was behind.\n"

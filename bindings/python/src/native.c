@@ -164,7 +164,7 @@ static PyStructSequence_Field info_fields[] = {
 };
 static PyStructSequence_Desc info_description = {
     "bb_memory.Info",
-    "The figures of a file.",
+    "The statistics of a file.",
     info_fields,
     sizeof info_fields / sizeof *info_fields - 1,
 };

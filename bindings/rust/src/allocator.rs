@@ -133,7 +133,7 @@ pub unsafe trait Allocator: BaseAllocator {
     ) -> Result<NonNull<[u8]>, AllocationShrinkError>;
 }
 
-/// Defines a getter for each of these figures.
+/// Defines a getter for each of these statistics.
 macro_rules! getters {
     ($($figure:ident),*) => {
         $(
@@ -155,7 +155,7 @@ macro_rules! getters {
 /// A bucket that `take` returns meets what [`BaseAllocator`] requires of a chunk of the layout that
 /// `bucket` returns.
 pub unsafe trait Pool: BaseAllocator {
-    /// Returns all figures. A party looks at each bucket for them.
+    /// Returns all statistics. A party looks at each bucket for them.
     #[must_use]
     fn info(&self) -> PoolInfo;
 
@@ -260,7 +260,7 @@ macro_rules! over_region {
     };
 }
 
-/// Implements `Debug` by the figures.
+/// Implements `Debug` by the statistics.
 macro_rules! shown {
     ($name:ident) => {
         impl fmt::Debug for $name<'_> {
@@ -271,11 +271,11 @@ macro_rules! shown {
     };
 }
 
-/// Defines `info`, a getter for each figure, and `Debug`.
+/// Defines `info`, a getter for each of the statistics, and `Debug`.
 macro_rules! figures {
     ($name:ident: $info:ident by $call:ident: $($figure:ident: $type:ty),*) => {
         impl $name<'_> {
-            /// Returns all figures.
+            /// Returns all statistics.
             #[must_use]
             pub fn info(&self) -> ffi::$info {
                 let mut info = ffi::$info::default();

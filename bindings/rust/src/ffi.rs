@@ -30,7 +30,7 @@ pub struct Number {
     pub number: usize,
 }
 
-/// The figures of a bump, in bytes. Those of a party are read by one load.
+/// The statistics of a bump, in bytes. Those of a party are read by one load.
 #[non_exhaustive]
 #[repr(C)]
 #[derive(Clone, Copy, Debug, Default, PartialEq, Eq)]
@@ -45,7 +45,7 @@ pub struct BumpInfo {
     pub total_space: usize,
 }
 
-/// The figures of a one-chunk allocator.
+/// The statistics of a one-chunk allocator.
 #[non_exhaustive]
 #[repr(C)]
 #[derive(Clone, Copy, Debug, Default, PartialEq, Eq)]
@@ -58,8 +58,8 @@ pub struct OneChunkInfo {
     pub has_chunk_available: bool,
 }
 
-/// The figures of a pool. Those of a shared pool or of a party come from a look at one bucket after
-/// another, while other parties may allocate and free buckets.
+/// The statistics of a pool. Those of a shared pool or of a party come from a look at one bucket
+/// after another, while other parties may allocate and free buckets.
 #[non_exhaustive]
 #[repr(C)]
 #[derive(Clone, Copy, Debug, Default, PartialEq, Eq)]
@@ -79,7 +79,7 @@ pub struct PoolInfo {
     pub held_buckets: usize,
 }
 
-/// The figures of a pool with one owner: `bb_pool_figures` of the header.
+/// The statistics of a pool with one owner: `bb_pool_figures` of the header.
 #[repr(C)]
 #[derive(Default)]
 pub struct PoolFigures {

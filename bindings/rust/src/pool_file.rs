@@ -92,7 +92,7 @@ unsafe extern "C" {
     fn bb_file_party_number(party: *mut FileParty) -> Number;
 }
 
-/// The figures that a file is made with. A file that exists has to have the same ones, except for
+/// The sizes that a file is made with. A file that exists has to have the same ones, except for
 /// `mode`.
 #[repr(C)]
 #[derive(Clone, Copy, Debug, Default, PartialEq, Eq)]
@@ -113,12 +113,12 @@ pub struct PoolFileOptions {
     pub user_bytes: usize,
 }
 
-/// The figures of a file. Each flag, slot and lock was looked at once.
+/// The statistics of a file. Each flag, slot and lock was looked at once.
 #[non_exhaustive]
 #[repr(C)]
 #[derive(Clone, Copy, Debug)]
 pub struct PoolFileInfo {
-    /// The figures that the file was made with.
+    /// The sizes that the file was made with.
     pub options: PoolFileOptions,
     /// Where bucket 0 is in this process.
     pub start: *mut c_void,
@@ -196,9 +196,9 @@ pub enum PoolFileError {
     Foreign,
     /// The file is in the format of another version of the library.
     Version,
-    /// The file's figures aren't those of the options.
+    /// The file's sizes aren't those of the options.
     Mismatch,
-    /// The file's length, pages and figures don't match.
+    /// The file's length, pages and sizes don't match.
     Damaged,
     /// The file isn't regular, or others than those whom `mode` lets may write it.
     Unsafe,
@@ -260,8 +260,8 @@ impl fmt::Display for PoolFileError {
             PoolFileError::InvalidArgument => "a slot or an option is out of its range",
             PoolFileError::Foreign => "the file does not hold a pool",
             PoolFileError::Version => "the file is in the format of another version",
-            PoolFileError::Mismatch => "the file's figures are not those of the options",
-            PoolFileError::Damaged => "the file's length, pages and figures do not match",
+            PoolFileError::Mismatch => "the file's sizes are not those of the options",
+            PoolFileError::Damaged => "the file's length, pages and sizes do not match",
             PoolFileError::Unsafe => "the file is not regular, or others may write it",
             PoolFileError::Stale => "the file is unfinished or from before the last boot",
             PoolFileError::NoParty => "every party is in use",
@@ -312,13 +312,13 @@ impl From<PostError<'_>> for PoolFileError {
 const ANY_SLOT: u32 = u32::MAX;
 
 /// A pool in a file that this process has opened. Any process opens it by its path, and maps it at
-/// any address. If a process is killed, neither a bucket nor a message is lost.
+/// any address. If a process is killed, no bucket is lost, and no message in a slot.
 ///
 /// Whoever may write the file is trusted: wrong values in it, or a file that is truncated, break
 /// the promises of safe Rust. A forked child must not use what its parent has opened.
 pub struct PoolFile {
     file: NonNull<File>,
-    /// The figures that the file was made with, once a call has needed them.
+    /// The sizes that the file was made with, once a call has needed them.
     options: OnceLock<PoolFileOptions>,
 }
 
@@ -337,7 +337,7 @@ impl PoolFile {
         PoolFile::open_path(path.as_ref(), options)
     }
 
-    /// Opens the pool in a file that exists, whatever its figures.
+    /// Opens the pool in a file that exists, whatever its sizes.
     pub fn open_existing(path: impl AsRef<Path>) -> Result<PoolFile, PoolFileError> {
         PoolFile::open_path(path.as_ref(), ptr::null())
     }
@@ -502,7 +502,7 @@ impl PoolFile {
         Ok(Watch { file: self, fd })
     }
 
-    /// Returns the figures of the file.
+    /// Returns the statistics of the file.
     pub fn info(&self) -> Result<PoolFileInfo, PoolFileError> {
         let mut info = PoolFileInfo {
             options: PoolFileOptions::default(),
@@ -519,7 +519,7 @@ impl PoolFile {
         Ok(info)
     }
 
-    /// Returns the figures that the file was made with. They never change.
+    /// Returns the sizes that the file was made with. They never change.
     fn options(&self) -> Result<&PoolFileOptions, PoolFileError> {
         if let Some(options) = self.options.get() {
             return Ok(options);

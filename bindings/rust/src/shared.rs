@@ -224,7 +224,7 @@ impl<'region> SharedPoolAllocator<'region> {
         Ok(PoolParty { owned, bucket: self.bucket })
     }
 
-    /// Returns all figures. Any thread may call this while parties are used.
+    /// Returns all statistics. Any thread may call this while parties are used.
     #[must_use]
     pub fn info(&self) -> ffi::PoolInfo {
         let mut info = ffi::PoolInfo::default();

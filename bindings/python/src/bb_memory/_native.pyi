@@ -32,7 +32,7 @@ class NotHeldError(Error):
     """BB_NOT_HELD: the party doesn't hold the bucket, or the number's bucket isn't detached."""
 
 class InvalidArgumentError(Error, ValueError):
-    """BB_INVALID_ARGUMENT: there is no such slot, or no file has such figures."""
+    """BB_INVALID_ARGUMENT: there is no such slot, or no file has such sizes."""
 
 class NoPartyError(Error):
     """BB_NO_PARTY: every party is in use, or no party has the number."""
@@ -50,10 +50,10 @@ class FileVersionError(Error):
     """BB_FILE_VERSION: the file is in the format of another version of the library."""
 
 class FileMismatchError(Error):
-    """BB_FILE_MISMATCH: the file was made with other figures."""
+    """BB_FILE_MISMATCH: the file was made with other sizes."""
 
 class FileDamagedError(Error):
-    """BB_FILE_DAMAGED: the file's length, pages and figures don't match."""
+    """BB_FILE_DAMAGED: the file's length, pages and sizes don't match."""
 
 class FileUnsafeError(Error):
     """BB_FILE_UNSAFE: the file isn't regular, or others may write it."""
@@ -66,7 +66,7 @@ class FileNotDoneError(Error):
 
 @final
 class Info(structseq[int], tuple[int, ...]):
-    """The figures of a file. Each flag, slot and lock was looked at once, while others work."""
+    """The statistics of a file. Each flag, slot and lock was looked at once, while others work."""
 
     if sys.version_info >= (3, 10):
         __match_args__: Final = (
@@ -157,8 +157,8 @@ class SeenMessage(structseq[int], tuple[int, int]):
 class PoolFile:
     """A pool in a file that this process has opened.
 
-    Any process opens the file by its path. If a process is killed, neither a bucket nor a message
-    is lost. Whoever may write the file is trusted: rule 4 of bb_pool_file.h.
+    Any process opens the file by its path. If a process is killed, no bucket is lost, and no
+    message in a slot. Whoever may write the file is trusted: rule 4 of bb_pool_file.h.
 
     A forked child has to open the file again. There, an array or another view that was made before
     the fork has no memory, and must not be used: an access usually kills the child.
@@ -180,22 +180,22 @@ class PoolFile:
         """Opens the pool in the file at a path, or in the file of an open descriptor.
 
         With `bucket_size`, in bytes, and `buckets`, their number, the call makes the file if there
-        is none. A file that exists has to have the same figures, except for `mode`. Without these
-        two, the call opens a file that exists, whatever its figures.
+        is none. A file that exists has to have the same sizes, except for `mode`. Without these
+        two, the call opens a file that exists, whatever its sizes.
 
         `parties` limits how many can be joined at one time, over all processes. `mode` has the
         permissions of a new file, less the umask, and 0 stands for 0o600. `user_bytes` is how many
         bytes `user` has.
 
         Raises FileForeignError, FileVersionError, FileMismatchError, FileDamagedError,
-        FileUnsafeError, FileStaleError, InvalidArgumentError if no pool can have such figures, and
+        FileUnsafeError, FileStaleError, InvalidArgumentError if no pool can have such sizes, and
         TypeError if only one of `bucket_size` and `buckets` is given.
         """
     @property
     def closed(self) -> bool:
         """Says whether the file was closed."""
     def close(self) -> None:
-        """Has all parties leave, and closes the file. Never raises UninitializedError.
+        """Makes all parties leave, and closes the file. Never raises UninitializedError.
 
         As long as a view of a bucket or of `user` is alive, the file stays open for the view, and
         its parties stay joined. Any thread may call this.
@@ -266,7 +266,7 @@ class PoolFile:
         Raises NoPartyError if no party has the number.
         """
     def info(self) -> Info:
-        """Returns the figures of the file."""
+        """Returns the statistics of the file."""
     def holder(self, number: int, /) -> Holder:
         """Returns who holds the bucket with this number.
 
@@ -294,7 +294,7 @@ class Party:
     def life(self) -> int:
         """The life of the party, which says with the number which process has joined."""
     def leave(self) -> None:
-        """Has the party leave: frees its buckets, and puts back messages that aren't done.
+        """Makes the party leave: frees its buckets, and puts back messages that aren't done.
 
         As long as a view of one of its buckets is alive, the party stays joined for the view.
         """
@@ -306,7 +306,7 @@ class Party:
         traceback: TracebackType | None,
         /,
     ) -> None:
-        """Has the party leave."""
+        """Makes the party leave."""
     def bucket(self) -> Bucket:
         """Allocates a bucket, in which a message is built without a copy.
 
