@@ -49,12 +49,13 @@ struct shared {
 inline shared *common;
 
 // Ends the program, without leaving a file or a queue, if something failed. What Boost shares is
-// the file.
+// the file. The settings of iceoryx's daemon are in a file beside it.
 inline void must(bool holds, const char *what) {
     if (holds)
         return;
     std::perror(what);
     unlink(path.c_str());
+    unlink((path + ".toml").c_str());
     mq_unlink(name.c_str());
     std::abort();
 }
