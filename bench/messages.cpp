@@ -284,8 +284,8 @@ void time_boost(const traffic &, const char *) {}
 #endif
 
 #if defined(WITH_ZMQ) || defined(ROUDI)
-// Waits until the receiver has all messages. If the sender closed its end sooner, some of those that
-// are on their way would be lost.
+// Waits until the receiver has all messages. If the sender closed its end sooner, some of those on
+// their way would be lost.
 void wait_for_receiver() {
     while (common->received == 0)
         usleep(100);
