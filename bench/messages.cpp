@@ -503,7 +503,7 @@ void time_streams(std::size_t size, std::uint32_t held) {
 
 int main(int argc, char **argv) {
     const int rounds = begin(argc, argv);
-    const roudi daemon;
+    [[maybe_unused]] const roudi daemon;
     for (int round = 0; round < rounds; round++) {
         for (const std::size_t size : message_sizes)
             time_messages(size);
