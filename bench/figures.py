@@ -63,14 +63,19 @@ def read_rounds(path: Path) -> Rounds:
     return found
 
 
-def read_medians(path: Path) -> dict[Key, float]:
-    """Returns the medians in the CSV file of a page."""
+def read_times(path: Path) -> dict[Key, Times]:
+    """Returns the times in the CSV file of a page."""
     found = {}
     with path.open() as file:
         for row in csv.DictReader(file):
             key = Key(row["call"], int(row["threads"]), row["buckets"], row["held"], row["by"])
-            found[key] = max(float(row["nanoseconds"]), LEAST)
+            found[key] = Times(*(float(row[name]) for name in ("nanoseconds", "low", "high")))
     return found
+
+
+def read_medians(path: Path) -> dict[Key, float]:
+    """Returns the medians in the CSV file of a page."""
+    return {key: max(times.median, LEAST) for key, times in read_times(path).items()}
 
 
 def quarters(of: AtOnePlace) -> Times:

@@ -1,7 +1,8 @@
 // Times a bump and a list of free buckets in C, allocators of other packages, and parties of a
-// shared pool of the C library. Several threads call at the same time, each on a processor of its
-// own. The measurements are pairs (an allocation and a free), bursts, the slowest allocations, and
-// a queue between two threads, whose receiver frees the memory of each message.
+// shared bump and of a shared pool of the C library. Several threads call at the same time, each on
+// a processor of its own. The measurements are pairs (an allocation and a free), bursts, the
+// slowest allocations, and a queue between two threads, whose receiver frees the memory of each
+// message.
 //
 // Arguments: the number of rounds, the number of calls of each thread in a round, and the first
 // letters of the kinds to be timed, if not all. Prints a line for each figure, as shared_bench does
@@ -97,6 +98,31 @@ HEAP(mimalloc, mimalloc_calls)
 #define dpdk_give dpdk_pool_give
 #define pmr_take pmr_shared_take
 #define pmr_give pmr_shared_give
+
+// A shared bump of the C library, and its parties.
+static bb_shared_bump bump = BB_EMPTY;
+static bb_bump_party bump_parties[MOST_THREADS];
+static _Thread_local bb_bump_party *bump_party;
+
+static size_t bump_party_pair(void) {
+    return bb_bump_party_allocate(bump_party, 48, 8).place;
+}
+
+static void join_bump(void) {
+    if (bb_shared_bump_init(&bump, START, SIZE, threads) != BB_OK)
+        abort();
+    for (unsigned i = 0; i < threads; i++)
+        if (bb_shared_bump_join(&bump, &bump_parties[i]) != BB_OK)
+            abort();
+}
+
+static void leave_bump(void) {
+    for (unsigned i = 0; i < threads; i++)
+        if (bb_shared_bump_leave(&bump, &bump_parties[i]) != BB_OK)
+            abort();
+    if (bb_shared_bump_destroy(&bump) != BB_OK)
+        abort();
+}
 
 // A shared pool and its parties, which join one after another. Their handles are side by side.
 static bb_shared_pool pool;
@@ -377,6 +403,7 @@ typedef struct {
 #define ENDS(NAME) NAME##_send, NAME##_receive
 static const kind kinds[] = {
     {"plain C", {bump_pair, NULL, NULL, NULL, NULL}, NULL, NULL, 0},
+    {"C", {bump_party_pair, NULL, NULL, NULL, NULL}, NULL, NULL, 0},
     {"plain C", {CALLS(list), ENDS(list)}, NULL, NULL, 0},
     {"malloc and free", {CALLS(heap), ENDS(heap)}, NULL, NULL, 0},
     {"mimalloc", {CALLS(mimalloc), ENDS(mimalloc)}, &mimalloc_calls, NULL, 0},
@@ -419,7 +446,8 @@ static const struct {
 enum {
     KINDS = sizeof kinds / sizeof *kinds,
     FIGURES = sizeof figures / sizeof *figures,
-    BUMP = 0
+    // The kinds before this one are bumps.
+    BUMPS = 2
 };
 
 // A thread: its calls, its party and its package. Its results: its nanoseconds, its failed calls,
@@ -454,6 +482,7 @@ static void *work(void *arg) {
     struct timespec end;
     keep_on_a_processor(own->number);
     party = own->party;
+    bump_party = &bump_parties[own->number];
     counts = own->counts;
     if (own->package)
         own->package->enter();
@@ -480,6 +509,7 @@ static void open_all(const kind *of) {
     if (of->package && !of->package->open(BUCKETS, 128, BURST))
         abort();
     join_all(of->cached);
+    join_bump();
 }
 
 // Returns the number of cycles that 99.9% of the counted allocations take at most.
@@ -536,6 +566,7 @@ static double timed(const kind *of, what it) {
         refused += jobs[i].refused;
     }
     leave_all();
+    leave_bump();
     if (of->package)
         of->package->close();
     if (refused)
@@ -572,7 +603,7 @@ int main(int argc, char **argv) {
                 continue;
             threads = figures[figure].threads;
             double spent = timed(&kinds[i], figures[figure].what);
-            const char *name = i == BUMP ? "shared bump" : figures[figure].name;
+            const char *name = i < BUMPS ? "shared bump" : figures[figure].name;
             printf("%s,%u,,,%s,%.1f\n", name, threads, kinds[i].name, spent);
         }
 }

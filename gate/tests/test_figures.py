@@ -9,7 +9,7 @@ from gate.crates import TOP
 
 sys.path.insert(0, str(TOP / "bench"))
 
-from figures import Key, Rounds, Times, ratio, read_rounds, times_of
+from figures import Key, Rounds, Times, ratio, read_medians, read_rounds, read_times, times_of
 
 OURS = Key("pair", 1, "", "", "C")
 PEER = Key("pair", 1, "", "", "DPDK")
@@ -30,6 +30,19 @@ class FiguresTest(unittest.TestCase):
         """A time is the geometric mean of the medians at each place."""
         rounds: Rounds = {OURS: {"0": {0: 4.0, 1: 1.0, 2: 5.0}, "16": {0: 9.0}}}
         self.assertEqual(times_of(rounds), {OURS: Times(6.0, 3.0, 6.71)})
+
+    def test_page(self) -> None:
+        """The CSV file of a page has a median and its limits. No median is 0."""
+        with tempfile.TemporaryDirectory() as folder:
+            file = Path(folder) / "page.csv"
+            file.write_text(
+                "call,threads,buckets,held,by,nanoseconds,low,high\n"
+                "pair,1,,,C,3.5,3.0,4.25\npair,1,,,DPDK,0.0,0.0,1.0\n"
+            )
+            self.assertEqual(
+                read_times(file), {OURS: Times(3.5, 3.0, 4.25), PEER: Times(0.0, 0.0, 1.0)}
+            )
+            self.assertEqual(read_medians(file), {OURS: 3.5, PEER: 0.01})
 
     def test_ratio(self) -> None:
         """A ratio is within a round at one place. It is the geometric mean over the places."""
