@@ -14,8 +14,9 @@ ghost use Rattle.std.specs.Prelude.{List, length, replicate, ℕ, ◌<◌};
 
 /// States that the code is the machine: whatever processes do to a file by these calls, in any order
 /// of their operations, killed anywhere, some steps of the machine leave the same words and locks,
-/// and bring each process to the same place, by the steps that its calls promise. So each clause of
-/// `file_theorem` is one about the code. The function does nothing: its contract is the theorem.
+/// and bring each process to the same place, by the steps that its calls promise. None of them is
+/// refused. So each clause of `file_theorem` is one about the code. The function does nothing: its
+/// contract is the theorem.
 pub fn file_code_theorem()
     ensures machine { (scene : FileScene) (acts : List Act) (taken : ℕ → List FileStep) (places : ℕ → Place)
         → IsRun scene acts taken places → IsMachines scene acts taken places }

@@ -4,10 +4,19 @@ ghost use Rattle.std.specs.Prelude.{IfSome, ◌<◌, ◌≡◌};
 
 use crate::tests::buckets::{last_of, pool_of};
 use crate::tests::checks::{check, none_requested, refused, same};
-use bb_memory_shared_pools::shared_pool::{Bucket, CachingParty, SharedPoolAllocator, by_number};
+use bb_memory_shared_pools::shared_pool::{
+    Bucket, CachingParty, PoolParty, SharedPoolAllocator, by_number,
+};
 use std::alloc::Global;
 use std::process::Abort;
 use test_marks::refuse_memory;
+
+/// Makes a party cache one bucket. Fails if memory ran out.
+fn caching_one(alloc: Global, party: PoolParty) -> Option<CachingParty>
+    ensures { IfSome result (λ made. made.party ≡ party) }
+{
+    CachingParty::new(alloc, party, 1).ok()
+}
 
 /// Makes the pool and its parties. Fails if memory ran out.
 fn caching(
@@ -21,8 +30,8 @@ fn caching(
     let (pool, mut parties) = pool_of(alloc, 256, 2)?;
     let second = last_of(rt, &pool, &mut parties);
     let first = last_of(rt, &pool, &mut parties);
-    let first = CachingParty::new(alloc, first, 1).ok()?;
-    let second = CachingParty::new(alloc, second, 1).ok()?;
+    let first = caching_one(alloc, first)?;
+    let second = caching_one(alloc, second)?;
     Some((pool, first, second))
 }
 
