@@ -284,7 +284,7 @@ def description(parts: Sequence[tuple[str, ...] | Item]) -> Iterator[str]:
             yield from members(part.lines)
 
 
-def prototype(item: Item) -> Iterator[str]:
+def synopsis(item: Item) -> Iterator[str]:
     """Yields the roff of a function in the synopsis.
 
     Lines may break after each comma, also between the parameters of a parameter.
@@ -321,7 +321,7 @@ def page_of(
     lines += [f".Nd {about.rstrip('.').replace('`', '')}", ".Sh SYNOPSIS", f".In {header}"]
     for item in items:
         if item.is_function:
-            lines += prototype(item)
+            lines += synopsis(item)
     lines.append(".Sh DESCRIPTION")
     for section in sections:
         if section.title and len(sections) > 1:

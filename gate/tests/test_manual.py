@@ -272,7 +272,7 @@ Returns the name.
         expected = [".Sh NAME", *names, *titles, *items, ".Sh SEE ALSO", *seen]
         self.assertEqual(heads, expected)
 
-    def test_prototypes(self) -> None:
+    def test_synopses(self) -> None:
         lines = self.pages["bb_pool"].splitlines()
         init = [".Ft BB_MUST_USE uint32_t", ".Fo bb_pool_init", '.Fa "bb_pool *pool"']
         free = ['.Fa "void (*free)(int"', r'.Fa "int)\&"']

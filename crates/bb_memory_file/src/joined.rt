@@ -211,8 +211,9 @@ impl<W: Words + Drop> Joined<W> {
         freed
     }
 
-    /// Leaves: gives back all that the party holds, as `give_all_back` does, counts the number's life,
-    /// and frees the number's lock. Returns the words, and how many buckets were given back.
+    /// Leaves: gives back all that the party holds, as `give_all_back` does, and counts the number's
+    /// life. The caller frees the number's lock afterwards. Returns the words, and how many buckets were
+    /// given back.
     pub fn leave(self) -> (W, u32)
         ensures { (process : ℕ) → IsLeave process (W.log self.words) result.1 (W.log result.0) }
     {
