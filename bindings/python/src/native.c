@@ -13,8 +13,8 @@
 
 #include "bb_pool_file.h"
 
-#if BB_ABI != 6
-#error "this package needs the library bb_memory with BB_ABI 6"
+#if BB_ABI != 7
+#error "this package needs the library bb_memory with BB_ABI 7"
 #endif
 
 // The longest that a wait sleeps before it looks for signals, in milliseconds.
