@@ -3,6 +3,7 @@ is put into a root."""
 
 import io
 import os
+import re
 import shutil
 import sys
 import unittest
@@ -200,6 +201,13 @@ class Filled(unittest.TestCase):
         clean_root.fill(folder, TOP, self.work / "debs")
         self.assertTrue((folder / "bindings/python/setup.py").exists())
         self.assertFalse((folder / "dist").exists())
+
+    def test_pip_is_called_as_the_page_says(self) -> None:
+        check = (TOP / clean_root.CRATE / "debian/check").read_text(encoding="utf-8")
+        page = (TOP / "bindings/python/README.md").read_text(encoding="utf-8")
+        calls = re.findall(r"^quiet venv/bin/(pip .*)$", check, re.M)
+        self.assertEqual(len(calls), 1)
+        self.assertIn(f"{calls[0]}\n", page)
 
     def test_the_scripts_need_no_other_file(self) -> None:
         folder = self.work / "packages"
