@@ -1,9 +1,10 @@
 """Tests the Debian packages and the manual pages, for `.ci/run-c`.
 
 Lintian finds no error in the packages, and mandoc nothing in the pages. In a clean root of Debian's
-stable release, `debian/check` installs the packages, builds a program over them, and removes them.
-debootstrap makes the root, as root only, with packages of the network. It is kept for a month. What
-isn't installed or can't be made is skipped, and a line says so.
+stable release, `debian/check` installs the packages, builds a program over them, installs the
+Python package over them, and removes them. Programs in Python and in C share a file there, and are
+killed. debootstrap makes the root, as root only, with packages of the network. It is kept for a
+month. What isn't installed or can't be made is skipped, and a line says so.
 """
 
 import hashlib
@@ -15,14 +16,18 @@ from pathlib import Path
 
 from gate.kept import Kept, cache
 from gate.process import Failed, has, must_run, run, say
+from gate.python_package import copy_package
 
 CRATE = "crates/bb_memory_c"
 SUITE = "stable"
-# What a user has before the library is installed, and mandoc.
-INSTALLED = ("cmake", "gcc", "libc6-dev", "make", "man-db", "mandoc", "pkgconf")
+# What a user has before the library is installed, for programs in C and for the Python package.
+FOR_C = ("cmake", "gcc", "libc6-dev", "make", "man-db", "pkgconf")
+FOR_PYTHON = ("python3-dev", "python3-pip", "python3-setuptools", "python3-venv", "python3-wheel")
+# The packages in the root: `debian/check` also calls mandoc.
+INSTALLED = (*FOR_C, *FOR_PYTHON, "mandoc")
 DEBOOTSTRAP = ("debootstrap", "--variant=minbase", f"--include={','.join(INSTALLED)}", SUITE)
 # The seconds after which debootstrap is ended, since the network doesn't answer.
-LONGEST = "300"
+LONGEST = "600"
 # The environment of a command in the root.
 IN_ROOT = {"PATH": "/usr/sbin:/usr/bin:/sbin:/bin", "HOME": "/root", "LC_ALL": "C.UTF-8"}
 COMMANDS = ("bb-pool",)
@@ -35,6 +40,8 @@ PAGE_TOOLS = {
     "mandoc": "mandoc -T lint -W style",
     "man": "2>&1 > /dev/null MANWIDTH=80 man --warnings -E UTF-8 -l",
 }
+# The files of the gate that run in the root: `gate/root_messages.py`, and what it imports.
+SCRIPTS = ("__init__.py", "pool_messages.py", "process.py", "root_messages.py")
 PROGRAM = re.compile(r"^This is `hello\.c`:\n\n```c\n(.*?)^```$", re.M | re.S)
 
 
@@ -96,8 +103,25 @@ def root_archive(work: Path, environment: Mapping[str, str]) -> Path | None:
     return kept
 
 
+def fill(folder: Path, top: Path, debs: Path) -> None:
+    """Copies what `debian/check` needs to a folder in the root. Makes the folder.
+
+    No release is there, so the Python package is built over the installed library.
+    """
+    program = PROGRAM.search((top / "README.md").read_text(encoding="utf-8"))
+    if program is None:
+        raise Failed("README.md: has no `hello.c`")
+    shutil.copytree(debs, folder)
+    shutil.copy(top / CRATE / "debian/check", folder)
+    (folder / "hello.c").write_text(program[1], encoding="utf-8")
+    copy_package(top, folder)
+    (folder / "gate").mkdir()
+    for name in SCRIPTS:
+        shutil.copy(top / "gate" / name, folder / "gate")
+
+
 def check_in_root(top: Path, debs: Path, work: Path, environment: Mapping[str, str]) -> None:
-    """Installs packages in a clean root, builds the README's first program, and removes them."""
+    """Installs packages in a clean root, builds programs over them, and removes them."""
     if os.geteuid() != 0:
         say("debootstrap: only root can make a clean root, skipped")
         return
@@ -107,15 +131,10 @@ def check_in_root(top: Path, debs: Path, work: Path, environment: Mapping[str, s
     root = work / "root"
     root.mkdir()
     must_run(["tar", "-C", root, "--numeric-owner", "-xpf", archive], work)
-    folder = root / "tmp/packages"
-    shutil.copytree(debs, folder)
-    shutil.copy(top / CRATE / "debian/check", folder)
-    program = PROGRAM.search((top / "README.md").read_text(encoding="utf-8"))
-    if program is None:
-        raise Failed("README.md: has no `hello.c`")
-    (folder / "hello.c").write_text(program[1], encoding="utf-8")
-    must_run(["chroot", root, "/tmp/packages/check"], work, IN_ROOT)
-    say("Debian packages: installed in a clean root, pkg-config and CMake find them, and removed")
+    fill(root / "tmp/packages", top, debs)
+    text = must_run(["chroot", root, "/tmp/packages/check"], work, IN_ROOT)
+    say(text.rstrip())
+    say("Debian packages: in a clean root, pkg-config, CMake and pip find them, and a purge works")
 
 
 def check(top: Path, prefix: Path, work: Path, environment: Mapping[str, str]) -> None:

@@ -1,16 +1,21 @@
-"""Tests of gate/clean_root.py: of what is skipped, and of manual pages beside their commands."""
+"""Tests of gate/clean_root.py: of what is skipped, of manual pages beside their commands, and of what
+is put into a root."""
 
 import io
 import os
+import re
 import shutil
+import sys
 import unittest
 from contextlib import redirect_stdout
 from pathlib import Path
 from unittest import mock
 
 from gate import clean_root
-from gate.process import Failed
+from gate.crates import TOP
+from gate.process import Failed, must_run, run
 from gate.temporary import temporary_folder
+from gate.tests.places import write
 
 USAGE = """\
 usage: x [--one] [--two-three] FILE
@@ -155,6 +160,66 @@ class Roots(unittest.TestCase):
             with redirect_stdout(printed):
                 clean_root.check_in_root(work, work, work, {})
         self.assertIn("only root", printed.getvalue())
+
+
+class Filled(unittest.TestCase):
+    """What `debian/check` finds in the root, and what becomes of its output."""
+
+    def setUp(self) -> None:
+        self.work = self.enterContext(temporary_folder())
+        write(self.work / "debs", {"a.deb": ""})
+
+    def run_in_root(self, chroot: str) -> str:
+        """Checks packages in a root that only has a folder, by a `chroot` that is a script.
+
+        Returns what is printed.
+        """
+        write(self.work, {"tools/chroot": f"#!/bin/sh\n{chroot}\n", "made/tmp/.keep": ""})
+        archive = self.work / "archive"
+        must_run(["tar", "-C", self.work / "made", "-cf", archive, "."], self.work)
+        path = {"PATH": f"{self.work / 'tools'}:/usr/bin:/bin"}
+        printed = io.StringIO()
+        with mock.patch.multiple(
+            clean_root, IN_ROOT=path, root_archive=lambda work, environment: archive
+        ):
+            with mock.patch("os.geteuid", return_value=0), redirect_stdout(printed):
+                clean_root.check_in_root(TOP, self.work / "debs", self.work, os.environ)
+        return printed.getvalue()
+
+    def test_the_check_is_called_in_the_root(self) -> None:
+        printed = self.run_in_root('echo "$2"; test -x "$1$2"; ls "$1/tmp/packages"')
+        names = ["a.deb", "bindings", "check", "gate", "hello.c"]
+        self.assertEqual(printed.split()[:6], ["/tmp/packages/check", *names])
+        self.assertIn("a purge works", printed)
+
+    def test_the_check_fails(self) -> None:
+        with self.assertRaisesRegex(Failed, "(?s)^a message is lost.*status 3"):
+            self.run_in_root("echo a message is lost; exit 3")
+
+    def test_the_python_package_has_no_release_beside_it(self) -> None:
+        folder = self.work / "packages"
+        clean_root.fill(folder, TOP, self.work / "debs")
+        self.assertTrue((folder / "bindings/python/setup.py").exists())
+        self.assertFalse((folder / "dist").exists())
+
+    def test_pip_is_called_as_the_page_says(self) -> None:
+        check = (TOP / clean_root.CRATE / "debian/check").read_text(encoding="utf-8")
+        page = (TOP / "bindings/python/README.md").read_text(encoding="utf-8")
+        calls = re.findall(r"^quiet venv/bin/(pip .*)$", check, re.M)
+        self.assertEqual(len(calls), 1)
+        self.assertIn(f"{calls[0]}\n", page)
+
+    def test_the_scripts_need_no_other_file(self) -> None:
+        folder = self.work / "packages"
+        clean_root.fill(folder, TOP, self.work / "debs")
+        words = [sys.executable, "-m", "gate.root_messages"]
+        ran = run(words, folder, {"PYTHONDONTWRITEBYTECODE": "1"})
+        self.assertEqual(ran.text, "usage: python3 -m gate.root_messages PYTHON\n")
+
+    def test_a_page_without_the_program(self) -> None:
+        write(self.work, {"README.md": "This is `hello.c`, which isn't shown.\n"})
+        with self.assertRaisesRegex(Failed, "README.md: has no `hello.c`"):
+            clean_root.fill(self.work / "packages", self.work, self.work / "debs")
 
 
 if __name__ == "__main__":
