@@ -42,15 +42,17 @@ class RealTree(unittest.TestCase):
 
     def test_wrong_bytes_on_the_page(self) -> None:
         wrong = (
-            ("byte 4096 + 128 + 8 b", "byte 4096 + 64 + 8 b", "4096 + 128 + 8 b"),
-            ("8 for each bucket and 128 more", "8 for each bucket and 64 more", "128 more"),
-            ("2k + 1 is held", "2k is held", "2k + 1 is held"),
-            ("F + 128 + 128 s:", "F + 64 + 64 s:", "F + 128 + 128 s"),
-            ("128 S + 8 k", "128 S + 16 k", "128 S + 8 k"),
-            ("128 S + L + 8 b", "128 S + 8 b", "128 S + L + 8 b"),
+            ("4096 + 128 + 8 b", "4096 + 64 + 8 b", "4096 + 128 + 8 b"),
+            ("8 for each bucket, rounded up", "16 for each bucket, rounded up", "8 for each"),
             ("8 for each party, rounded up to a multiple of 128", "8 for each party", "of 128"),
+            ("4k + 1 is held", "4k is held", "4k + 1 is held"),
+            ("4k + 2 is detached", "4k + 3 is detached", "4k + 2 is detached"),
+            ("2^34 l + 4s + 3", "2^32 l + 4s + 3", "2^34 l + 4s + 3"),
+            ("+ F + 8 k", "+ 8 k", "128 + F + 8 k"),
+            ("+ F + L + 8 b", "+ F + 8 b", "128 + F + L + 8 b"),
+            ("+ 2 F + L + 128 s", "+ 2 F + L + 8 s", "2 F + L + 128 s"),
             ("lock of byte 2 + k", "lock of byte 1 + k", "byte 2 + k"),
-            ("has the number 5", "has the number 4", "the number 5"),
+            ("has the number 6", "has the number 5", "the number 6"),
         )
         for old, new, right in wrong:
             with self.subTest(new):
@@ -62,16 +64,19 @@ class RealTree(unittest.TestCase):
         self.finds(found, "a multiple of 128")
 
     def test_code_that_changes(self) -> None:
-        self.finds(self.after(stated.FORMAT, "FORMAT = 5,", "FORMAT = 6,"), "the number 6")
+        self.finds(self.after(stated.FORMAT, "FORMAT = 6,", "FORMAT = 7,"), "the number 7")
         self.finds(self.after(stated.FORMAT, "PARTIES = 65535", "PARTIES = 1000"), "1,000")
         self.finds(self.after(stated.HIDDEN_HEADER, "LOCK_PARTY = 2", "LOCK_PARTY = 3"), "3 + k")
-        found = self.after(stated.HIDDEN_HEADER, " LINE = 128", " LINE = 64")
-        self.assertEqual(len(found), 5)
+        self.finds(self.after(stated.HIDDEN_HEADER, " LINE = 128", " LINE = 64"), "of 64")
+        slots = self.after(stated.GEOMETRY, "SLOT: usize = 16;", "SLOT: usize = 8;")
+        self.finds(slots, "64 s")
+        before = self.after(stated.GEOMETRY, "BEFORE: usize = 16;", "BEFORE: usize = 32;")
+        self.assertEqual(len(before), 4)
 
     def test_numbers_that_differ(self) -> None:
-        found = self.after(stated.FLAGS, "const FIRST: usize = 16;", "const FIRST: usize = 8;")
-        self.finds(found, "different numbers", "16", "8")
+        found = self.after(stated.WORDS, "4 * party as u64 + 2", "2 * party as u64 + 2")
+        self.finds(found, "different numbers", "2, 4")
 
     def test_number_that_is_missing(self) -> None:
-        found = self.after(stated.HIDDEN_HEADER, "WORDS_BEFORE = 16", "WORDS = 16")
-        self.finds(found, "has no number", "WORDS_BEFORE")
+        found = self.after(stated.HIDDEN_HEADER, "LOCK_PARTY = 2", "LOCK = 2")
+        self.finds(found, "has no number", "LOCK_PARTY")
