@@ -13,6 +13,7 @@ use super::flags::Flags;
 use super::party::PoolParty;
 use super::rule::{Scene, View};
 use atomic_table::Seat;
+use bb_memory_pool_machine::hint::Hint;
 use bb_memory_traits::allocator::{AllocationError, AllocationGrowError, AllocationShrinkError};
 use bb_memory_traits::geometry::Geometry;
 use bb_memory_traits::layout::{Chunk, Layout};
