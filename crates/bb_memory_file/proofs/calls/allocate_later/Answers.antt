@@ -1,6 +1,6 @@
 use Rattle.bb_memory_file.proofs.FileSearches.{first_hint, first_zero, found_by, found_first}
-use Rattle.bb_memory_file.proofs.calls.allocate.Goals.{else-hint-buckets, then-hint-buckets}
-use Rattle.bb_memory_file.proofs.calls.allocate.Goals as goal
+use Rattle.bb_memory_file.proofs.calls.allocate_later.Goals.{else-hint-buckets, then-hint-buckets}
+use Rattle.bb_memory_file.proofs.calls.allocate_later.Goals as goal
 use Rattle.std.proofs.Common.{arith, ◌≡◌, ◌≤◌}
 use Rattle.std.specs.Prelude.{if◌then◌else◌, nat_lt}
 
