@@ -1,6 +1,6 @@
 //! Pools in files: the exported functions of a party of a file, and of the words that the parties share. Those whose names begin
 //! with `file_` are hidden, and `bb_pool_file.c` calls them, which keeps the file, its locks and those who wait.
-ghost use Rattle.bb_memory_c.specs.Files.{AnswersFileJoin, AnswersFileLeave, AnswersLook, GivesBack, GivesChunk, HoldsPlace, InUse, IsNotedAt, ShowsParty, TellsAttach, TellsCache, TellsDeallocate, TellsDetach, TellsDone, TellsEntry, TellsFlag, TellsFlush, TellsFreed, TellsLife, TellsPost, TellsReap, TellsSlot, TellsTake, TellsWords, cutting_file, no_message, none_detached, shown_entry, shown_flag, shown_slot};
+ghost use Rattle.bb_memory_c.specs.Files.{AnswersJoin, AnswersLeave, AnswersLook, GivesBack, GivesChunk, HoldsPlace, MayFree, ShowsParty, TellsAttach, TellsCache, TellsDeallocate, TellsDetach, TellsDone, TellsEntry, TellsFlag, TellsFlush, TellsFreed, TellsLife, TellsMessage, TellsPost, TellsReap, TellsSlot, TellsWords, cutting_file, no_message, none_detached, number_of, shown_entry, shown_flag, shown_slot};
 ghost use Rattle.bb_memory_c_calls.specs.Answers.{figure_of, no_figure, refused};
 ghost use Rattle.bb_memory_c_calls.specs.Calls.{Answers, AnswersFree, AnswersInfo, AnswersNumber, AnswersPlace, AnswersPoolMake, AnswersRequest, AnswersReturns, AnswersTake, AnswersTakings, AnswersWhether};
 ghost use Rattle.bb_memory_c_calls.specs.declared.code.TheConstants.{UNINITIALIZED as uninitialized};
@@ -51,8 +51,8 @@ pub extern "C" fn file_table_init(
     if call::is_made(handle) {
         return code::ALREADY_INITIALIZED;
     }
-    let geometry = FileGeometry::of(buckets, slots, parties);
-    let (bucket, geometry) = match cut_file(bucket_size, bucket_align, start, size, geometry) {
+    let cut = cut_file(bucket_size, bucket_align, start, size, buckets, slots, parties);
+    let (bucket, geometry) = match cut {
         Ok(cut) => cut,
         Err(code) => return code,
     };
@@ -86,7 +86,7 @@ pub extern "C" fn file_party_join(
     number: u32,
     party: &mut FilePartyHandle,
 ) -> u32
-    ensures { AnswersFileJoin handle.old.value handle.new.value party.old.value party.new.value number result }
+    ensures { AnswersJoin handle.old.value handle.new.value party.old.value party.new.value number result }
 {
     if call::is_made(party) {
         return code::ALREADY_INITIALIZED;
@@ -106,7 +106,7 @@ pub extern "C" fn file_party_join(
 /// were freed. The caller frees the number's lock right after.
 #[unsafe(no_mangle)]
 pub extern "C" fn file_party_leave(alloc: Global, handle: &mut FilePartyHandle) -> Figure
-    ensures { AnswersFileLeave handle.old.value handle.new.value result }
+    ensures { AnswersLeave handle.old.value handle.new.value result }
 {
     let Some(party) = handle.take(alloc) else {
         return Figure::refusal(code::UNINITIALIZED);
@@ -166,7 +166,7 @@ pub extern "C" fn file_party_deallocate_many(
     handle: &mut FilePartyHandle,
     places: &[usize],
 ) -> Figure
-    ensures { AnswersReturns handle.old.value handle.new.value places.now result (λ party place. IsNotedAt party place InUse) GivesBack }
+    ensures { AnswersReturns handle.old.value handle.new.value places.now result MayFree GivesBack }
 {
     call::give_back_many(handle, places)
 }
@@ -197,7 +197,7 @@ pub extern "C" fn file_post(
 #[unsafe(no_mangle)]
 pub extern "C" fn file_take(handle: &mut FilePartyHandle, slot: u32) -> Message
     ensures { Answers handle.old.value handle.new.value (result ≡ no_message uninitialized)
-        (λ party after. TellsTake party slot result after) }
+        (λ party after. TellsMessage party slot result after) }
 {
     match handle.made_mut() {
         Some(party) => party.take_message(slot),
@@ -377,7 +377,7 @@ pub extern "C" fn bb_file_party_holds(handle: &mut FilePartyHandle, place: usize
 #[unsafe(no_mangle)]
 pub extern "C" fn bb_file_party_number(handle: &mut FilePartyHandle) -> Figure
     ensures { Answers handle.old.value handle.new.value (result ≡ no_figure uninitialized)
-        (λ party after. (result ≡ figure_of party.party.words.number) × (after ≡ party)) }
+        (λ party after. (result ≡ figure_of (number_of party)) × (after ≡ party)) }
 {
     match handle.made_mut() {
         Some(party) => Figure::of(party.number() as usize),

@@ -1,14 +1,21 @@
 //! A party of a file, and the words that the parties share, as kinds.
-ghost use Rattle.bb_memory_c.specs.Files.{Counts, FreesAll, GivesBack, GivesChunk, HoldsPlace, IsNumberAt, IsOpen, IsPlaced, JoinedFile, Leaves, MissesFirstAt, OpenFile, ShowsParty, TakesFileParty, TellsAttach, TellsCache, TellsDeallocate, TellsDetach, TellsDone, TellsEntry, TellsFlag, TellsLife, TellsPost, TellsReap, TellsSlot, TellsTake, code_of, note_of, slots_of};
-ghost use Rattle.bb_memory_c.specs.SharedPools.{shared_pool_info};
-ghost use Rattle.bb_memory_file.specs.FileNotes.{InUse};
-ghost use Rattle.bb_memory_traits.specs.PoolObject.{bucket_place};
-ghost use Rattle.std.specs.Prelude.{IfErr, IfNone, IfOk, IfSome, Some, ℕ, ◌<◌, ◌≡◌};
+ghost use Rattle.bb_memory_c.specs.Files.{Becomes, GivesBack, GivesChunk, GivesUp, HoldsPlace, IsNoted, IsNotedAt, IsOpen, IsPlaced, JoinedFile, JoinsAt, LeavesFrom, MayFree, MissesFirstAt, OpenFile, ShowsParty, TellsAttach, TellsCache, TellsDeallocate, TellsDetach, TellsDone, TellsEntry, TellsFlag, TellsJoin, TellsLife, TellsMessage, TellsPost, TellsReap, TellsSlot, code_of, cutting_file, fresh_of, number_of};
+ghost use Rattle.bb_memory_c_calls.specs.Answers.{invalid_argument, invalid_layout, malloc_refused, no_bucket, no_party, not_held};
+ghost use Rattle.bb_memory_c_calls.specs.declared.code.TheConstants.{FILE_NOT_DONE as file_not_done};
+ghost use Rattle.bb_memory_c_calls.specs.Calls.{FailsOf, IsOf, LacksRoomOf};
+ghost use Rattle.bb_memory_file.specs.FileFormat.{IsGeometry, geometry_of, words_of};
+ghost use Rattle.bb_memory_file.specs.FileNotes.{Flushes, GivesAllBack, InUse, Undone};
+ghost use Rattle.bb_memory_file.specs.FileParties.{log_of};
+ghost use Rattle.bb_memory_traits.specs.Chunk.{region_at};
+ghost use Rattle.std.specs.Align.{IsLayout};
+ghost use Rattle.std.specs.Prelude.{Err, IfErr, IfOk, IfSome, None, ◌↔◌, ◌≡◌, ◌≢◌, ◌≤◌, ◌⊎◌};
 
 use crate::file_answer::{DetachedNumber, Message, ShownEntry, ShownFlag, ShownSlot};
 use bb_memory_c_calls::answer::{Answer, Figure, SharedPoolInfo};
 use bb_memory_c_calls::code;
 use bb_memory_c_calls::kind::{Bucketed, Gives, Keeps};
+use bb_memory_c_calls::layout::{cut_into, layout_of};
+use bb_memory_file::geometry::FileGeometry;
 use bb_memory_file::joined;
 use bb_memory_file::joined::{Joined, Note, Refusal, Taken};
 use bb_memory_file::party::FileParty;
@@ -18,7 +25,7 @@ use bb_memory_pool_machine::hint::Hint;
 use bb_memory_traits::allocator::AllocationError;
 use bb_memory_traits::geometry::Geometry;
 use bb_memory_traits::layout::{Chunk, Layout};
-use std::alloc::{AllocError, Global};
+use std::alloc::Global;
 use std::marker::Model;
 
 /// A party of a file that has joined, and where this process has the buckets. A gap keeps what different parties write on separate
@@ -31,6 +38,8 @@ pub struct JoinedFile {
 }
 
 impl Model for JoinedFile {
+    ghost use Rattle.bb_memory_c.specs.Files.{IsPlaced, JoinedFile};
+
     ghost Value = { JoinedFile };
 
     ghost view = { λ f. record { party = f.party; places = f.places } };
@@ -50,15 +59,13 @@ fn code_of(refusal: Refusal) -> u32
 }
 
 impl JoinedFile {
-    /// Returns the number of the bucket at this place.
-    #[inline(always)]
-    fn number_at(&self, place: usize) -> Option<u32> {
-        self.places.number_at(place)
-    }
-
     /// Returns the number of the bucket at this place, which the party has in use and which is in no slot, or the code of the reason
     /// why there is none.
-    fn in_use_at(&self, place: usize) -> Result<u32, u32> {
+    fn in_use_at(&self, place: usize) -> Result<u32, u32>
+        ensures there { IfOk result (λ number. IsNoted self.now place number InUse) }
+        ensures refused { IfErr result (λ code. (code ≡ not_held) × (¬ HoldsPlace self.now place)
+            ⊎ ((code ≡ file_not_done) × IsNotedAt self.now place Undone)) }
+    {
         let Some(number) = self.places.number_at(place) else {
             return Err(code::NOT_HELD);
         };
@@ -71,7 +78,9 @@ impl JoinedFile {
 
     /// Gives back the bucket at this place.
     #[inline(always)]
-    pub(crate) fn deallocate(&mut self, place: usize) -> u32 {
+    pub(crate) fn deallocate(&mut self, place: usize) -> u32
+        ensures { TellsDeallocate self.old place result self.new }
+    {
         let Some(number) = self.places.number_at(place) else {
             return code::NOT_HELD;
         };
@@ -82,7 +91,9 @@ impl JoinedFile {
     }
 
     /// Has the party cache at most `most` buckets. What it caches already is given back first.
-    pub(crate) fn cache(&mut self, alloc: Global, most: u32) -> u32 {
+    pub(crate) fn cache(&mut self, alloc: Global, most: u32) -> u32
+        ensures { TellsCache self.old most result self.new }
+    {
         match self.party.cache(alloc, most) {
             Ok(()) => code::OK,
             Err(_) => code::MALLOC_REFUSED,
@@ -90,28 +101,38 @@ impl JoinedFile {
     }
 
     /// Gives back the buckets that the party caches.
-    pub(crate) fn flush(&mut self) {
+    pub(crate) fn flush(&mut self)
+        ensures { Becomes (Flushes log_of) self.old self.new }
+    {
         self.party.flush();
     }
 
     /// Returns the party's number.
-    pub(crate) fn number(&self) -> u32 {
+    pub(crate) fn number(&self) -> u32
+        ensures { result ≡ number_of self.now }
+    {
         self.party.number()
     }
 
     /// Gives back each bucket that the party holds, and returns how many were freed.
-    pub(crate) fn give_all_back(&mut self) -> u32 {
+    pub(crate) fn give_all_back(&mut self) -> u32
+        ensures { Becomes (λ old new. GivesAllBack log_of old result new) self.old self.new }
+    {
         self.party.give_all_back()
     }
 
     /// Leaves. Returns how many buckets were freed.
-    pub(crate) fn leave(self) -> u32 {
+    pub(crate) fn leave(self) -> u32
+        ensures { LeavesFrom (log_of self.party.words) result }
+    {
         let JoinedFile { party, .. } = self;
         party.leave()
     }
 
     /// Posts the bucket at this place, with a message of `len` bytes, in a slot.
-    pub(crate) fn post(&mut self, slot: u32, place: usize, len: usize) -> u32 {
+    pub(crate) fn post(&mut self, slot: u32, place: usize, len: usize) -> u32
+        ensures { TellsPost self.old slot place len result self.new }
+    {
         if slot >= self.party.slots() {
             return code::INVALID_ARGUMENT;
         }
@@ -130,7 +151,9 @@ impl JoinedFile {
     }
 
     /// Takes the message in a slot.
-    pub(crate) fn take_message(&mut self, slot: u32) -> Message {
+    pub(crate) fn take_message(&mut self, slot: u32) -> Message
+        ensures { TellsMessage self.old slot result self.new }
+    {
         if slot >= self.party.slots() {
             return Message::refusal(code::INVALID_ARGUMENT);
         }
@@ -149,7 +172,9 @@ impl JoinedFile {
     }
 
     /// Says that the party is done with the message in a slot.
-    pub(crate) fn done(&mut self, slot: u32) -> u32 {
+    pub(crate) fn done(&mut self, slot: u32) -> u32
+        ensures { TellsDone self.old slot result self.new }
+    {
         if slot >= self.party.slots() {
             return code::INVALID_ARGUMENT;
         }
@@ -161,7 +186,9 @@ impl JoinedFile {
     }
 
     /// Detaches the bucket at this place, or puts back its message.
-    pub(crate) fn detach(&mut self, place: usize) -> DetachedNumber {
+    pub(crate) fn detach(&mut self, place: usize) -> DetachedNumber
+        ensures { TellsDetach self.old place result self.new }
+    {
         let Some(number) = self.places.number_at(place) else {
             return DetachedNumber::refusal(code::NOT_HELD);
         };
@@ -174,7 +201,9 @@ impl JoinedFile {
     }
 
     /// Attaches the bucket of this number.
-    pub(crate) fn attach(&mut self, number: u32) -> Answer {
+    pub(crate) fn attach(&mut self, number: u32) -> Answer
+        ensures { TellsAttach self.old number result self.new }
+    {
         match self.party.attach(number) {
             Ok(true) => Answer {
                 code: code::OK as usize,
@@ -216,7 +245,7 @@ impl Gives<SharedPoolInfo> for JoinedFile {
 impl Keeps for JoinedFile {
     ghost holds = { HoldsPlace };
 
-    ghost may_free = { λ file place. IsNotedAt file place InUse };
+    ghost may_free = { MayFree };
 
     ghost frees = { GivesBack };
 
@@ -237,7 +266,7 @@ impl Bucketed for JoinedFile {
 
     ghost may_take = { λ file. GivesChunk file file.places.bucket };
 
-    ghost misses_first = { MissesFirst };
+    ghost misses_first = { MissesFirstAt };
 
     #[inline(always)]
     fn take_first(&mut self) -> Option<Chunk> {
@@ -277,6 +306,10 @@ pub struct OpenFile {
 }
 
 impl Model for OpenFile {
+    ghost use Rattle.bb_memory_c.specs.Files.{IsOpen, OpenFile};
+    ghost use Rattle.bb_memory_traits.specs.Chunk.{region_at};
+    ghost use Rattle.bb_memory_traits.specs.PoolObject.{pool_geometry};
+
     ghost Value = { OpenFile };
 
     ghost view = { λ f. record {
@@ -287,15 +320,57 @@ impl Model for OpenFile {
     ghost invariant = { λ f. IsOpen f.table (region_at f.start f.size) f.bucket };
 }
 
+/// Returns the layout of a bucket and the geometry of a file with these numbers, if there is such a file whose buckets have room in
+/// the region. Otherwise returns the code of the first reason why there is none.
+pub(crate) fn cut_file(
+    bucket_size: usize,
+    bucket_align: usize,
+    start: usize,
+    size: usize,
+    buckets: u32,
+    slots: u32,
+    parties: u32,
+) -> Result<(Layout, FileGeometry), u32>
+    ensures cut { IfOk result (λ cut. IsOf bucket_size bucket_align cut.0
+        × (cutting_file (region_at start size) buckets slots parties).may cut.0
+        × (cutting_file (region_at start size) buckets slots parties).room cut.0) }
+    ensures geometry { IfOk result (λ cut. cut.1 ≡ geometry_of buckets slots parties) }
+    ensures row { IfOk result (λ cut. IsGeometry cut.1 (words_of cut.1)) }
+    ensures invalid_layout { (result ≡ Err invalid_layout) ↔ (¬ IsLayout bucket_size bucket_align) }
+    ensures invalid_argument { (result ≡ Err invalid_argument)
+        ↔ FailsOf bucket_size bucket_align (cutting_file (region_at start size) buckets slots parties).may }
+    ensures no_bucket { (result ≡ Err no_bucket) ↔ LacksRoomOf bucket_size bucket_align
+        (cutting_file (region_at start size) buckets slots parties).may
+        (cutting_file (region_at start size) buckets slots parties).room }
+    ensures others { IfErr result (λ code. code ≢ invalid_layout → code ≢ invalid_argument → code ≡ no_bucket) }
+{
+    let Some(geometry) = FileGeometry::of(buckets, slots, parties) else {
+        return Err(match layout_of(bucket_size, bucket_align) {
+            Some(_) => code::INVALID_ARGUMENT,
+            None => code::INVALID_LAYOUT,
+        });
+    };
+    let bucket = cut_into(bucket_size, bucket_align, start, size, parties)?;
+    if Geometry::new(bucket, start, size).count() < buckets {
+        return Err(code::NO_BUCKET);
+    }
+    Ok((bucket, geometry))
+}
+
 impl OpenFile {
     /// Returns where the buckets are.
-    fn places(&self) -> Geometry {
+    fn places(&self) -> Geometry
+        ensures { result ≡ self.now.places }
+    {
         let buckets = self.table.geometry().buckets;
         Geometry::cut_at_most(self.bucket, self.start, self.size, buckets)
     }
 
     /// Makes a party of this number, whose log is empty, if there is one.
-    fn party(&self, number: u32) -> Option<FileParty> {
+    fn party(&self, number: u32) -> Option<FileParty>
+        ensures fresh { IfSome result (λ party. log_of party ≡ fresh_of self.now number) }
+        ensures past { self.now.table.geometry.parties ≤ number → result ≡ None }
+    {
         if number >= self.table.geometry().parties {
             return None;
         }
@@ -303,7 +378,12 @@ impl OpenFile {
     }
 
     /// Joins as this number, whose lock the caller has just taken.
-    pub(crate) fn join(&self, alloc: Global, number: u32) -> Result<Box<JoinedFile>, u32> {
+    pub(crate) fn join(&self, alloc: Global, number: u32) -> Result<Box<JoinedFile>, u32>
+        ensures joins { IfOk result (λ joined. JoinsAt self.now number joined.value) }
+        ensures none_such { self.now.table.geometry.parties ≤ number → result ≡ Err no_party }
+        ensures no_memory { result ≡ Err malloc_refused → GivesUp (fresh_of self.now number) }
+        ensures no_other { IfErr result (λ code. code ≢ no_party → code ≡ malloc_refused) }
+    {
         let Some(words) = self.party(number) else {
             return Err(code::NO_PARTY);
         };
@@ -329,7 +409,9 @@ impl OpenFile {
     }
 
     /// Settles this number, whose lock the caller has just taken.
-    pub(crate) fn reap(&self, number: u32, dead: bool, left: bool) -> Figure {
+    pub(crate) fn reap(&self, number: u32, dead: bool, left: bool) -> Figure
+        ensures { TellsReap self.now number dead left result }
+    {
         let Some(words) = self.party(number) else {
             return Figure::refusal(code::NO_PARTY);
         };
@@ -340,7 +422,9 @@ impl OpenFile {
     }
 
     /// Loads the flag of the bucket of this number. If there is none, it is free.
-    pub(crate) fn flag(&self, bucket: u32) -> ShownFlag {
+    pub(crate) fn flag(&self, bucket: u32) -> ShownFlag
+        ensures { TellsFlag self.now bucket result }
+    {
         if bucket >= self.table.geometry().buckets {
             return ShownFlag::of(FileFlag::Free);
         }
@@ -348,7 +432,9 @@ impl OpenFile {
     }
 
     /// Loads the word of this slot. If there is none, it is empty.
-    pub(crate) fn slot(&self, slot: u32) -> ShownSlot {
+    pub(crate) fn slot(&self, slot: u32) -> ShownSlot
+        ensures { TellsSlot self.now slot result }
+    {
         if slot >= self.table.geometry().slots {
             return ShownSlot::of(Slot::Empty { lap: 0 });
         }
@@ -356,7 +442,9 @@ impl OpenFile {
     }
 
     /// Loads the entry of the bucket of this number. If there is none, it is in no slot.
-    pub(crate) fn entry(&self, bucket: u32) -> ShownEntry {
+    pub(crate) fn entry(&self, bucket: u32) -> ShownEntry
+        ensures { TellsEntry self.now bucket result }
+    {
         if bucket >= self.table.geometry().buckets {
             return ShownEntry::of(Entry::Nowhere);
         }
@@ -364,7 +452,9 @@ impl OpenFile {
     }
 
     /// Loads the life of the party of this number. If there is none, it is 0.
-    pub(crate) fn life(&self, party: u32) -> u64 {
+    pub(crate) fn life(&self, party: u32) -> u64
+        ensures { TellsLife self.now party result }
+    {
         if party >= self.table.geometry().parties {
             return 0;
         }
