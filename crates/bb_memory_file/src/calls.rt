@@ -62,15 +62,13 @@ pub fn allocate_later<W: Words>(words: &mut W, hint: u32) -> Option<u32>
         → AllocateSays before hint result (W.log words.new) }
 {
     let buckets = words.buckets();
-    let (first, next) = if hint < buckets {
-        (hint, hint + 1)
-    } else {
-        (0, 0)
-    };
-    if let Some(bucket) = search(words, next, buckets) {
+    if hint >= buckets {
+        return search(words, 0, buckets);
+    }
+    if let Some(bucket) = search(words, hint + 1, buckets) {
         return Some(bucket);
     }
-    search(words, 0, first)
+    search(words, 0, hint)
 }
 
 /// Gives back a bucket that the party holds, and that is in no slot.

@@ -20,7 +20,7 @@ invariant_of-push_reserved g c =
     (let made = c.requires.parties in omega arith)
     (subst (λ (p : SharedPool). IsSharedScene p.scene) c.self.view_is c.self.invariant.shared)
     (c.first-hint.ensures ∙ (λ i. first_hint (c.number_of_buckets-buckets.ensures.value i) (c.requires.parties i)
-    (c.bucket_size.ensures i) number))
+    (c.bucket_size.ensures.value i) number))
 
 pub loop-number-preserved : goal.loop-number-preserved
 loop-number-preserved g c =
