@@ -14,12 +14,22 @@ use Rattle.bb_memory_c_calls.specs.declared.code.TheConstants.{ALREADY_INITIALIZ
 use Rattle.bb_memory_file.specs.FileCalls.{IsJoin, IsLeave}
 use Rattle.bb_memory_file.specs.FileFormat.{entry_at, entry_in, flag_at, flag_in, geometry_of, life_at, slot_at, slot_in, words_of}
 use Rattle.bb_memory_file.specs.FileLog.{FileLog, fresh_log}
-use Rattle.bb_memory_file.specs.FileNames.{DetachedBy, Empty, Entry, FileFlag, Free, HeldBy, In, Nowhere, SentTo, Slot}
-use Rattle.bb_memory_file.specs.FileNames as slots
-use Rattle.bb_memory_file.specs.FileNotes.{Allocates, Attaches, Caches, Detaches, Flushes, GivesAllBack, InUse, IsDoneWith, JoinedParty, Joins, JoinsNot, MissesFirst, NotABucket, NotDone, NotHeld, Note, Posts, Reaps, Refusal, Returns, Taken, Takes, Undone, taken, used_in}
+use Rattle.bb_memory_file.specs.FileNotes.{Allocates, Attaches, Caches, Detaches, Flushes, GivesAllBack, IsDoneWith, JoinedParty, Joins, JoinsNot, MissesFirst, Posts, Reaps, Returns, Takes, used_in}
 use Rattle.bb_memory_file.specs.FileParties.{IsUnlocked, log_of, scene_of}
 use Rattle.bb_memory_file.specs.FileTables.{FileTable, HasLoaded}
+use Rattle.bb_memory_file.specs.declared.joined.Note.{Note}
+use Rattle.bb_memory_file.specs.declared.joined.Note.TheVariants.{InUse, Undone}
+use Rattle.bb_memory_file.specs.declared.joined.Refusal.{Refusal}
+use Rattle.bb_memory_file.specs.declared.joined.Refusal.TheVariants.{NotABucket, NotDone, NotHeld}
+use Rattle.bb_memory_file.specs.declared.joined.Taken.{Taken}
+use Rattle.bb_memory_file.specs.declared.joined.Taken.TheVariants as taken
 use Rattle.bb_memory_file.specs.declared.party.FileParty.{FileParty}
+use Rattle.bb_memory_file_machine.specs.declared.steps.file.Entry.{Entry}
+use Rattle.bb_memory_file_machine.specs.declared.steps.file.Entry.TheVariants.{In, Nowhere}
+use Rattle.bb_memory_file_machine.specs.declared.steps.file.FileFlag.{FileFlag}
+use Rattle.bb_memory_file_machine.specs.declared.steps.file.FileFlag.TheVariants.{DetachedBy, Free, HeldBy, SentTo}
+use Rattle.bb_memory_file_machine.specs.declared.steps.file.Slot.{Slot}
+use Rattle.bb_memory_file_machine.specs.declared.steps.file.Slot.TheVariants as slots
 use Rattle.bb_memory_pool_machine.specs.PoolHints.{first_hint}
 use Rattle.bb_memory_traits.specs.Chunk.{Chunk, Region}
 use Rattle.bb_memory_traits.specs.Geometry.{MayBeCut}

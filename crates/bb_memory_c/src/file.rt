@@ -4,7 +4,9 @@ ghost use Rattle.bb_memory_c.specs.Files.{AnswersJoin, AnswersLeave, AnswersLook
 ghost use Rattle.bb_memory_c_calls.specs.Answers.{figure_of, no_figure, refused};
 ghost use Rattle.bb_memory_c_calls.specs.Calls.{Answers, AnswersFree, AnswersInfo, AnswersNumber, AnswersPlace, AnswersPoolMake, AnswersRequest, AnswersReturns, AnswersTake, AnswersTakings, AnswersWhether};
 ghost use Rattle.bb_memory_c_calls.specs.declared.code.TheConstants.{UNINITIALIZED as uninitialized};
-ghost use Rattle.bb_memory_file.specs.FileNames.{Empty, Free, Nowhere};
+ghost use Rattle.bb_memory_file_machine.specs.declared.steps.file.Entry.TheVariants.{Nowhere};
+ghost use Rattle.bb_memory_file_machine.specs.declared.steps.file.FileFlag.TheVariants.{Free};
+ghost use Rattle.bb_memory_file_machine.specs.declared.steps.file.Slot.TheVariants.{Empty};
 ghost use Rattle.bb_memory_traits.specs.Chunk.{region_at};
 ghost use Rattle.std.specs.Prelude.{◌≡◌};
 

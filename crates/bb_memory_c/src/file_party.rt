@@ -1,11 +1,11 @@
 //! A party of a file, and the words that the parties share, as kinds.
 ghost use Rattle.bb_memory_c.specs.Files.{Becomes, GivesBack, GivesChunk, GivesUp, HoldsPlace, IsNoted, IsNotedAt, IsOpen, IsPlaced, JoinedFile, JoinsAt, LeavesFrom, MayFree, MissesFirstAt, OpenFile, ShowsParty, TellsAttach, TellsCache, TellsDeallocate, TellsDetach, TellsDone, TellsEntry, TellsFlag, TellsJoin, TellsLife, TellsMessage, TellsPost, TellsReap, TellsSlot, code_of, cutting_file, fresh_of, number_of};
-ghost use Rattle.bb_memory_c_calls.specs.Answers.{invalid_argument, invalid_layout, malloc_refused, no_bucket, no_party, not_held};
-ghost use Rattle.bb_memory_c_calls.specs.declared.code.TheConstants.{FILE_NOT_DONE as file_not_done};
 ghost use Rattle.bb_memory_c_calls.specs.Calls.{FailsOf, IsOf, LacksRoomOf};
+ghost use Rattle.bb_memory_c_calls.specs.declared.code.TheConstants.{FILE_NOT_DONE as file_not_done, INVALID_ARGUMENT as invalid_argument, INVALID_LAYOUT as invalid_layout, MALLOC_REFUSED as malloc_refused, NOT_HELD as not_held, NO_BUCKET as no_bucket, NO_PARTY as no_party};
 ghost use Rattle.bb_memory_file.specs.FileFormat.{IsGeometry, geometry_of, words_of};
-ghost use Rattle.bb_memory_file.specs.FileNotes.{Flushes, GivesAllBack, InUse, Undone};
+ghost use Rattle.bb_memory_file.specs.FileNotes.{Flushes, GivesAllBack};
 ghost use Rattle.bb_memory_file.specs.FileParties.{log_of};
+ghost use Rattle.bb_memory_file.specs.declared.joined.Note.TheVariants.{InUse, Undone};
 ghost use Rattle.bb_memory_traits.specs.Chunk.{region_at};
 ghost use Rattle.std.specs.Align.{IsLayout};
 ghost use Rattle.std.specs.Prelude.{Err, IfErr, IfOk, IfSome, None, ◌↔◌, ◌≡◌, ◌≢◌, ◌≤◌, ◌⊎◌};
