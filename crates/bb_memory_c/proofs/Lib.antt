@@ -1,5 +1,7 @@
 mod Counting
 mod Detaching
+mod FileCuts
+mod FileParties
 mod InUse
 mod Numbers
 mod SentHandles
