@@ -3,7 +3,7 @@ use Rattle.bb_memory_c.specs.Files.{HoldsPlace, JoinedFile}
 use Rattle.bb_memory_file.proofs.FileCaches.{last_cached}
 use Rattle.bb_memory_file.specs.FileCalls.{Gets, Makes}
 use Rattle.bb_memory_file.specs.FileLog.{FileLog}
-use Rattle.bb_memory_file.specs.FileNotes.{Allocates, AreCached, Attaches, Caches, Detaches, Flushes, GivesAllBack, IsDoneWith, JoinedParty, Joins, MissesFirst, Posts, Returns, Searches, Takes}
+use Rattle.bb_memory_file.specs.FileNotes.{Allocates, AreCached, Attaches, Caches, Deallocates, Detaches, Flushes, GivesAllBack, IsDoneWith, JoinedParty, Joins, MissesFirst, Posts, Returns, Searches, Takes}
 use Rattle.bb_memory_file.specs.FileParties.{log_of}
 use Rattle.bb_memory_file.specs.declared.joined.Note.{Note}
 use Rattle.bb_memory_file.specs.declared.joined.Refusal.{Refusal}
@@ -16,7 +16,7 @@ use Rattle.bb_memory_traits.specs.Geometry.{IsPlaceOfBucket}
 use Rattle.std.proofs.Common.{Bool, Err, List, None, Ok, Option, Result, Some, [], ap, arith, false, inl, inr, length, refl, subst, sym, true, ℕ, ◌++◌, ◌<◌, ◌∙◌, ◌∷◌, ◌≡◌, ◌⊎◌}
 use Rattle.std.proofs.lemmas.Bool.{cases_lt}
 use Rattle.std.proofs.lemmas.Option.{slice_get_within}
-use Rattle.std.specs.Prelude.{slice_get}
+use Rattle.std.specs.Prelude.{IfNone, slice_get}
 
 abbrev Party : Type 0
 Party = JoinedParty FileParty
@@ -73,6 +73,11 @@ returned-same old bucket new did = elim (cases_lt (length old.cached) old.most) 
   | inl fewer ↦ ap (λ (p : Party). buckets_of p) (did.cached fewer)
   | inr full ↦ ap (λ (l : FileLog). l.scene.buckets) ((did.returned full).0 0).1
 ]
+
+pub deallocated-same : (old : Party) (bucket : ℕ) (told : Result (Unit {0}) Refusal) (new : Party) →
+    Deallocates log_of old bucket told new → buckets_of new ≡ buckets_of old
+deallocated-same old bucket (Ok done) new did = returned-same old bucket new did.1
+deallocated-same old bucket (Err refusal) new did = ap (λ (p : Party). buckets_of p) did.1
 
 pub flushed-same : (old new : Party) → Flushes log_of old new → buckets_of new ≡ buckets_of old
 flushed-same old new did = ap (λ (l : FileLog). l.scene.buckets) did.gets
@@ -133,6 +138,11 @@ pub joined-same : (words : FileParty) (hint : Hint) (joined : Party) → Joins l
 joined-same words hint joined did = let settled = (did.0 0).4 in ap (λ (l : FileLog). l.scene.buckets) settled.gets
 
 -- PLACES
+
+-- what follows if there is none
+pub none-so : (told : Option ℕ) (A B : Type 0) → (A → B) → IfNone told A → IfNone told B
+none-so None A B so is = so is
+none-so (Some number) A B so is = tt
 
 -- the party has no bucket in use where none begins
 pub holds-none : (file : JoinedFile) (place : ℕ) → length file.party.notes ≡ file.places.buckets →

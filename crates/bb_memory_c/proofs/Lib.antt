@@ -2,6 +2,7 @@ mod Counting
 mod Detaching
 mod FileCuts
 mod FileParties
+mod FileTold
 mod InUse
 mod Numbers
 mod SentHandles
