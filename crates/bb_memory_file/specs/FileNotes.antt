@@ -198,15 +198,16 @@ Caches log old most (Ok _) new =
     Flushes log (record old { most = if nat_lt most buckets then most else buckets }) new
 Caches log old most (Err _) new = new ≡ old
 
--- The bucket was in use, and is detached; or its message is put back; or the call says why not. If the
--- message's slot hasn't the bucket, which no file shows in which only these calls write, the party
--- isn't done with it.
-abbrev pub Detaches : {W : Type 0} → (W → FileLog) → JoinedParty W → ℕ → Result (Unit {0}) Refusal → JoinedParty W → Type 0
-Detaches log old bucket (Ok _) new =
-    ((slice_get old.notes bucket ≡ Some InUse)
-    × Does log (λ process before after. IsDetach process before bucket after) old bucket Unheld new)
-    ⊎ ((slice_get old.notes bucket ≡ Some Undone) × ((slot : ℕ) × (lap : ℕ)
-    × Does log (λ process before after. IsPutBack process before bucket (whereabouts.In slot lap) after) old bucket Unheld new))
+-- The bucket was in use, and is detached; or its message is put back in this slot; or the call says why
+-- not. If the message's slot hasn't the bucket, which no file shows in which only these calls write, the
+-- party isn't done with it.
+abbrev pub Detaches : {W : Type 0} → (W → FileLog) → JoinedParty W → ℕ → Result (Option ℕ) Refusal → JoinedParty W → Type 0
+Detaches log old bucket (Ok None) new =
+    (slice_get old.notes bucket ≡ Some InUse)
+    × Does log (λ process before after. IsDetach process before bucket after) old bucket Unheld new
+Detaches log old bucket (Ok (Some slot)) new =
+    (slice_get old.notes bucket ≡ Some Undone) × ((lap : ℕ)
+    × Does log (λ process before after. IsPutBack process before bucket (whereabouts.In slot lap) after) old bucket Unheld new)
 Detaches log old bucket (Err refusal) new =
     IsRefusal (slice_get old.notes bucket) refusal
     × (((slice_get old.notes bucket ≢ Some Undone) × (new ≡ old)) ⊎ ((slice_get old.notes bucket ≡ Some Undone)

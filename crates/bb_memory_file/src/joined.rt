@@ -3,7 +3,7 @@
 //! the bucket's message. A party may cache the buckets that it gave back last for its next requests.
 ghost use Rattle.bb_memory_file.specs.FileCalls.{IsLeave};
 ghost use Rattle.bb_memory_file.specs.FileLog.{FileLog};
-ghost use Rattle.bb_memory_file.specs.FileNotes.{Allocates, Attaches, Caches, Deallocates, Detaches, Flushes, FreesLast, GivesAllBack, InUse, IsDoneWith, IsRefusal, JoinedParty, Joins, JoinsNot, MissesFirst, Posts, Reaps, Takes, Undone, Unheld, used_in};
+ghost use Rattle.bb_memory_file.specs.FileNotes.{Allocates, AreCached, Attaches, Caches, Deallocates, Detaches, Flushes, FreesLast, GivesAllBack, InUse, IsDoneWith, IsRefusal, JoinedParty, Joins, JoinsNot, MissesFirst, Posts, Reaps, Takes, Undone, Unheld, used_in};
 ghost use Rattle.std.specs.Prelude.{IfErr, IfNone, IfOk, IfSome, Some, [], length, replicate, slice_get, vec_capacity, ℕ, ◌<◌, ◌≡◌, ◌≤◌};
 
 use crate::calls;
@@ -172,7 +172,8 @@ impl<W: Words + Drop> Joined<W> {
     /// Returns how many buckets the file has.
     #[inline(always)]
     pub fn buckets(&self) -> u32
-        ensures { result ≡ (W.log self.now.words).scene.buckets }
+        ensures value { result ≡ (W.log self.now.words).scene.buckets }
+        ensures noted { length self.now.notes ≡ result }
     {
         self.words.buckets()
     }
@@ -189,6 +190,7 @@ impl<W: Words + Drop> Joined<W> {
     pub fn number_of_cached(&self) -> u32
         ensures value { result ≡ length self.now.cached }
         ensures within { result ≤ self.now.most }
+        ensures cached { AreCached self.now.notes self.now.cached }
     {
         self.cached.len() as u32
     }
@@ -306,8 +308,9 @@ impl<W: Words + Drop> Joined<W> {
     }
 
     /// Detaches a bucket, so that its number can go to another party by a channel outside the file, or
-    /// puts back its message. Fails as `deallocate` does, but for a message.
-    pub fn detach(&mut self, bucket: u32) -> Result<(), Refusal>
+    /// puts back its message. Returns the slot in which a message was put back. Fails as `deallocate` does,
+    /// but for a message.
+    pub fn detach(&mut self, bucket: u32) -> Result<Option<u32>, Refusal>
         ensures { Detaches W.log self.old bucket result self.new }
     {
         match self.note(bucket) {
@@ -316,7 +319,7 @@ impl<W: Words + Drop> Joined<W> {
                 self.check(bucket)?;
                 calls::detach(&mut self.words, bucket);
                 self.notes[bucket as usize] = Note::Unheld;
-                Ok(())
+                Ok(None)
             }
         }
     }
@@ -445,15 +448,15 @@ impl<W: Words + Drop> Joined<W> {
         true
     }
 
-    /// Puts back the message in a bucket, with which the party isn't done.
-    fn put_back(&mut self, bucket: u32) -> Result<(), Refusal>
+    /// Puts back the message in a bucket, with which the party isn't done. Returns the slot of the message.
+    fn put_back(&mut self, bucket: u32) -> Result<Option<u32>, Refusal>
         requires { slice_get self.old.notes bucket ≡ Some Undone }
         ensures { Detaches W.log self.old bucket result self.new }
     {
         match calls::put_back(&mut self.words, bucket) {
-            Whereabouts::In { slot: _, lap: _ } => {
+            Whereabouts::In { slot, lap: _ } => {
                 self.notes[bucket as usize] = Note::Unheld;
-                Ok(())
+                Ok(Some(slot))
             }
             Whereabouts::Entered => Err(Refusal::NotDone),
             Whereabouts::Nowhere => {

@@ -2,7 +2,7 @@ use Rattle.bb_memory_file.proofs.FileCaches.{cached_while, in_use_apart, unheld_
 use Rattle.bb_memory_file.proofs.FileNotes.{after_detach, in_use_clear, within}
 use Rattle.bb_memory_file.proofs.joined.Joined.detach.Goals as goal
 use Rattle.bb_memory_file.specs.FileNotes.{InUse, Unheld}
-use Rattle.std.proofs.Common.{inl, refl}
+use Rattle.std.proofs.Common.{refl}
 
 pub detach-requires-clause-clear : goal.detach-requires-clause-clear
 detach-requires-clause-clear g c =
@@ -25,7 +25,7 @@ invariant_of-self g c = (
     )
 
 pub returns-in_ok-check-in_default : goal.returns-in_ok-check-in_default
-returns-in_ok-check-in_default g c = rw (← c.self.view_is) (inl (
+returns-in_ok-check-in_default g c = rw (← c.self.view_is) (
   (rw (← c.self.view_is) at c.in_ok-check-in_default.ensures.held),
   (c.detach.ensures, refl),
-))
+)

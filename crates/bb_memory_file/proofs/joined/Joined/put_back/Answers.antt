@@ -47,10 +47,10 @@ invariant_of-self-in-Nowhere g c = (
     )
 
 pub returns-in-In : goal.returns-in-In
-returns-in-In g c = rw (← c.self.view_is) (inr (
+returns-in-In g c = rw (← c.self.view_is) (
   (rw (← c.self.view_is) at c.requires),
-  (c.in-In.slot, c.in-In.lap, (c.in-In.ensures, refl)),
-))
+  (c.in-In.lap, (c.in-In.ensures, refl)),
+)
 
 pub returns-in-Entered : goal.returns-in-Entered
 returns-in-Entered g c =
