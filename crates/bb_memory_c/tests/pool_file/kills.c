@@ -895,11 +895,11 @@ static bool pause_reap(bb_pool_file *ours, bb_file_party *party, uint32_t steps)
     return ended;
 }
 
-// Expects that the flag of the bucket with this number says that it is detached by this number.
-static void expect_detached(bb_pool_file *ours, uint32_t number, size_t by) {
+// Expects that the flag of the bucket with this number has this state, and names this party or slot.
+static void expect_flag(bb_pool_file *ours, uint32_t number, uint32_t state, size_t by) {
     bb_holder flag;
     EXPECT(bb_pool_file_holder(ours, number, &flag) == BB_OK);
-    EXPECT(flag.state == BB_DETACHED && flag.party == by);
+    EXPECT(flag.state == state && flag.party == by);
 }
 
 // A take by a child, which is stopped, and what another party got from the same slot.
@@ -936,7 +936,7 @@ static bool pause_take(bb_pool_file *ours, bb_file_party *party, uint32_t steps)
     if (message.code == BB_OK) {
         uint32_t freed = 1;
         EXPECT(*noted == BB_NOT_HELD || *noted == BB_DETACHED_EMPTY);
-        expect_detached(ours, message.number, bb_file_party_number(party).number);
+        expect_flag(ours, message.number, BB_DETACHED, bb_file_party_number(party).number);
         end_killed(take.child);
         EXPECT(bb_pool_file_reap(ours, BB_REAP_DEAD, &freed) == BB_OK && freed == 0);
         const bb_chunk back = bb_pool_file_attach(ours, party, message.number);
@@ -962,7 +962,7 @@ static bool pause_posted(bb_pool_file *ours, bb_file_party *party, uint32_t step
         go_on(take.child);
     if (message.code == BB_OK) {
         EXPECT(*noted == BB_NOT_HELD || *noted == BB_DETACHED_EMPTY);
-        expect_detached(ours, message.number, OPTIONS.parties + 1);  // it is sent to slot 1
+        expect_flag(ours, message.number, BB_SENT, 1);
         const bb_message again = bb_pool_file_take(ours, party, 1);
         EXPECT(again.code == BB_OK && again.len == 17 && is_filled(again.place, 55));
         EXPECT(bb_pool_file_done(ours, party, 1) == BB_OK);
