@@ -1006,15 +1006,18 @@ static void refused_memory(void) {
     end_killed(dying);
     memory_requests = 0;
     EXPECT(reap(file, BB_REAP_HELD) == 2 && memory_requests == 0);
-    // A join that fails does nothing, and keeps no lock. The next one frees what the dead party held.
+    // A join that fails keeps no lock, and frees what the dead party held, or nothing.
     const pid_t second = holder(2);
     end_killed(second);
-    to_refuse = 1;
-    EXPECT(bb_pool_file_join(file, &party) == BB_MALLOC_REFUSED);
+    code = BB_MALLOC_REFUSED;
+    for (to_refuse = 1; code != BB_OK; to_refuse++) {
+        memory_requests = 0;
+        code = bb_pool_file_join(file, &party);
+        EXPECT(code == BB_OK || (code == BB_MALLOC_REFUSED && info_of(file).alive == 1));
+        EXPECT(info_of(file).held == 0 || (code != BB_OK && info_of(file).lost == 2));
+    }
     to_refuse = 0;
-    EXPECT(info_of(file).held == 2 && info_of(file).lost == 2 && info_of(file).alive == 1);
-    EXPECT(number_of(join_it(file)) == 1);
-    EXPECT(info_of(file).held == 0 && info_of(file).alive == 2);
+    EXPECT(number_of(party) == 1 && info_of(file).alive == 2);
     close_it(file);
     EXPECT(blocks == 0);
     bb_use_memory(allocate_plainly, release_plainly, NULL);
