@@ -1877,6 +1877,38 @@ static void laps(void) {
     remove_it();
 }
 
+// Nobody joins as a number whose life can't become greater, or reaps it: whoever has tried to keeps
+// the number's lock. A process joins as another number, and the buckets of this one stay held.
+static void last_lives(void) {
+    bb_pool_file *file = open_it();
+    bb_pool_file *other = open_it();
+    const int fd = open(path, O_RDWR | O_CLOEXEC);
+    EXPECT(fd >= 0);
+    end_killed(holder(2));
+    EXPECT(info_of(file).lost == 2);
+    set_word(fd, FIRST_LIFE, UINT64_MAX - 2);
+    EXPECT(number_of(join_it(file)) == 1);
+    EXPECT(info_of(file).held == 2 && info_of(file).alive == 2 && info_of(other).alive == 2);
+    EXPECT(number_of(join_it(file)) == 2 && number_of(join_it(other)) == 3);
+    EXPECT(reap(file, BB_REAP_DEAD) == 0 && reap(other, BB_REAP_DEAD) == 0);
+    close_it(file);
+    EXPECT(info_of(other).lost == 2 && info_of(other).alive == 1);
+    EXPECT(reap(other, BB_REAP_DEAD) == 0 && life_of(other, 0) == UINT64_MAX - 2);
+    EXPECT(info_of(other).held == 2 && info_of(other).alive == 2);
+    EXPECT(number_of(join_it(other)) == 1);
+    close_it(other);
+    // This is the last life that becomes greater, up to the greatest that no process has.
+    set_word(fd, FIRST_LIFE, UINT64_MAX - 4);
+    file = open_it();
+    bb_file_party *party = join_it(file);
+    EXPECT(number_of(party) == 0 && life_of(file, 0) == UINT64_MAX - 2);
+    EXPECT(info_of(file).held == 0 && bb_pool_file_leave(file, party) == BB_OK);
+    EXPECT(life_of(file, 0) == UINT64_MAX - 1 && number_of(join_it(file)) == 1);
+    close_it(file);
+    close(fd);
+    remove_it();
+}
+
 // What flags say: a flag with a wrong value is counted, and leads to no access outside.
 static void flags(void) {
     const uint32_t last = ((uint32_t)1 << 30) - 1;
@@ -3438,6 +3470,7 @@ int main(int argc, char **argv) {
         half_done();
         stale_takes();
         laps();
+        last_lives();
         flags();
         wrong_entries();
         by_number();
