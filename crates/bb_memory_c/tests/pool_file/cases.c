@@ -1474,6 +1474,30 @@ static void slots(void) {
     remove_it();
 }
 
+// A call with a party of another `bb_pool_file` does nothing, even if both have the same file open.
+static void others_parties(void) {
+    bb_pool_file *file = open_it();
+    bb_pool_file *other = open_it();
+    bb_file_party *party = join_it(file);
+    const bb_place place = take_one(party);
+    EXPECT(bb_pool_file_post(other, party, 0, place, 1) == BB_UNINITIALIZED);
+    EXPECT(bb_pool_file_detach(other, party, place).code == BB_UNINITIALIZED);
+    EXPECT(bb_pool_file_leave(other, party) == BB_UNINITIALIZED);
+    EXPECT(bb_pool_file_give_all_back(other, party) == BB_UNINITIALIZED);
+    EXPECT(bb_pool_file_post(file, party, 0, place, 1) == BB_OK);
+    EXPECT(bb_pool_file_take(other, party, 0).code == BB_UNINITIALIZED);
+    EXPECT(bb_pool_file_take(file, party, 0).code == BB_OK);
+    EXPECT(bb_pool_file_done(other, party, 0) == BB_UNINITIALIZED);
+    EXPECT(bb_pool_file_done(file, party, 0) == BB_OK);
+    const bb_number detached = bb_pool_file_detach(file, party, place);
+    EXPECT(detached.code == BB_OK);
+    EXPECT(bb_pool_file_attach(other, party, (uint32_t)detached.number).code == BB_UNINITIALIZED);
+    EXPECT(bb_pool_file_attach(file, party, (uint32_t)detached.number).place == place);
+    close_it(other);
+    close_it(file);
+    remove_it();
+}
+
 // Returns how many buckets the party holds and doesn't cache.
 static size_t held_by(bb_file_party *party) {
     bb_shared_pool_figures figures;
@@ -2281,7 +2305,8 @@ static void be_done(bb_pool_file *file, bb_file_party *party) {
 
 // Another party has taken slot 1's message, and holds all other buckets.
 static void take_by_another(bb_pool_file *file, bb_file_party *party) {
-    leaving = join_it(file);
+    if (leaving == NULL)
+        leaving = join_it(file);
     free_message(file, party, 1);
     post_into(file, party, 1);
     EXPECT(bb_pool_file_take(file, leaving, 1).code == BB_OK);
@@ -2292,10 +2317,18 @@ static void take_by_another(bb_pool_file *file, bb_file_party *party) {
 static void leave_both(bb_pool_file *file, bb_file_party *party) {
     (void)party;
     EXPECT(bb_pool_file_leave(file, leaving) == BB_OK);
+    leaving = NULL;
 }
 
-// The same by a process that is dead by now.
+static void give_both_back(bb_pool_file *file, bb_file_party *party) {
+    (void)party;
+    EXPECT(bb_pool_file_give_all_back(file, leaving) == BB_OK);
+}
+
+// The same by a process that is dead by now. Nobody has joined as its party since.
 static void take_by_the_dead(bb_pool_file *file, bb_file_party *party) {
+    if (leaving != NULL)
+        leave_both(file, party);
     free_message(file, party, 1);
     post_into(file, party, 1);
     const pid_t child = child_of();
@@ -2313,6 +2346,11 @@ static void take_by_the_dead(bb_pool_file *file, bb_file_party *party) {
 static void reap_all(bb_pool_file *file, bb_file_party *party) {
     (void)party;
     EXPECT(reap(file, BB_REAP_HELD) == 19);
+}
+
+static void join_as_the_dead(bb_pool_file *file, bb_file_party *party) {
+    leaving = join_it(file);
+    EXPECT(number_of(leaving) == number_of(party) + 1);
 }
 
 // The party holds all buckets, and then frees them by one call.
@@ -2339,6 +2377,7 @@ static void wakes(const struct waking *waking) {
     int asks[2];
     int replies[2];
     EXPECT(pipe(asks) == 0 && pipe(replies) == 0);
+    leaving = NULL;
     bb_pool_file *file = open_it();
     bb_file_party *party = join_it(file);
     const pid_t child = child_of();
@@ -2384,8 +2423,12 @@ static void woken(void) {
         {bb_pool_file_wait_full, 1, take_by_another, leave_both},
         {bb_pool_file_wait_full, BB_ANY_SLOT, take_by_another, leave_both},
         {wait_bucket, 0, take_by_another, leave_both},
+        {bb_pool_file_wait_full, 1, take_by_another, give_both_back},
+        {wait_bucket, 0, take_by_another, give_both_back},
         {bb_pool_file_wait_full, 1, take_by_the_dead, reap_all},
         {wait_bucket, 0, take_by_the_dead, reap_all},
+        {bb_pool_file_wait_full, 1, take_by_the_dead, join_as_the_dead},
+        {wait_bucket, 0, take_by_the_dead, join_as_the_dead},
         {wait_bucket, 0, take_all, free_all},
     };
     for (size_t at = 0; at < sizeof all_of_them / sizeof *all_of_them; at++)
@@ -3460,6 +3503,7 @@ int main(int argc, char **argv) {
         lives();
         gives_all_back();
         slots();
+        others_parties();
         buckets_of_a_party();
         undone(0);
         undone(8);
