@@ -35,6 +35,8 @@ enum {
     // Places where one process leaves the number of a detached bucket for another.
     HANDS = 4,
     BURST = 6,
+    // What a look that finds no message notes: this, plus its code.
+    NO_LENGTH = 1000,
     // The most threads that live, over all, and the most messages that each posts.
     LIVES = 131072,
     SEQUENCES = 1024,
@@ -670,7 +672,10 @@ static void operate(int what, struct prepared with) {
     case GIVES_ALL_BACK: EXPECT(bb_pool_file_give_all_back(file, mine) == BB_OK); break;
     case LEAVES: EXPECT(bb_pool_file_leave(file, mine) == BB_OK); break;
     case NOTES_TAKE: *noted = bb_pool_file_take(file, mine, 0).code; break;
-    case NOTES_LOOK: *noted = (uint32_t)bb_pool_file_look(file, 0).len; break;
+    case NOTES_LOOK:
+        got = bb_pool_file_look(file, 0);
+        *noted = got.code == BB_OK ? (uint32_t)got.len : NO_LENGTH + got.code;
+        break;
     case NOTES_OPEN: note_open(); break;
     case REAPS_DETACHED: EXPECT(bb_pool_file_reap(file, BB_REAP_DEAD, NULL) == BB_OK); break;
     default: EXPECT(bb_pool_file_close(file) == BB_OK);
@@ -993,7 +998,7 @@ static bool pause_look(bb_pool_file *ours, bb_file_party *party, uint32_t steps)
         EXPECT(bb_pool_file_post(ours, party, 0, chunk.place, 33) == BB_OK);
     if (!ended)
         go_on(child);
-    EXPECT(*noted == 44 || *noted == (steps % 3 == 1 ? 0 : 33));
+    EXPECT(*noted == 44 || *noted == (steps % 3 == 1 ? NO_LENGTH + BB_DETACHED_EMPTY : 33));
     end_killed(child);
     return ended;
 }
