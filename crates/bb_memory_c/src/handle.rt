@@ -3,6 +3,8 @@
 //! both fields zero. A handle may be moved, and then the old copy isn't used.
 ghost use Rattle.bb_memory_bump.specs.contracts.bump_allocator.BumpAllocator.{the_row as bump_row};
 ghost use Rattle.bb_memory_c.specs.contracts.detached.Detached.{the_row as detached_row};
+ghost use Rattle.bb_memory_c.specs.contracts.file_party.JoinedFile.{the_row as file_party_row};
+ghost use Rattle.bb_memory_c.specs.contracts.file_party.OpenFile.{the_row as file_table_row};
 ghost use Rattle.bb_memory_c.specs.contracts.shared_bump.BumpParties.{the_row as shared_bump_row};
 ghost use Rattle.bb_memory_c.specs.contracts.shared_bump.JoinedBump.{the_row as bump_party_row};
 ghost use Rattle.bb_memory_c.specs.contracts.shared_pool.JoinedPool.{the_row as pool_party_row};
@@ -13,6 +15,7 @@ ghost use Rattle.bb_memory_owned.specs.contracts.one_chunk_allocator.OneChunkAll
 ghost use Rattle.std.specs.Prelude.{Option};
 
 use crate::detached::Detached;
+use crate::file_party::{JoinedFile, OpenFile};
 use crate::shared_bump::{BumpParties, JoinedBump};
 use crate::shared_pool::{JoinedPool, PoolParties};
 use bb_memory_bump::bump_allocator::BumpAllocator;
@@ -206,6 +209,52 @@ impl Handle<Detached> for DetachedHandle {
     }
 }
 
+/// Empty, or the owner of the words of a file.
+#[repr(C)]
+#[derive(Drop)]
+pub struct FileTableHandle {
+    at: *mut u8,
+    made: bool,
+    pub ghost value: { Option file_table_row.Denot },
+}
+
+impl Model for FileTableHandle {
+    ghost also_owns = { λ h. owns_if file_table_row h.made h.at h.value };
+}
+
+impl Handle<OpenFile> for FileTableHandle {
+    ghost made = { λ h. h.value };
+
+    ghost of = { λ held. record { at = held.at; made = held.made; value = held.value } };
+
+    fn held(&mut self) -> &mut Held<OpenFile> {
+        unsafe { &mut *(self as *mut Self as *mut Held<OpenFile>) }
+    }
+}
+
+/// Empty, or the owner of a party of a file.
+#[repr(C)]
+#[derive(Drop)]
+pub struct FilePartyHandle {
+    at: *mut u8,
+    made: bool,
+    pub ghost value: { Option file_party_row.Denot },
+}
+
+impl Model for FilePartyHandle {
+    ghost also_owns = { λ h. owns_if file_party_row h.made h.at h.value };
+}
+
+impl Handle<JoinedFile> for FilePartyHandle {
+    ghost made = { λ h. h.value };
+
+    ghost of = { λ held. record { at = held.at; made = held.made; value = held.value } };
+
+    fn held(&mut self) -> &mut Held<JoinedFile> {
+        unsafe { &mut *(self as *mut Self as *mut Held<JoinedFile>) }
+    }
+}
+
 unsafe impl Send for BumpHandle {}
 
 unsafe impl Send for OneChunkHandle {}
@@ -221,3 +270,7 @@ unsafe impl Send for SharedPoolHandle {}
 unsafe impl Send for PoolPartyHandle {}
 
 unsafe impl Send for DetachedHandle {}
+
+unsafe impl Send for FileTableHandle {}
+
+unsafe impl Send for FilePartyHandle {}

@@ -8,12 +8,17 @@
 //! - `bump`, `one_chunk`, `pool`: the exported functions of each allocator with one owner.
 //! - `shared_bump`, `shared_pool`: what threads share, its parties, and the exported functions of both.
 //! - `detached`: buckets that go from party to party, and the exported functions for that.
+//! - `file_answer`, `file_party`, `file`: pools in files: their answers, a party of a file with what the parties share, and the
+//!   exported functions.
 //!
 //! Every function of a handle requires of C what `bb_memory.h` lists under "RULES".
 #![tactic(auto)]
 
 mod bump;
 mod detached;
+mod file;
+mod file_answer;
+mod file_party;
 mod handle;
 mod one_chunk;
 mod pool;

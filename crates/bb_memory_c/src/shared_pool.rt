@@ -319,6 +319,8 @@ impl Gives<SharedPoolInfo> for JoinedPool {
 impl Keeps for JoinedPool {
     ghost holds = { HoldsPlace };
 
+    ghost may_free = { HoldsPlace };
+
     ghost frees = { GivesBack };
 
     fn is_held(&mut self, place: usize) -> bool {

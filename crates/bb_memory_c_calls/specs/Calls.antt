@@ -177,24 +177,24 @@ abbrev pub AnswersTakings : {X : Type 0} → Option X → Option X → List ℕ 
 AnswersTakings old new before slots told may = Answers old new ((told ≡ no_figure uninitialized) × (slots ≡ before))
     (λ made after. (told ≡ figure_of told.number) × TakesMany made after before slots told.number may)
 
--- a chunk is held at this place, and is given back
+-- the chunk at this place may be given back, and is
 abbrev pub FreesAt : {X : Type 0} → (X → ℕ → Type 0) → (X → ℕ → X → Type 0) → X → ℕ → X → Type 0
-FreesAt holds frees made place after = holds made place × frees made place after
+FreesAt may_free frees made place after = may_free made place × frees made place after
 
 -- The chunks at the first `count` places are given back, one after another. If places are left
--- over, no chunk is held at the next one.
-pub record FreesMany {X : Type 0} (made after : X) (places : List ℕ) (count : ℕ) (holds : X → ℕ → Type 0)
+-- over, none may be given back at the next one.
+pub record FreesMany {X : Type 0} (made after : X) (places : List ℕ) (count : ℕ) (may_free : X → ℕ → Type 0)
     (frees : X → ℕ → X → Type 0) : Type 0 where
-  pub freed : AtEach (FreesAt holds frees) made (take count places) after
+  pub freed : AtEach (FreesAt may_free frees) made (take count places) after
   pub at_most : count ≤ length places
-  pub stopped : IfSome (slice_get places count) (λ place. ¬ holds after place)
+  pub stopped : IfSome (slice_get places count) (λ place. ¬ may_free after place)
 
--- returns of the chunks at these places, up to the first place at which none is held; C gets how
+-- returns of the chunks at these places, up to the first one that may not be given back; C gets how
 -- many were given back
 abbrev pub AnswersReturns : {X : Type 0} → Option X → Option X → List ℕ → Figure → (X → ℕ → Type 0) → (X → ℕ → X → Type 0)
     → Type 0
-AnswersReturns old new places told holds frees = Answers old new (told ≡ no_figure uninitialized)
-    (λ made after. (told ≡ figure_of told.number) × FreesMany made after places told.number holds frees)
+AnswersReturns old new places told may_free frees = Answers old new (told ≡ no_figure uninitialized)
+    (λ made after. (told ≡ figure_of told.number) × FreesMany made after places told.number may_free frees)
 
 -- RESIZES change no value
 

@@ -149,10 +149,10 @@ pub fn take<M: Bucketed, H: Handle<M>>(handle: &mut H) -> Answer
     }
 }
 
-/// Gives back the chunk at this place, if one is held there.
+/// Gives back the chunk at this place, if it may be given back. Otherwise the call returns `BB_NOT_HELD`.
 pub fn give_back<M: Keeps, H: Handle<M>>(handle: &mut H, place: usize) -> u32
     ensures { AnswersReturn (H.made handle.old) (H.made handle.new) result
-        (λ made. M.holds made place) (λ made after. M.frees made place after) }
+        (λ made. M.may_free made place) (λ made after. M.frees made place after) }
 {
     let Some(made) = handle.made_mut() else {
         return code::UNINITIALIZED;
@@ -191,10 +191,10 @@ pub fn take_many<M: Bucketed, H: Handle<M>>(handle: &mut H, slots: &mut [usize])
     }
 }
 
-/// Gives back the chunks at these places, one after another, up to the first place at which none is held. Returns how many were
+/// Gives back the chunks at these places, one after another, up to the first one that may not be given back. Returns how many were
 /// given back.
 fn give_back_each<M: Keeps>(made: &mut M, places: &[usize]) -> usize
-    ensures { FreesMany made.old made.new places.now result M.holds M.frees }
+    ensures { FreesMany made.old made.new places.now result M.may_free M.frees }
 {
     let mut returned = 0;
     for place in places {
@@ -206,9 +206,9 @@ fn give_back_each<M: Keeps>(made: &mut M, places: &[usize]) -> usize
     returned
 }
 
-/// Gives back the chunks at these places, up to the first place at which none is held.
+/// Gives back the chunks at these places, up to the first one that may not be given back.
 pub fn give_back_many<M: Keeps, H: Handle<M>>(handle: &mut H, places: &[usize]) -> Figure
-    ensures { AnswersReturns (H.made handle.old) (H.made handle.new) places.now result M.holds M.frees }
+    ensures { AnswersReturns (H.made handle.old) (H.made handle.new) places.now result M.may_free M.frees }
 {
     match handle.made_mut() {
         Some(made) => Figure::of(give_back_each(made, places)),

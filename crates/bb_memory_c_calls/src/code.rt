@@ -56,3 +56,5 @@ pub const DETACHED_EMPTY: u32 = 21;
 pub const NOT_A_BUCKET: u32 = 22;
 /// The party belongs to another pool or bump, or the detached bucket to another pool.
 pub const OTHER_POOL: u32 = 23;
+/// In a file, the bucket is in a slot: the party took its message from there, and isn't done with it.
+pub const FILE_NOT_DONE: u32 = 34;

@@ -33,6 +33,9 @@ pub trait Keeps: Drop {
     /// A chunk is held at this place.
     ghost holds: { Self → ℕ → Type 0 };
 
+    /// The chunk at this place may be given back.
+    ghost may_free: { Self → ℕ → Type 0 };
+
     /// The value after the chunk at a place was given back.
     ghost frees: { Self → ℕ → Self → Type 0 };
 
@@ -41,9 +44,9 @@ pub trait Keeps: Drop {
         ensures value { IsTrue result ↔ holds self.old place }
         ensures unchanged { self.new ≡ self.old };
 
-    /// Gives back the chunk at this place, if one is held there, and returns whether one was. Otherwise nothing changes.
+    /// Gives back the chunk at this place, if it may be given back, and returns whether it was. Otherwise nothing changes.
     fn give_back(&mut self, place: usize) -> bool
-        ensures held { IsTrue result ↔ holds self.old place }
+        ensures held { IsTrue result ↔ may_free self.old place }
         ensures freed { IsTrue result → frees self.old place self.new }
         ensures unchanged { IsFalse result → self.new ≡ self.old };
 }

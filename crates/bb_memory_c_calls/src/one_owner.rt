@@ -53,6 +53,8 @@ impl Gives<OneChunkInfo> for OneChunkAllocator {
 impl Keeps for OneChunkAllocator {
     ghost holds = { λ one place. one.kept ≡ Some place };
 
+    ghost may_free = { λ one place. one.kept ≡ Some place };
+
     ghost frees = { λ one place after. after ≡ record one { kept = None } };
 
     fn is_held(&mut self, place: usize) -> bool {
@@ -106,6 +108,8 @@ impl Gives<PoolInfo> for Pool {
 
 impl Keeps for Pool {
     ghost holds = { λ pool place. HoldsPlace pool.pool place };
+
+    ghost may_free = { λ pool place. HoldsPlace pool.pool place };
 
     ghost frees = { FreesBucket };
 

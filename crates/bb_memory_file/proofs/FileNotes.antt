@@ -1,13 +1,13 @@
 -- The notes of a party say what it knows of its buckets, before each call and after it.
 use Rattle.bb_memory_file.proofs.FileMessages.{seen_away}
-use Rattle.bb_memory_file.proofs.FileWalks.{path_on}
+use Rattle.bb_memory_file.proofs.FileWalks.{path_on, walk_nowhere}
 use Rattle.bb_memory_file.specs.FileCalls.{AllocateSays, IsAttach, IsDeallocate, IsDetach, IsDone, IsJoin, IsPost, IsPutBack, IsReceive, IsSettled, unseen}
 use Rattle.bb_memory_file.specs.FileCalls.received as received
 use Rattle.bb_memory_file.specs.FileCalls.whereabouts as whereabouts
 use Rattle.bb_memory_file.specs.FileCode.{FileLog, Has, HasNot, Holds, IsWalk, Known, LoadSlot, Path, Seen, Unknown, begins, known_of, looks, told}
 use Rattle.bb_memory_file.specs.FileLog.{IsKnownIn, fresh_log, held_still, is_clear, is_held, seen_in, with_entry, with_seen}
 use Rattle.bb_memory_file.specs.FileNames.{Counting, Entry, FileStep, HeldBy, In, Message, Nowhere, Outside, Slot}
-use Rattle.bb_memory_file.specs.FileNotes.{InUse, IsHome, IsJoined, IsNoted, Note, Undone, Unheld, looked}
+use Rattle.bb_memory_file.specs.FileNotes.{Cached, InUse, IsHome, IsJoined, IsNoted, Note, Undone, Unheld, looked}
 use Rattle.bb_memory_file_machine.specs.FileMachine.{FileScene, same_flag}
 use Rattle.bb_memory_lists.proofs.SliceGets.{length-set_at, slice_get-replicated, slice_get-set_other, slice_get-set_same}
 use Rattle.bb_memory_pool_machine.proofs.PoolSteps.{test_same}
@@ -42,6 +42,25 @@ clear_by (Holds None seen) noted = absurd noted
 clear_by (Holds (Some Nowhere) seen) noted = refl
 clear_by (Holds (Some (In slot size)) seen) noted = absurd noted
 
+clear_cached : (known : Known) → IsNoted known Cached → is_clear known ≡ true
+clear_cached Unknown noted = absurd noted
+clear_cached (Holds None seen) noted = absurd noted
+clear_cached (Holds (Some Nowhere) seen) noted = refl
+clear_cached (Holds (Some (In slot size)) seen) noted = absurd noted
+
+-- a bucket in use may be cached, and a cached one may be in use
+to_cached : (known : Known) → IsNoted known InUse → IsNoted known Cached
+to_cached Unknown noted = absurd noted
+to_cached (Holds None seen) noted = absurd noted
+to_cached (Holds (Some Nowhere) seen) noted = tt
+to_cached (Holds (Some (In slot size)) seen) noted = absurd noted
+
+from_cached : (known : Known) → IsNoted known Cached → IsNoted known InUse
+from_cached Unknown noted = absurd noted
+from_cached (Holds None seen) noted = absurd noted
+from_cached (Holds (Some Nowhere) seen) noted = tt
+from_cached (Holds (Some (In slot size)) seen) noted = absurd noted
+
 held_by : (known : Known) → IsNoted known Undone → is_held known ≡ true
 held_by Unknown noted = absurd noted
 held_by (Holds entry seen) noted = refl
@@ -63,6 +82,10 @@ module _ (log : FileLog) (notes : List Note) (joined : IsJoined log notes) (buck
   -- the party holds a bucket in use, which is in no slot
   pub in_use_clear : slice_get notes bucket ≡ Some InUse → is_clear (known_of log bucket) ≡ true
   in_use_clear is = clear_by (known_of log bucket) (joined.noted.each bucket InUse is)
+
+  -- and so is one that it caches
+  pub cached_clear : slice_get notes bucket ≡ Some Cached → is_clear (known_of log bucket) ≡ true
+  cached_clear is = clear_cached (known_of log bucket) (joined.noted.each bucket Cached is)
 
   -- the party holds a bucket with whose message it isn't done
   pub undone_held : slice_get notes bucket ≡ Some Undone → is_held (known_of log bucket) ≡ true
@@ -176,11 +199,11 @@ module _ (old new : FileLog) (notes : List Note) (joined : IsJoined old notes) (
   apart_by : (other : ℕ) → other ≢ bucket → (bucket == other) ≡ false
   apart_by other apart = ne_eqb bucket other (λ same. apart (sym same))
 
-  pub after_deallocate : slice_get notes bucket ≡ Some InUse → ((process : ℕ) → IsDeallocate process old bucket new) →
+  pub after_deallocate : (before : Note) → slice_get notes bucket ≡ Some before → ((process : ℕ) → IsDeallocate process old bucket new) →
       IsJoined new (slice_set notes bucket Unheld)
-  after_deallocate was did = go_noted old new notes joined (λ process. (_, (did process).0)) bucket Unheld
+  after_deallocate before was did = go_noted old new notes joined (λ process. (_, (did process).0)) bucket Unheld
       (subst (λ log. IsNoted (known_of log bucket) Unheld) (sym (did 0).1) (rw (test_same bucket bucket refl) tt))
-      (λ other apart. subst (λ log. IsSame log other) (sym (did 0).1) (rw (apart_by other apart) refl)) InUse was
+      (λ other apart. subst (λ log. IsSame log other) (sym (did 0).1) (rw (apart_by other apart) refl)) before was
 
   pub after_detach : slice_get notes bucket ≡ Some InUse → ((process : ℕ) → IsDetach process old bucket new) →
       IsJoined new (slice_set notes bucket Unheld)
@@ -275,6 +298,9 @@ module _ (old new : FileLog) (notes : List Note) (joined : IsJoined old notes) (
 
 -- ALL BUCKETS
 
+stays : (log : FileLog) → Goes log log
+stays log process = ([], walk_nowhere process log Outside)
+
 pub after_all : (old new : FileLog) (notes : List Note) (freed : ℕ) → IsJoined old notes →
     ((process : ℕ) → IsSettled process old false Outside freed [] new Outside) → IsJoined new (replicate (length notes) Unheld)
 after_all old new notes freed joined did =
@@ -287,6 +313,18 @@ after_all old new notes freed joined did =
     let enough = joined.noted.enough in
     subst (λ n. IsNoted (known_of new other) n) unheld
     (subst (λ known. IsNoted known Unheld) (sym ((did 0).unknown other (omega (arith, below, same, enough)))) tt))
+
+-- the party caches a bucket that was in use
+pub after_cached : (log : FileLog) (notes : List Note) (bucket : ℕ) → IsJoined log notes → slice_get notes bucket ≡ Some InUse →
+    IsJoined log (slice_set notes bucket Cached)
+after_cached log notes bucket joined was = go_noted log log notes joined (stays log) bucket Cached
+    (to_cached (known_of log bucket) (joined.noted.each bucket InUse was)) (λ other apart. refl) InUse was
+
+-- the party takes a bucket that was cached
+pub after_popped : (log : FileLog) (notes : List Note) (bucket : ℕ) → IsJoined log notes → slice_get notes bucket ≡ Some Cached →
+    IsJoined log (slice_set notes bucket InUse)
+after_popped log notes bucket joined was = go_noted log log notes joined (stays log) bucket InUse
+    (from_cached (known_of log bucket) (joined.noted.each bucket Cached was)) (λ other apart. refl) Cached was
 
 pub after_join : (old new : FileLog) → old.events ≡ [] → ((process : ℕ) → IsJoin process old true new) →
     IsJoined new (replicate old.scene.buckets Unheld)

@@ -1,5 +1,6 @@
 pub mod FileBeginnings
 pub mod FileBuckets
+pub mod FileCaches
 pub mod FileEvents
 pub mod FileFlagWords
 pub mod FileKnows

@@ -73,6 +73,11 @@ AllocateSays old hint (Some bucket) new =
     → IsPassed (if nat_lt hint old.scene.buckets then hint else 0) bucket other → missed other events ≡ true)
     × (bucket < old.scene.buckets) × IsGained old bucket new
 
+-- the call has tried the bucket at which a search begins, if the file has that bucket, and found that it
+-- wasn't free
+abbrev pub BeginsSearch : FileLog → ℕ → FileLog → Type 0
+BeginsSearch old hint new = Gets old (if nat_lt hint old.scene.buckets then MissFlag hint Free ∷ [] else []) new
+
 -- the call has given back the bucket
 abbrev pub IsDeallocate : ℕ → FileLog → ℕ → FileLog → Type 0
 IsDeallocate process old bucket new =

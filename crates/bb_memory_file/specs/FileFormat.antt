@@ -20,6 +20,27 @@ pub record IsGeometry (geometry : FileGeometry) (words : ℕ) : Type 0 where
   pub row : geometry.first_slot + 16 * geometry.slots ≤ words
   pub numbered : words < 2 ^ 64
 
+-- the number of words that this many words take, if the next part begins at a multiple of 16 words
+abbrev pub part_of : ℕ → ℕ
+part_of words = (words + 15) / 16 * 16
+
+-- the geometry of a file with this many buckets, slots and parties, in which each part begins at a
+-- multiple of 16 words
+abbrev pub geometry_of : ℕ → ℕ → ℕ → FileGeometry
+geometry_of buckets slots parties = record {
+  buckets = buckets;
+  slots = slots;
+  parties = parties;
+  first_flag = 16;
+  first_life = 16 + part_of buckets;
+  first_entry = 16 + part_of buckets + part_of parties;
+  first_slot = 16 + part_of buckets + part_of parties + part_of buckets;
+}
+
+-- how many words the row of a file has
+abbrev pub words_of : FileGeometry → ℕ
+words_of geometry = geometry.first_slot + 16 * geometry.slots
+
 -- the number of the word of a bucket's flag
 abbrev pub flag_at : FileGeometry → ℕ → ℕ
 flag_at geometry bucket = geometry.first_flag + bucket

@@ -1,11 +1,12 @@
 -- The log of a party over the words of a file.
 use Rattle.bb_memory_file.specs.FileFormat.{event_of}
 use Rattle.bb_memory_file.specs.FileLog.{FileLog}
+use Rattle.bb_memory_file.specs.FileRuns.{CanUnlock}
 use Rattle.bb_memory_file.specs.Recorded.{WordEvent, recorded}
 use Rattle.bb_memory_file.specs.declared.geometry.FileGeometry.{FileGeometry}
 use Rattle.bb_memory_file.specs.declared.party.FileParty.{FileParty}
 use Rattle.bb_memory_file_machine.specs.FileMachine.{FileScene}
-use Rattle.std.specs.Prelude.{List, map, ℕ}
+use Rattle.std.specs.Prelude.{List, map, ℕ, ◌≡◌}
 
 -- the sizes of a file as those of a machine, of which the file says no number of processes
 abbrev pub scene_of : FileGeometry → FileScene
@@ -28,3 +29,7 @@ log_by geometry number operations =
 -- the party's log
 abbrev pub log_of : FileParty → FileLog
 log_of party = log_by party.geometry party.number (recorded party.hand)
+
+-- a party with this log, by which its process may free the lock, was given up
+abbrev pub IsUnlocked : FileLog → Type 0
+IsUnlocked log = (party : FileParty) × (log_of party ≡ log) × CanUnlock log

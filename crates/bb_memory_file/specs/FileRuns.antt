@@ -72,6 +72,12 @@ acts_of process log = map (λ event. Operates process log.party event) log.event
 abbrev pub MayUnlock : ℕ → Place → Type 0
 MayUnlock party place = (place ≡ Settled party) ⊎ (place ≡ Flags party 0)
 
+-- by all that the party has done since its process has taken the number's lock, the process may free the
+-- lock
+abbrev pub CanUnlock : FileLog → Type 0
+CanUnlock log = (process : ℕ) → (taken : List FileStep) × (here : Place)
+    × Path process (fresh_log log.scene log.party) (Counting log.party) log taken here × MayUnlock log.party here
+
 -- Whatever a process does, by these acts it has come to this place of the machine. All that it does
 -- with the lock is a path of steps, broken off anywhere.
 pub data Life (scene : FileScene) (process : ℕ) : List Act → List FileStep → Place → Type 0 where

@@ -10,4 +10,5 @@ pub mod FileRecords
 pub mod FileRows
 pub mod FileRuns
 pub mod FileSettlers
+pub mod FileTables
 pub mod Recorded

@@ -2,12 +2,12 @@
 //!
 //! Each of them is given a party whose lock this process has, and what it needs to know of a bucket
 //! is in its `requires`: that the party holds the bucket, and what the bucket's entry says.
-ghost use Rattle.bb_memory_file.specs.FileCalls.{AllocateSays, IsAttach, IsDeallocate, IsDetach, IsDone, IsFound, IsJoin, IsLeave, IsPost, IsPutBack, IsReap, IsReceive, IsSettled, SearchSays, is_fit, length_in};
-ghost use Rattle.bb_memory_file.specs.FileLog.{IsKnownIn, IsLap, is_clear, is_held, known_of};
+ghost use Rattle.bb_memory_file.specs.FileCalls.{AllocateSays, BeginsSearch, IsAttach, IsDeallocate, IsDetach, IsDone, IsFound, IsJoin, IsLeave, IsPost, IsPutBack, IsReap, IsReceive, IsSettled, SearchSays, is_fit, length_in};
+ghost use Rattle.bb_memory_file.specs.FileLog.{FileLog, IsKnownIn, IsLap, is_clear, is_held, known_of};
 ghost use Rattle.bb_memory_file.specs.FileNames.{Deallocate, DetachNumber, Done, Flags, Next, Outside, Settled};
 ghost use Rattle.bb_memory_file.specs.FileSettlers.{IsCounted, IsCountedOn, IsRecover, IsSettledAt};
 ghost use Rattle.bb_memory_file_machine.specs.FileMachine.{same_flag};
-ghost use Rattle.std.specs.Prelude.{[], false, true, ℕ, ◌%◌, ◌+◌, ◌<◌, ◌^◌, ◌∷◌, ◌≡◌, ◌≤◌};
+ghost use Rattle.std.specs.Prelude.{MatchBool, Some, [], false, true, ℕ, ◌%◌, ◌+◌, ◌<◌, ◌^◌, ◌∷◌, ◌≡◌, ◌≤◌};
 
 use crate::words::Words;
 use bb_memory_file_machine::steps::{Entry, FileFlag, Slot};
@@ -39,20 +39,40 @@ pub enum Whereabouts {
 
 // BUCKETS
 
-/// Takes a free bucket, if there is one where it looks: at each bucket, first from `hint` on, and then
-/// before it.
-pub fn allocate<W: Words>(words: &mut W, hint: u32) -> Option<u32>
-    ensures { AllocateSays (W.log words.old) hint result (W.log words.new) }
+/// Begins a search for a free bucket: tries the bucket `hint`, if the file has that bucket, and returns
+/// whether it took the bucket.
+#[inline(always)]
+pub fn allocate_first<W: Words>(words: &mut W, hint: u32) -> bool
+    ensures { MatchBool result
+        (AllocateSays (W.log words.old) hint (Some hint) (W.log words.new))
+        (BeginsSearch (W.log words.old) hint (W.log words.new)) }
+{
+    if hint >= words.buckets() {
+        return false;
+    }
+    let held = FileFlag::HeldBy(words.party());
+    words.exchange_flag(hint, FileFlag::Free, held)
+}
+
+/// Goes on with a search that has not taken its first bucket: tries each other bucket, first from `hint`
+/// on, and then before it. The clause holds for each log with which the search may have begun.
+#[inline(never)]
+pub fn allocate_later<W: Words>(words: &mut W, hint: u32) -> Option<u32>
+    ensures { (before : FileLog) → BeginsSearch before hint (W.log words.old)
+        → AllocateSays before hint result (W.log words.new) }
 {
     let buckets = words.buckets();
-    let first = if hint < buckets { hint } else { 0 };
-    if let Some(bucket) = search(words, first, buckets) {
+    if hint >= buckets {
+        return search(words, 0, buckets);
+    }
+    if let Some(bucket) = search(words, hint + 1, buckets) {
         return Some(bucket);
     }
-    search(words, 0, first)
+    search(words, 0, hint)
 }
 
 /// Gives back a bucket that the party holds, and that is in no slot.
+#[inline(always)]
 pub fn deallocate<W: Words>(words: &mut W, bucket: u32)
     requires below { bucket < (W.log words.old).scene.buckets }
     requires clear { is_clear (known_of (W.log words.old) bucket) ≡ true }
@@ -158,18 +178,28 @@ pub fn put_back<W: Words>(words: &mut W, bucket: u32) -> Whereabouts
 
 // NUMBERS
 
-/// Joins as the number whose lock this process has just taken: counts the number's life, and settles
-/// what whoever had the number before has left. Returns false if the life can't become greater any
-/// more: then the process keeps the lock, so that nobody joins as this number.
-pub fn join<W: Words>(words: &mut W) -> bool
-    ensures { (process : ℕ) → IsJoin process (W.log words.old) result (W.log words.new) }
+/// Counts that this process has taken the number's lock. Returns the life that the number had before,
+/// or None if that can't become greater.
+pub fn count_lock<W: Words>(words: &mut W) -> Option<u64>
+    ensures { (process : ℕ) → IsCounted process (W.log words.old) result (W.log words.new) }
 {
-    let Some(_) = count_lock(words) else {
-        return false;
-    };
+    let life = words.load_life();
+    if life >= u64::MAX - 3 {
+        return None;
+    }
+    words.store_life(life + 2);
+    Some(life)
+}
+
+/// Joins as the number whose lock this process has counted: settles what whoever had the number before
+/// has left. The clause holds for each log with which the process may have counted the lock.
+pub fn join<W: Words>(words: &mut W)
+    ensures { (process : ℕ) (before : FileLog) (life : ℕ)
+        → IsCounted process before (Some life) (W.log words.old)
+        → IsJoin process before true (W.log words.new) }
+{
     settle(words, false);
     count_join(words);
-    true
 }
 
 /// Gives back all buckets that the party holds, but for its messages, which are put back. Returns how
@@ -180,8 +210,8 @@ pub fn give_all_back<W: Words>(words: &mut W) -> u32
     settle(words, false)
 }
 
-/// Leaves: gives back all that the party holds, as `give_all_back` does, counts the number's life, and
-/// frees the number's lock. Returns how many buckets were given back.
+/// Leaves: gives back all that the party holds, as `give_all_back` does, and counts the number's life.
+/// Returns how many buckets were given back.
 pub fn leave<W: Words>(words: &mut W) -> u32
     ensures { (process : ℕ) → IsLeave process (W.log words.old) result (W.log words.new) }
 {
@@ -288,19 +318,6 @@ fn search<W: Words>(words: &mut W, from: u32, to: u32) -> Option<u32>
         }
     }
     None
-}
-
-/// Counts that this process has taken the number's lock. Returns the life that the number had before,
-/// or None if that can't become greater.
-fn count_lock<W: Words>(words: &mut W) -> Option<u64>
-    ensures { (process : ℕ) → IsCounted process (W.log words.old) result (W.log words.new) }
-{
-    let life = words.load_life();
-    if life >= u64::MAX - 3 {
-        return None;
-    }
-    words.store_life(life + 2);
-    Some(life)
 }
 
 /// Counts that this process has joined as the number, which it has settled. The life is odd then.

@@ -1,22 +1,32 @@
 //! A party that has joined: the words of its file, and what it has noted of each bucket, so that a
 //! call knows without a look at the file whether the party holds a bucket, and whether it is done with
-//! the bucket's message.
+//! the bucket's message. A party may cache the buckets that it gave back last for its next requests.
 ghost use Rattle.bb_memory_file.specs.FileCalls.{IsLeave};
-ghost use Rattle.bb_memory_file.specs.FileNotes.{Allocates, Attaches, Deallocates, Detaches, GivesAllBack, InUse, IsDoneWith, IsRefusal, Joins, Posts, Takes, Undone};
-ghost use Rattle.std.specs.Prelude.{IfErr, IfOk, Some, [], slice_get, ℕ, ◌<◌, ◌≡◌};
+ghost use Rattle.bb_memory_file.specs.FileLog.{FileLog};
+ghost use Rattle.bb_memory_file.specs.FileNotes.{Allocates, AreCached, Attaches, Caches, Deallocates, Detaches, Flushes, FreesLast, GivesAllBack, InUse, IsDoneWith, IsRefusal, JoinedParty, Joins, JoinsNot, MissesFirst, Posts, Reaps, Takes, Undone, Unheld, used_in};
+ghost use Rattle.std.specs.Prelude.{IfErr, IfNone, IfOk, IfSome, Some, [], length, replicate, slice_get, vec_capacity, ℕ, ◌<◌, ◌≡◌, ◌≤◌};
 
 use crate::calls;
 use crate::calls::{Received, Whereabouts};
 use crate::words::Words;
 use bb_memory_file_machine::steps::Slot;
+use bb_memory_pool_machine::hint::Hint;
 use std::alloc::{AllocError, Global};
 use std::marker::Model;
+
+/// The number of notes that fill two cache lines.
+const GAP: usize = 128;
+
+/// The number of `u32` that fill two cache lines.
+const CACHE_GAP: usize = 32;
 
 /// A party's note of a bucket.
 #[derive(Debug, Clone, Copy, PartialEq, Eq)]
 pub enum Note {
     /// The party doesn't hold the bucket.
     Unheld,
+    /// The party holds the bucket, which is in no slot, and caches it for its next requests.
+    Cached,
     /// The party holds the bucket, which is in no slot.
     InUse,
     /// The party holds the bucket of a message, and isn't done with the message.
@@ -28,7 +38,7 @@ pub enum Note {
 pub enum Refusal {
     /// The file has no bucket of this number.
     NotABucket,
-    /// The party doesn't hold the bucket.
+    /// The party doesn't hold the bucket, or caches it.
     NotHeld,
     /// The bucket is in a slot, since the party isn't done with its message.
     NotDone,
@@ -47,76 +57,259 @@ pub enum Taken {
     Message { bucket: u32, length: u32 },
 }
 
-/// A party that has joined.
+/// Returns the notes of a party that holds none of this many buckets. Each call of a party writes the
+/// notes, and a gap after them keeps them off the cache lines that other threads' calls write.
+fn notes_of(alloc: Global, buckets: u32) -> Result<Vec<Note>, AllocError>
+    ensures { IfOk result (λ notes. notes.items ≡ replicate buckets Unheld) }
+{
+    let mut notes = Vec::from_elem(alloc, Note::Unheld, buckets as usize + GAP)?;
+    notes.truncate(buckets as usize);
+    Ok(notes)
+}
+
+/// Returns an empty list with room for `most` numbers and a gap after them, as that of the notes. If
+/// `most` is 0, the list takes no memory.
+fn list_of(alloc: Global, most: u32) -> Result<Vec<u32>, AllocError>
+    ensures items { IfOk result (λ list. list.items ≡ []) }
+    ensures room { IfOk result (λ list. most ≤ vec_capacity list) }
+{
+    let gap = if most == 0 { 0 } else { CACHE_GAP };
+    Vec::with_capacity(alloc, most as usize + gap)
+}
+
+/// Settles the number whose lock this process has just taken, and gives up the words: the caller frees
+/// the lock right after. If whoever had the number was killed and `dead` is true, or has left and `left`
+/// is true, also frees what it has detached. Returns how many buckets were freed.
+///
+/// Returns the words if the number's life can't become greater any more: then the process keeps the
+/// lock.
+pub fn reap<W: Words + Drop>(mut words: W, dead: bool, left: bool) -> Result<u32, W>
+    requires { (W.log words).events ≡ [] }
+    ensures { Reaps W.log W.unlocked words dead left result }
+{
+    let Some(freed) = calls::reap(&mut words, dead, left) else {
+        return Err(words);
+    };
+    words.unlock();
+    Ok(freed)
+}
+
+/// A party that has joined. It caches at most `most` of the buckets that it gave back last, and its next
+/// requests take these buckets first, without an operation on the words.
+///
+/// A cached bucket stays held, so the other parties' requests fail if each bucket is cached or in use.
 #[derive(Drop)]
 pub struct Joined<W: Words + Drop> {
     words: W,
     notes: Vec<Note>,
+    hint: Hint,
+    cached: Vec<u32>,
+    most: u32,
 }
 
 impl<W: Words + Drop> Model for Joined<W> {
-    ghost use Rattle.bb_memory_file.specs.FileNotes.{IsJoined, JoinedParty};
+    ghost use Rattle.bb_memory_file.specs.FileNotes.{AreCached, IsJoined, JoinedParty};
+    ghost use Rattle.std.specs.Prelude.{length, vec_capacity, ◌≤◌};
 
     ghost Value = { JoinedParty W };
 
-    ghost view = { λ p. record { words = p.words; notes = p.notes.items } };
+    ghost view = { λ p. record {
+      words = p.words;
+      notes = p.notes.items;
+      hint = p.hint;
+      cached = p.cached.items;
+      most = p.most;
+    } };
 
-    ghost invariant = { λ p. IsJoined (W.log p.words) p.notes.items };
+    ghost invariant = { λ p. IsJoined (W.log p.words) p.notes.items
+        × AreCached p.notes.items p.cached.items
+        × (length p.cached.items ≤ p.most) × (p.most ≤ vec_capacity p.cached) };
 }
 
 impl<W: Words + Drop> Joined<W> {
-    /// Joins as the number whose lock this process has just taken. Returns the words if the number's
-    /// life can't become greater any more: then the process keeps the lock, so that nobody joins as
-    /// this number.
+    /// Joins as the number whose lock this process has just taken. The party's first search begins at
+    /// this hint, and it caches no bucket. Returns the words if the number's life can't become greater any
+    /// more: then the process keeps the lock, so that nobody joins as this number.
     ///
-    /// Fails if memory runs out, and does nothing to the file then.
-    pub fn join(mut words: W, alloc: Global) -> Result<Result<Joined<W>, W>, AllocError>
+    /// Fails if memory runs out. Then the number's life is counted, the words are given up, and nothing
+    /// else is done to the file: the caller frees the lock right after.
+    pub fn join(
+        mut words: W,
+        alloc: Global,
+        hint: Hint,
+    ) -> Result<Result<Joined<W>, W>, AllocError>
         requires { (W.log words).events ≡ [] }
-        ensures { IfOk result (λ joined. Joins W.log words joined) }
+        ensures joined { IfOk result (λ joined. Joins W.log words hint joined) }
+        ensures failed { IfErr result (λ _. JoinsNot W.unlocked (W.log words)) }
     {
-        let notes = Vec::from_elem(alloc, Note::Unheld, words.buckets() as usize)?;
-        if !calls::join(&mut words) {
+        let Some(_) = calls::count_lock(&mut words) else {
             return Ok(Err(words));
-        }
-        Ok(Ok(Joined { words, notes }))
+        };
+        let Ok(notes) = notes_of(alloc, words.buckets()) else {
+            words.unlock();
+            return Err(AllocError);
+        };
+        calls::join(&mut words);
+        let cached = Vec::new(alloc);
+        Ok(Ok(Joined {
+            words,
+            notes,
+            hint,
+            cached,
+            most: 0,
+        }))
+    }
+
+    /// Returns the party's number.
+    #[inline(always)]
+    pub fn number(&self) -> u32
+        ensures { result ≡ (W.log self.now.words).party }
+    {
+        self.words.party()
+    }
+
+    /// Returns how many buckets the file has.
+    #[inline(always)]
+    pub fn buckets(&self) -> u32
+        ensures value { result ≡ (W.log self.now.words).scene.buckets }
+        ensures noted { length self.now.notes ≡ result }
+    {
+        self.words.buckets()
     }
 
     /// Returns how many slots the file has.
+    #[inline(always)]
     pub fn slots(&self) -> u32
         ensures { result ≡ (W.log self.now.words).scene.slots }
     {
         self.words.slots()
     }
 
-    /// Takes a free bucket, if there is one where it looks: at each bucket, first from `hint` on, and
-    /// then before it.
-    pub fn allocate(&mut self, hint: u32) -> Option<u32>
-        ensures { Allocates W.log self.old hint result self.new }
+    /// Returns how many buckets the party caches.
+    pub fn number_of_cached(&self) -> u32
+        ensures value { result ≡ length self.now.cached }
+        ensures within { result ≤ self.now.most }
+        ensures cached { AreCached self.now.notes self.now.cached }
     {
-        let Some(bucket) = calls::allocate(&mut self.words, hint) else {
+        self.cached.len() as u32
+    }
+
+    /// Returns how many buckets the party has in use: those that it has allocated, attached or taken with
+    /// a message, and has not given away since. It doesn't count those that it caches.
+    pub fn held(&self) -> u32
+        ensures { result ≡ used_in self.now.notes }
+    {
+        let mut used = 0;
+        for bucket in 0..self.words.buckets() {
+            if let Note::InUse | Note::Undone = self.notes[bucket as usize] {
+                used += 1;
+            }
+        }
+        used
+    }
+
+    /// Returns the note of a bucket, or None if the file has no such bucket.
+    #[inline(always)]
+    pub fn note(&self, bucket: u32) -> Option<Note>
+        ensures { result ≡ slice_get self.now.notes bucket }
+    {
+        self.notes.get(bucket as usize).copied()
+    }
+
+    /// Takes a bucket: the one that was cached last, or if none is cached, a free one. For that it tries
+    /// each bucket once, from the hint on and then from bucket 0 on, until one is free. Returns None if
+    /// none was free when the search came there.
+    #[inline(always)]
+    pub fn allocate(&mut self) -> Option<u32>
+        ensures { Allocates W.log self.old result self.new }
+    {
+        match self.allocate_first() {
+            Some(bucket) => Some(bucket),
+            None => self.allocate_later(),
+        }
+    }
+
+    /// Takes a bucket as `allocate` does, but tries only the first bucket of a search. If no bucket is
+    /// cached and that one isn't free, the search isn't over, and `allocate_later` goes on with it.
+    #[inline(always)]
+    pub fn allocate_first(&mut self) -> Option<u32>
+        ensures taken { IfSome result (λ bucket. Allocates W.log self.old (Some bucket) self.new) }
+        ensures missed { IfNone result (MissesFirst W.log self.old self.new) }
+    {
+        match self.cached.pop() {
+            Some(bucket) => {
+                self.notes[bucket as usize] = Note::InUse;
+                Some(bucket)
+            }
+            None => self.search_first(),
+        }
+    }
+
+    /// Goes on with a search whose first bucket `allocate_first` has not taken. The clause holds for each
+    /// party with which the taking may have begun.
+    #[inline(never)]
+    pub fn allocate_later(&mut self) -> Option<u32>
+        requires { (before : JoinedParty W) × MissesFirst W.log before self.old }
+        ensures { (before : JoinedParty W) → MissesFirst W.log before self.old
+            → Allocates W.log before result self.new }
+    {
+        let Some(bucket) = calls::allocate_later(&mut self.words, self.hint.bucket) else {
             return None;
         };
         self.notes[bucket as usize] = Note::InUse;
+        self.hint.follow_taking(bucket);
         Some(bucket)
     }
 
-    /// Gives back a bucket.
+    /// Gives back a bucket. The bucket is cached, without an operation on the words, if the party caches
+    /// fewer than it may.
     ///
     /// Fails with the first of these errors that applies, and does nothing then: `NotABucket` if the
-    /// file has no such bucket, `NotHeld` if the party doesn't hold it, and `NotDone` if the party
-    /// isn't done with its message.
+    /// file has no such bucket, `NotHeld` if the party doesn't hold it or caches it, and `NotDone` if the
+    /// party isn't done with its message.
+    #[inline(always)]
     pub fn deallocate(&mut self, bucket: u32) -> Result<(), Refusal>
         ensures { Deallocates W.log self.old bucket result self.new }
     {
         self.check(bucket)?;
-        calls::deallocate(&mut self.words, bucket);
-        self.notes[bucket as usize] = Note::Unheld;
+        if self.cached.len() < self.most as usize {
+            self.notes[bucket as usize] = Note::Cached;
+            self.cached.push_reserved(bucket);
+        } else {
+            calls::deallocate(&mut self.words, bucket);
+            self.notes[bucket as usize] = Note::Unheld;
+            self.hint.follow_return(bucket);
+        }
         Ok(())
     }
 
+    /// Gives back all cached buckets as `flush` does, and caches at most `most` from then on, or as many
+    /// as the file has if those are fewer. The list of the cached buckets takes memory. Fails if memory
+    /// runs out, and does nothing then.
+    pub fn cache(&mut self, alloc: Global, most: u32) -> Result<(), AllocError>
+        ensures { Caches W.log self.old most result self.new }
+    {
+        let buckets = self.words.buckets();
+        let most = if most < buckets { most } else { buckets };
+        let room = list_of(alloc, most)?;
+        self.flush();
+        self.cached = room;
+        self.most = most;
+        Ok(())
+    }
+
+    /// Gives back each cached bucket by a store of its flag, beginning with the bucket that was cached
+    /// last. Each of them moves the hint.
+    pub fn flush(&mut self)
+        ensures { Flushes W.log self.old self.new }
+    {
+        while self.free_last() {}
+    }
+
     /// Detaches a bucket, so that its number can go to another party by a channel outside the file, or
-    /// puts back its message. Fails as `deallocate` does, but for a message.
-    pub fn detach(&mut self, bucket: u32) -> Result<(), Refusal>
+    /// puts back its message. Returns the slot in which a message was put back. Fails as `deallocate` does,
+    /// but for a message.
+    pub fn detach(&mut self, bucket: u32) -> Result<Option<u32>, Refusal>
         ensures { Detaches W.log self.old bucket result self.new }
     {
         match self.note(bucket) {
@@ -125,7 +318,7 @@ impl<W: Words + Drop> Joined<W> {
                 self.check(bucket)?;
                 calls::detach(&mut self.words, bucket);
                 self.notes[bucket as usize] = Note::Unheld;
-                Ok(())
+                Ok(None)
             }
         }
     }
@@ -201,36 +394,68 @@ impl<W: Words + Drop> Joined<W> {
         true
     }
 
-    /// Gives back all buckets that the party holds, but for its messages, which are put back. Returns
-    /// how many these were.
+    /// Gives back all buckets that the party holds, in use or cached, but for its messages, which are put
+    /// back. Returns how many these were.
     pub fn give_all_back(&mut self) -> u32
         ensures { GivesAllBack W.log self.old result self.new }
     {
         let freed = calls::give_all_back(&mut self.words);
         self.notes.fill(Note::Unheld);
+        self.cached.clear();
         freed
     }
 
-    /// Leaves: gives back all that the party holds, as `give_all_back` does, and counts the number's
-    /// life. The caller frees the number's lock afterwards. Returns the words, and how many buckets were
+    /// Leaves: gives back all that the party holds, as `give_all_back` does, counts the number's life, and
+    /// gives up the words. The caller frees the number's lock right after. Returns how many buckets were
     /// given back.
-    pub fn leave(self) -> (W, u32)
-        ensures { (process : ℕ) → IsLeave process (W.log self.words) result.1 (W.log result.0) }
+    pub fn leave(self) -> u32
+        ensures { (after : FileLog) × W.unlocked after
+            × ((process : ℕ) → IsLeave process (W.log self.words) result after) }
     {
         let mut words = self.words;
         let freed = calls::leave(&mut words);
-        (words, freed)
+        words.unlock();
+        freed
     }
 
-    /// Puts back the message in a bucket, with which the party isn't done.
-    fn put_back(&mut self, bucket: u32) -> Result<(), Refusal>
+    /// Tries the first bucket of a search, and returns it if that took it.
+    #[inline(always)]
+    fn search_first(&mut self) -> Option<u32>
+        requires { self.old.cached ≡ [] }
+        ensures taken { IfSome result (λ bucket. Allocates W.log self.old (Some bucket) self.new) }
+        ensures missed { IfNone result (MissesFirst W.log self.old self.new) }
+    {
+        let bucket = self.hint.bucket;
+        if !calls::allocate_first(&mut self.words, bucket) {
+            return None;
+        }
+        self.notes[bucket as usize] = Note::InUse;
+        self.hint.follow_first(bucket);
+        Some(bucket)
+    }
+
+    /// Gives back the bucket that was cached last, if one is cached, and returns whether one was.
+    fn free_last(&mut self) -> bool
+        ensures { FreesLast W.log self.old result self.new }
+    {
+        let Some(bucket) = self.cached.pop() else {
+            return false;
+        };
+        calls::deallocate(&mut self.words, bucket);
+        self.notes[bucket as usize] = Note::Unheld;
+        self.hint.follow_return(bucket);
+        true
+    }
+
+    /// Puts back the message in a bucket, with which the party isn't done. Returns the slot of the message.
+    fn put_back(&mut self, bucket: u32) -> Result<Option<u32>, Refusal>
         requires { slice_get self.old.notes bucket ≡ Some Undone }
         ensures { Detaches W.log self.old bucket result self.new }
     {
         match calls::put_back(&mut self.words, bucket) {
-            Whereabouts::In { slot: _, lap: _ } => {
+            Whereabouts::In { slot, lap: _ } => {
                 self.notes[bucket as usize] = Note::Unheld;
-                Ok(())
+                Ok(Some(slot))
             }
             Whereabouts::Entered => Err(Refusal::NotDone),
             Whereabouts::Nowhere => {
@@ -240,21 +465,15 @@ impl<W: Words + Drop> Joined<W> {
         }
     }
 
-    /// Returns the note of a bucket, if there is one.
-    fn note(&self, bucket: u32) -> Option<Note>
-        ensures { result ≡ slice_get self.now.notes bucket }
-    {
-        self.notes.get(bucket as usize).copied()
-    }
-
     /// Returns whether the party holds the bucket, which is in no slot, or why not.
+    #[inline(always)]
     fn check(&self, bucket: u32) -> Result<(), Refusal>
         ensures held { IfOk result (λ _. slice_get self.now.notes bucket ≡ Some InUse) }
         ensures refused { IfErr result (λ refusal. IsRefusal (slice_get self.now.notes bucket) refusal) }
     {
         match self.note(bucket) {
             None => Err(Refusal::NotABucket),
-            Some(Note::Unheld) => Err(Refusal::NotHeld),
+            Some(Note::Unheld | Note::Cached) => Err(Refusal::NotHeld),
             Some(Note::Undone) => Err(Refusal::NotDone),
             Some(Note::InUse) => Ok(()),
         }

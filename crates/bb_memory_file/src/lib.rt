@@ -2,13 +2,12 @@
 //! each is proved to make the steps of the file machine.
 //!
 //! - `words`: the atomic operations
-//! - `calls`: the calls
-//! - `joined`: a party that has joined, with its notes of buckets
+//! - `joined`: a party that has joined, with its notes of buckets and its cache; reapers
 //! - `geometry`, `table`, `party`: the words of a file in one row, with the parties that operate on them
 //! - `laws`: what the calls and the row of words have to do with the machine
 #![tactic(auto)]
 
-pub mod calls;
+mod calls;
 mod format;
 pub mod geometry;
 pub mod joined;

@@ -1,14 +1,17 @@
-//! The words of a file in one row, and how a party begins.
-ghost use Rattle.bb_memory_file.specs.FileFormat.{IsGeometry};
+//! The words of a file in one row, how a party begins, and looks of anybody at single words.
+ghost use Rattle.bb_memory_file.specs.FileFormat.{IsGeometry, entry_at, entry_in, flag_at, flag_in, life_at, slot_at, slot_in};
 ghost use Rattle.bb_memory_file.specs.FileLog.{fresh_log};
 ghost use Rattle.bb_memory_file.specs.FileParties.{log_of, scene_of};
-ghost use Rattle.std.specs.Arc.{arc_value};
-ghost use Rattle.std.specs.Prelude.{IfOk, IfSome, length, ◌<◌, ◌≡◌};
+ghost use Rattle.bb_memory_file.specs.FileTables.{HasLoaded};
+ghost use Rattle.std.specs.Prelude.{IfOk, IfSome, length, ℕ, ◌<◌, ◌≡◌};
 
-use crate::geometry::FileGeometry;
+use crate::format;
+use crate::geometry::{FileGeometry, WORDS_FROM_SLOT_TO_SLOT};
 use crate::party::FileParty;
 use crate::recorded::RecordedWords;
+use bb_memory_file_machine::steps::{Entry, FileFlag, Slot};
 use std::alloc::{AllocError, Global};
+use std::marker::Model;
 use std::sync::Arc;
 
 /// The words of a file, which its parties share.
@@ -16,7 +19,18 @@ use std::sync::Arc;
 pub struct FileTable {
     words: Arc<RecordedWords, Global>,
     geometry: FileGeometry,
-    ghost geometry_is: { IsGeometry geometry (arc_value words).table.shared.table_id.words },
+}
+
+impl Model for FileTable {
+    ghost use Rattle.bb_memory_file.specs.FileFormat.{IsGeometry};
+    ghost use Rattle.bb_memory_file.specs.FileTables.{FileTable};
+    ghost use Rattle.std.specs.Arc.{arc_value};
+
+    ghost Value = { FileTable };
+
+    ghost view = { λ t. record { geometry = t.geometry; words = arc_value t.words } };
+
+    ghost invariant = { λ t. IsGeometry t.geometry (arc_value t.words).table.shared.table_id.words };
 }
 
 impl FileTable {
@@ -74,5 +88,48 @@ impl FileTable {
             geometry: self.geometry,
             number,
         })
+    }
+
+    /// Returns the flag of a bucket, by a load.
+    pub fn flag(&self, bucket: u32) -> FileFlag
+        requires { bucket < self.now.geometry.buckets }
+        ensures { (word : ℕ) × HasLoaded self.now (flag_at self.now.geometry bucket) word × (result ≡ flag_in word) }
+    {
+        format::flag_in(self.load(self.geometry.first_flag + bucket as usize))
+    }
+
+    /// Returns the entry of a bucket, by a load.
+    pub fn entry(&self, bucket: u32) -> Entry
+        requires { bucket < self.now.geometry.buckets }
+        ensures { (word : ℕ) × HasLoaded self.now (entry_at self.now.geometry bucket) word
+            × (result ≡ entry_in self.now.geometry.slots word) }
+    {
+        let word = self.load(self.geometry.first_entry + bucket as usize);
+        format::entry_in(self.geometry.slots, word)
+    }
+
+    /// Returns the word of a slot, by a load.
+    pub fn slot(&self, slot: u32) -> Slot
+        requires { slot < self.now.geometry.slots }
+        ensures { (word : ℕ) × HasLoaded self.now (slot_at self.now.geometry slot) word × (result ≡ slot_in word) }
+    {
+        format::slot_in(self.load(self.geometry.first_slot + WORDS_FROM_SLOT_TO_SLOT * slot as usize))
+    }
+
+    /// Returns the life of a party's number, by a load.
+    pub fn life(&self, party: u32) -> u64
+        requires { party < self.now.geometry.parties }
+        ensures { HasLoaded self.now (life_at self.now.geometry party) result }
+    {
+        self.load(self.geometry.first_life + party as usize)
+    }
+
+    /// Loads a word.
+    fn load(&self, word: usize) -> u64
+        requires { word < self.now.words.table.shared.table_id.words }
+        ensures { HasLoaded self.now word result }
+    {
+        let mut hand = self.words.hand();
+        self.words.load(&mut hand, word)
     }
 }

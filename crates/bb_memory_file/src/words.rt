@@ -1,5 +1,6 @@
 //! The single atomic operations on the words of a file, by the party whose lock this process has.
 ghost use Rattle.bb_memory_file.specs.FileLog.{EmptySlot, ExchangeFlag, ExchangeSlot, FileLog, IsKnownIn, IsLap, IsSaid, LoadEntry, LoadFlag, LoadLife, LoadSlot, MissFlag, MissSlot, NamesBucket, NamesSlot, StoreEntry, StoreFlag, StoreLife, is_held, known_of, lap_in, life_by, told};
+ghost use Rattle.bb_memory_file.specs.FileRuns.{CanUnlock};
 ghost use Rattle.std.specs.Prelude.{MatchBool, Some, true, ℕ, ◌<◌, ◌≡◌};
 
 use bb_memory_file_machine::steps::{Entry, FileFlag, Slot};
@@ -79,6 +80,9 @@ pub trait Words {
     /// The file's figures, the party's number, and what the party has done so far.
     ghost log: { Self → FileLog };
 
+    /// Words with this log were given up.
+    ghost unlocked: { FileLog → Type 0 };
+
     /// Returns the party's number.
     fn party(&self) -> u32
         ensures { result ≡ (log self.now).party };
@@ -157,4 +161,10 @@ pub trait Words {
     fn store_life(&mut self, to: u64)
         requires { (life : ℕ) × (life_by (log self.old).events ≡ Some life) × (life < to) }
         ensures { log self.new ≡ told (log self.old) (StoreLife to) };
+
+    /// Gives up the words, as the process may free the number's lock: whoever called the party frees it
+    /// right after.
+    fn unlock(self)
+        requires { CanUnlock (log self) }
+        ensures { unlocked (log self) };
 }

@@ -1,3 +1,4 @@
+pub mod PoolHints
 pub mod PoolLogs
 pub mod PoolMachine
 pub mod PoolWorld

@@ -9,9 +9,10 @@ use Rattle.bb_memory_shared_pools.proofs.SharedPoolParties.{party_seat, seated_t
 use Rattle.bb_memory_shared_pools.proofs.SharedPoolRequests.{refused, served}
 use Rattle.bb_memory_shared_pools.proofs.SharedPoolTries.{hint-append, hint_through}
 use Rattle.bb_memory_shared_pools.specs.SharedPool.{PoolParty, ServesAlone, SharedPool, TakenBucket, taken_bucket, with_entries}
-use Rattle.bb_memory_shared_pools.specs.SharedPoolNextFit.{BeginsSearch, MayTakeFrom, first_hint, hint_after, hint_in, hint_of, misses, probed, probes_before, refused_search, taking_search}
+use Rattle.bb_memory_pool_machine.specs.PoolHints.{first_hint, hint_after}
+use Rattle.bb_memory_shared_pools.specs.SharedPoolNextFit.{BeginsSearch, MayTakeFrom, hint_in, hint_of, misses, probed, probes_before, refused_search, taking_search}
 use Rattle.bb_memory_shared_pools.specs.SharedPoolRule.{AfterCall, AfterRefusal, AfterSearchWin, IsInSearch, IsPartySeat, IsSeatOfIdle, SeatView, party_in, pool_in}
-use Rattle.bb_memory_shared_pools.specs.declared.shared_pool.party.Hint.{Hint}
+use Rattle.bb_memory_pool_machine.specs.declared.hint.Hint.{Hint}
 use Rattle.bb_memory_traits.specs.PoolObject.{IsWithin}
 use Rattle.bb_memory_traits.specs.declared.allocator.AllocationError.{AllocationError}
 use Rattle.bb_memory_traits.specs.declared.allocator.AllocationError.TheVariants.{OutOfMemory}
@@ -51,7 +52,7 @@ module _ (pool : SharedPool) (table : TableId) (me : Me ℕ SeatView) (number : 
     same_hint : hint ≡ its_hint
     same_hint = is.next_fit
         ∙ ap (λ (p : PoolParty). hint_in p.allocator.scene p.number p.log) whole
-        ∙ hint-append (first_hint before.allocator.scene before.number) before.log missed
+        ∙ hint-append (first_hint before.allocator.scene.geometry.buckets before.allocator.scene.parties before.allocator.scene.geometry.bucket.size before.number) before.log missed
         ∙ sym (hint-misses before.allocator.scene.geometry.buckets before.number (hint_of before)
         (probes_before before.allocator.scene.geometry.buckets (hint_of before)) its_hint)
 

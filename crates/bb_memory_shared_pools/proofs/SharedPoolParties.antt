@@ -6,9 +6,10 @@ use Rattle.bb_memory_pool_machine.specs.PoolMachine.{PoolScene}
 use Rattle.bb_memory_seats.specs.Seats.{alone, number_of, view_log}
 use Rattle.bb_memory_shared_pools.proofs.SharedPoolTries.{hint-append, hint_through}
 use Rattle.bb_memory_shared_pools.specs.SharedPool.{IsMissFrom, IsParty, IsSharedScene, SharedPool, attach_from_entry, miss_from_entry, token_entry}
-use Rattle.bb_memory_shared_pools.specs.SharedPoolNextFit.{first_hint, hint_in}
+use Rattle.bb_memory_pool_machine.specs.PoolHints.{first_hint}
+use Rattle.bb_memory_shared_pools.specs.SharedPoolNextFit.{hint_in}
 use Rattle.bb_memory_shared_pools.specs.SharedPoolRule.{AfterCall, AfterGain, AfterMissFrom, IsPartySeat, IsSeatOfIdle, SeatView, party_in}
-use Rattle.bb_memory_shared_pools.specs.declared.shared_pool.party.Hint.{Hint}
+use Rattle.bb_memory_pool_machine.specs.declared.hint.Hint.{Hint}
 use Rattle.std.proofs.Common.{Bool, [], ap, false, inl, inr, refl, subst, sym, true, ℕ, ◌++◌, ◌<◌, ◌∙◌, ◌≡◌}
 use Rattle.std.proofs.lemmas.List.Elements.{All-nil}
 use Rattle.std.specs.Prelude.{MatchBool}
@@ -52,7 +53,7 @@ module _ (pool : SharedPool) (table : TableId) (me : Me ℕ SeatView) (number : 
       (subst IsSharedScene own_scene is.shared)
       (next_fit ∙ ap (λ (h : Hint). hint_through h added)
       (is.next_fit ∙ ap (λ (s : PoolScene). hint_in s number (view_log me.0)) own_scene)
-      ∙ sym (hint-append (first_hint pool.scene number) (view_log me.0) added))
+      ∙ sym (hint-append (first_hint pool.scene.geometry.buckets pool.scene.parties pool.scene.geometry.bucket.size number) (view_log me.0) added))
 
   -- a missed exchange by number leaves the hint
   seated_missed : (new : Me ℕ SeatView) (bucket from : ℕ) (step : PoolLog) → IsMissFrom (number_of me.0) bucket from step →

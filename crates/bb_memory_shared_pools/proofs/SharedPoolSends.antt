@@ -7,9 +7,10 @@ use Rattle.bb_memory_shared_pools.proofs.SharedPoolNextFit.{hint-misses, hint_by
 use Rattle.bb_memory_shared_pools.proofs.SharedPoolParties.{seated_then}
 use Rattle.bb_memory_shared_pools.proofs.SharedPoolRequests.{HasAsked, refused, served}
 use Rattle.bb_memory_shared_pools.specs.SharedPool.{PoolParty, SharedPool, detach_entry}
-use Rattle.bb_memory_shared_pools.specs.SharedPoolNextFit.{MissesToSend, TakesToSend, hint_after, hint_of, probed, refused_search, taking_search}
+use Rattle.bb_memory_pool_machine.specs.PoolHints.{hint_after}
+use Rattle.bb_memory_shared_pools.specs.SharedPoolNextFit.{MissesToSend, TakesToSend, hint_of, probed, refused_search, taking_search}
 use Rattle.bb_memory_shared_pools.specs.SharedPoolRule.{AfterCall, AfterRefusal, AfterSearchSending, IsPartySeat, SeatView, party_in, pool_in}
-use Rattle.bb_memory_shared_pools.specs.declared.shared_pool.party.Hint.{Hint}
+use Rattle.bb_memory_pool_machine.specs.declared.hint.Hint.{Hint}
 use Rattle.bb_memory_traits.specs.declared.allocator.AllocationError.TheVariants.{OutOfMemory}
 use Rattle.bb_memory_traits.specs.declared.layout.Layout.{Layout}
 use Rattle.std.proofs.Common.{None, Some, ap, arith, refl, subst, sym, ℕ, ◌++◌, ◌∙◌, ◌≡◌}

@@ -12,7 +12,7 @@ use Rattle.bb_memory_seats.specs.Seats.{AreSeated, HaveLogs, IsAt, Numbered, Vie
 use Rattle.bb_memory_shared_pools.specs.FlagWords.{HasToken, as_word, bucket_of, flag_in, flags_in, sender_in, words_for, words_of}
 use Rattle.bb_memory_shared_pools.specs.SharedPool.{AreAllHeldAfter, IsMissFrom, IsSharedScene, PoolParty, SharedPool, attach_entry, attach_from_entry, detach_entry, return_detached_entry, return_entry, return_from_entries, scene_at, taking_pass}
 use Rattle.bb_memory_shared_pools.specs.SharedPoolNextFit.{hint_in, miss_at, misses, probed, taking_at, taking_search}
-use Rattle.bb_memory_shared_pools.specs.declared.shared_pool.party.Hint.{Hint}
+use Rattle.bb_memory_pool_machine.specs.declared.hint.Hint.{Hint}
 use Rattle.bb_memory_traits.specs.Chunk.{IsRegion, region_at}
 use Rattle.bb_memory_traits.specs.PoolObject.{pool_geometry}
 use Rattle.bb_memory_traits.specs.declared.layout.Layout.{Layout}

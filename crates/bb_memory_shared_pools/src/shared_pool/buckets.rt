@@ -10,9 +10,10 @@ ghost use Rattle.std.specs.Prelude.{All, IfErr, IfOk, IfSome, IsFalse, IsTrue, M
 
 use super::bucket::Bucket;
 use super::flags::Flags;
-use super::party::{Hint, PoolParty};
+use super::party::PoolParty;
 use super::rule::{Scene, View};
 use atomic_table::Seat;
+use bb_memory_pool_machine::hint::Hint;
 use bb_memory_traits::allocator::{AllocationError, AllocationGrowError, AllocationShrinkError};
 use bb_memory_traits::geometry::Geometry;
 use bb_memory_traits::layout::{Chunk, Layout};
@@ -77,9 +78,7 @@ impl<const CAPPED: usize, const MOST: usize> SharedBucketPool<CAPPED, MOST> {
         for number in 0..parties {
             let seat = self.flags.split_first(&mut rest);
             let buckets = self.number_of_buckets();
-            let home = self.part_of(number);
-            let least = self.least_walk();
-            let hint = Hint::new(buckets, home, least);
+            let hint = Hint::first(buckets, parties, self.bucket_size(), number);
             all.push_reserved(PoolParty { number, seat, hint });
         }
     }

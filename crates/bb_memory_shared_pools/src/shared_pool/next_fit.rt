@@ -1,17 +1,19 @@
 //! Next fit: requests whose search begins at the party's hint.
+ghost use Rattle.bb_memory_pool_machine.specs.PoolHints.{hint_after};
 ghost use Rattle.bb_memory_pool_machine.specs.PoolLogs.{PoolLog};
 ghost use Rattle.bb_memory_pool_machine.specs.declared.steps.pool.PoolOutcome.TheVariants.{Takes};
 ghost use Rattle.bb_memory_seats.specs.Seats.{Stays, number_of, view_log};
 ghost use Rattle.bb_memory_shared_pools.specs.SharedPool.{PoolParty, ServesAlone, taken_bucket};
-ghost use Rattle.bb_memory_shared_pools.specs.SharedPoolNextFit.{BeginsSearch, MayTakeFrom, MissesToSend, TakesToSend, hint_after, hint_of, least_walk, part_of, probed, probes_before, refused_search};
+ghost use Rattle.bb_memory_shared_pools.specs.SharedPoolNextFit.{BeginsSearch, MayTakeFrom, MissesToSend, TakesToSend, hint_of, probed, probes_before, refused_search};
 ghost use Rattle.bb_memory_shared_pools.specs.SharedPoolRule.{AfterRefusal, AfterSearchSending, AfterSearchWin, IsIdleAt, IsInSearch};
 ghost use Rattle.std.specs.Prelude.{IfErr, IfNone, IfSome, IsTrue, MatchBool, MatchOption, Ok, ℕ, ◌+◌, ◌<◌, ◌^◌, ◌≡◌, ◌≤◌};
 
 use super::bucket::Bucket;
 use super::buckets::SharedBucketPool;
-use super::party::{Hint, PoolParty};
+use super::party::PoolParty;
 use super::rule::View;
 use atomic_table::Seat;
+use bb_memory_pool_machine::hint::Hint;
 use bb_memory_traits::allocator::AllocationError;
 use bb_memory_traits::layout::Layout;
 
@@ -31,30 +33,6 @@ fn probed(buckets: u32, first: u32, probe: u32) -> u32
 }
 
 impl<const CAPPED: usize, const MOST: usize> SharedBucketPool<CAPPED, MOST> {
-    /// Returns the first bucket of a party's own part of the pool. The pool is cut into one part for each party.
-    pub(super) fn part_of(&self, number: u32) -> u32
-        requires { number < self.now.scene.parties }
-        ensures { result ≡ part_of self.now.scene number }
-    {
-        let before = number as u64 * self.number_of_buckets() as u64;
-        (before / self.number_of_parties() as u64) as u32
-    }
-
-    /// Returns how many buckets a rover walks over at least before it comes home: 64, or as many as fit into 1 MiB if those are
-    /// fewer, but at least one.
-    pub(super) fn least_walk(&self) -> u32
-        ensures { result ≡ least_walk self.now.scene.geometry.bucket.size }
-    {
-        let size = self.bucket_size();
-        if size <= 16384 {
-            64
-        } else if size <= 1048576 {
-            (1048576 / size) as u32
-        } else {
-            1
-        }
-    }
-
     /// Makes the first probe of a search that begins at bucket `first`, if the pool has that bucket.
     /// Returns whether that took the bucket. The probe makes its exchange without a load before it,
     /// since the bucket at the hint is mostly free.

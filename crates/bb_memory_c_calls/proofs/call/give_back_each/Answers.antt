@@ -11,7 +11,7 @@ loop-place-preserved g c =
     let places = c.args.places.now in
     let index = c.loop-place.place-index in
     let before = c.loop-place.invariant in
-    let step = FreesAt g.M.Keeps.holds g.M.Keeps.frees in
+    let step = FreesAt g.M.Keeps.may_free g.M.Keeps.frees in
     let within : index < length places = omega (arith, c.loop-place-test.true) in
     let yes : IsTrue c.give_back.result = c.if-not-give_back.false in
     record {
@@ -25,13 +25,13 @@ loop-place-preserved g c =
 pub returns : goal.returns
 returns g c =
     let places = c.args.places.now in
-    let step = FreesAt g.M.Keeps.holds g.M.Keeps.frees in
+    let step = FreesAt g.M.Keeps.may_free g.M.Keeps.frees in
     let counted = sym c.loop-place.invariant.counted in
     let end : length places ≤ c.loop-place.returned = omega (arith, counted, c.loop-place-test.false) in
     record {
       freed = subst (λ (n : ℕ). AtEach step c.args.made.now (take n places) c.loop-place.made) counted
           c.loop-place.invariant.freed;
       at_most = omega (arith, counted, c.loop-place.auto.place-index-end);
-      stopped = subst (λ at. IfSome at (λ place. ¬ g.M.Keeps.holds c.loop-place.made place))
+      stopped = subst (λ at. IfSome at (λ place. ¬ g.M.Keeps.may_free c.loop-place.made place))
           (sym (slice_get_past places c.loop-place.returned end)) (record {});
     }

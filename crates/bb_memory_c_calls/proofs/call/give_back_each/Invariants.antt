@@ -5,5 +5,5 @@ use Rattle.std.proofs.Common.{take, ◌≡◌}
 abbrev pub invariant-loop-place : goal.invariant-loop-place
 invariant-loop-place g l = record {
   counted : l.returned ≡ l.place-index;
-  freed : AtEach (FreesAt g.M.Keeps.holds g.M.Keeps.frees) l.initial.made (take l.place-index l.places) l.made;
+  freed : AtEach (FreesAt g.M.Keeps.may_free g.M.Keeps.frees) l.initial.made (take l.place-index l.places) l.made;
 }

@@ -7,13 +7,13 @@ use Rattle.std.specs.Prelude.{slice_get}
 pub invariant_of-self : goal.invariant_of-self
 invariant_of-self g c =
     let was : slice_get c.args.self.now.notes c.args.bucket ≡ Some Unheld = cc in
-    after_attach _ _ c.self.inside.notes.items c.self.invariant c.args.bucket (rw (← c.self.view_is) at was)
+    after_attach _ _ c.self.inside.notes.items c.self.invariant.0 c.args.bucket (rw (← c.self.view_is) at was)
     c.if-is_attached.ensures
 
 pub invariant_of-self-else-is_attached : goal.invariant_of-self-else-is_attached
 invariant_of-self-else-is_attached g c =
     let was : slice_get c.args.self.now.notes c.args.bucket ≡ Some Unheld = cc in
-    after_no_attach _ _ c.self.inside.notes.items c.self.invariant c.args.bucket (rw (← c.self.view_is) at was)
+    after_no_attach _ _ c.self.inside.notes.items c.self.invariant.0 c.args.bucket (rw (← c.self.view_is) at was)
     c.if-is_attached.ensures
 
 pub returns-then-is_attached : goal.returns-then-is_attached

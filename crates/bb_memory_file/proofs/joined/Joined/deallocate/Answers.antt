@@ -4,7 +4,7 @@ use Rattle.std.proofs.Common.{refl}
 
 pub deallocate-requires-clause-clear : goal.deallocate-requires-clause-clear
 deallocate-requires-clause-clear g c =
-    in_use_clear _ c.self.inside.notes.items c.self.invariant c.args.bucket
+    in_use_clear _ c.self.inside.notes.items c.self.invariant.0 c.args.bucket
     (rw (← c.self.view_is) at c.in_ok-check.ensures.held)
 
 pub index_mut-requires : goal.index_mut-requires
@@ -14,7 +14,7 @@ index_mut-requires g c =
 
 pub invariant_of-self : goal.invariant_of-self
 invariant_of-self g c =
-    after_deallocate _ _ c.self.inside.notes.items c.self.invariant c.args.bucket
+    after_deallocate _ _ c.self.inside.notes.items c.self.invariant.0 c.args.bucket
     (rw (← c.self.view_is) at c.in_ok-check.ensures.held) c.deallocate.ensures
 
 pub returns : goal.returns

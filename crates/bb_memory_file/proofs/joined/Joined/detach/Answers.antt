@@ -1,10 +1,10 @@
 use Rattle.bb_memory_file.proofs.FileNotes.{after_detach, in_use_clear, within}
 use Rattle.bb_memory_file.proofs.joined.Joined.detach.Goals as goal
-use Rattle.std.proofs.Common.{inl, refl}
+use Rattle.std.proofs.Common.{refl}
 
 pub detach-requires-clause-clear : goal.detach-requires-clause-clear
 detach-requires-clause-clear g c =
-    in_use_clear _ c.self.inside.notes.items c.self.invariant c.args.bucket
+    in_use_clear _ c.self.inside.notes.items c.self.invariant.0 c.args.bucket
     (rw (← c.self.view_is) at c.in_ok-check-in_default.ensures.held)
 
 pub index_mut-requires : goal.index_mut-requires
@@ -14,11 +14,11 @@ index_mut-requires g c =
 
 pub invariant_of-self : goal.invariant_of-self
 invariant_of-self g c =
-    after_detach _ _ c.self.inside.notes.items c.self.invariant c.args.bucket
+    after_detach _ _ c.self.inside.notes.items c.self.invariant.0 c.args.bucket
     (rw (← c.self.view_is) at c.in_ok-check-in_default.ensures.held) c.detach.ensures
 
 pub returns-in_ok-check-in_default : goal.returns-in_ok-check-in_default
-returns-in_ok-check-in_default g c = rw (← c.self.view_is) (inl (
+returns-in_ok-check-in_default g c = rw (← c.self.view_is) (
   (rw (← c.self.view_is) at c.in_ok-check-in_default.ensures.held),
   (c.detach.ensures, refl),
-))
+)

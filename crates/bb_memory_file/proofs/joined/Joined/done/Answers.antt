@@ -8,22 +8,22 @@ use Rattle.std.specs.Prelude.{slice_get}
 
 pub invariant_of-self : goal.invariant_of-self
 invariant_of-self g c =
-    after_look _ _ c.self.inside.notes.items c.args.slot _ c.self.invariant c.load_slot.ensures.told
+    after_look _ _ c.self.inside.notes.items c.args.slot _ c.self.invariant.0 c.load_slot.ensures.told
 
 pub invariant_of-self-2 : goal.invariant_of-self-2
 invariant_of-self-2 g c =
-    after_look _ _ c.self.inside.notes.items c.args.slot _ c.self.invariant c.load_slot.ensures.told
+    after_look _ _ c.self.inside.notes.items c.args.slot _ c.self.invariant.0 c.load_slot.ensures.told
 
 pub done-requires-clause-below : goal.done-requires-clause-below
 done-requires-clause-below g c =
     let was : slice_get c.self.inside.notes.items c.in-Message.bucket ≡ Some Undone = cc in
     below_by _ c.self.inside.notes.items
-    (after_look _ _ c.self.inside.notes.items c.args.slot _ c.self.invariant c.load_slot.ensures.told) c.in-Message.bucket Undone was
+    (after_look _ _ c.self.inside.notes.items c.args.slot _ c.self.invariant.0 c.load_slot.ensures.told) c.in-Message.bucket Undone was
 
 pub done-requires-clause-its : goal.done-requires-clause-its
 done-requires-clause-its g c =
     let was : slice_get c.self.inside.notes.items c.in-Message.bucket ≡ Some Undone = cc in
-    undone_in _ c.self.inside.notes.items c.self.invariant c.in-Message.bucket _ c.args.slot c.in-Message.lap was
+    undone_in _ c.self.inside.notes.items c.self.invariant.0 c.in-Message.bucket _ c.args.slot c.in-Message.lap was
     c.in-Message.ensures.told
 
 pub index_mut-requires : goal.index_mut-requires
@@ -35,12 +35,12 @@ pub invariant_of-self-3 : goal.invariant_of-self-3
 invariant_of-self-3 g c =
     let was : slice_get c.self.inside.notes.items c.in-Message.bucket ≡ Some Undone = cc in
     after_done _ _ c.self.inside.notes.items
-    (after_look _ _ c.self.inside.notes.items c.args.slot _ c.self.invariant c.load_slot.ensures.told) c.in-Message.bucket
+    (after_look _ _ c.self.inside.notes.items c.args.slot _ c.self.invariant.0 c.load_slot.ensures.told) c.in-Message.bucket
     c.args.slot c.in-Message.lap was c.done.ensures
 
 pub invariant_of-self-in_default-note : goal.invariant_of-self-in_default-note
 invariant_of-self-in_default-note g c =
-    after_look _ _ c.self.inside.notes.items c.args.slot _ c.self.invariant c.load_slot.ensures.told
+    after_look _ _ c.self.inside.notes.items c.args.slot _ c.self.invariant.0 c.load_slot.ensures.told
 
 pub returns : goal.returns
 returns g c =

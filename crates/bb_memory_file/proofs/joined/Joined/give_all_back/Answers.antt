@@ -8,4 +8,4 @@ pub invariant_of-self : goal.invariant_of-self
 invariant_of-self g c =
     let same : c.fill.new.self.items ≡ replicate (length c.self.inside.notes.items) Unheld = search rules in
     subst (λ (notes : List Note). IsJoined (g.W.Words.log c.give_all_back-freed.new.words) notes) (sym same)
-    (after_all _ _ c.self.inside.notes.items _ c.self.invariant c.give_all_back-freed.ensures)
+    (after_all _ _ c.self.inside.notes.items _ c.self.invariant.0 c.give_all_back-freed.ensures)

@@ -4,7 +4,7 @@ use Rattle.std.proofs.Common.{refl}
 
 pub post-is_posted-requires-clause-clear : goal.post-is_posted-requires-clause-clear
 post-is_posted-requires-clause-clear g c =
-    in_use_clear _ c.self.inside.notes.items c.self.invariant c.args.bucket
+    in_use_clear _ c.self.inside.notes.items c.self.invariant.0 c.args.bucket
     (rw (← c.self.view_is) at c.in_ok-check.ensures.held)
 
 pub index_mut-requires : goal.index_mut-requires
@@ -14,12 +14,12 @@ index_mut-requires g c =
 
 pub invariant_of-self : goal.invariant_of-self
 invariant_of-self g c =
-    after_post _ _ c.self.inside.notes.items c.self.invariant c.args.bucket c.args.slot c.args.length
+    after_post _ _ c.self.inside.notes.items c.self.invariant.0 c.args.bucket c.args.slot c.args.length
     (rw (← c.self.view_is) at c.in_ok-check.ensures.held) c.if-is_posted.ensures
 
 pub invariant_of-self-else-is_posted : goal.invariant_of-self-else-is_posted
 invariant_of-self-else-is_posted g c =
-    after_no_post _ _ c.self.inside.notes.items c.self.invariant c.args.bucket c.args.slot c.args.length
+    after_no_post _ _ c.self.inside.notes.items c.self.invariant.0 c.args.bucket c.args.slot c.args.length
     (rw (← c.self.view_is) at c.in_ok-check.ensures.held) c.if-is_posted.ensures
 
 pub returns-then-is_posted : goal.returns-then-is_posted

@@ -4,7 +4,7 @@ use Rattle.std.proofs.Common.{inl, inr, refl}
 
 pub put_back-requires-clause-held : goal.put_back-requires-clause-held
 put_back-requires-clause-held g c =
-    undone_held _ c.self.inside.notes.items c.self.invariant c.args.bucket (rw (← c.self.view_is) at c.requires)
+    undone_held _ c.self.inside.notes.items c.self.invariant.0 c.args.bucket (rw (← c.self.view_is) at c.requires)
 
 pub index_mut-requires : goal.index_mut-requires
 index_mut-requires g c =
@@ -12,12 +12,12 @@ index_mut-requires g c =
 
 pub invariant_of-self : goal.invariant_of-self
 invariant_of-self g c =
-    after_put_back _ _ c.self.inside.notes.items c.self.invariant c.args.bucket c.in-In.slot c.in-In.lap
+    after_put_back _ _ c.self.inside.notes.items c.self.invariant.0 c.args.bucket c.in-In.slot c.in-In.lap
     (rw (← c.self.view_is) at c.requires) c.in-In.ensures
 
 pub invariant_of-self-in-Entered : goal.invariant_of-self-in-Entered
 invariant_of-self-in-Entered g c =
-    after_entered _ _ c.self.inside.notes.items c.self.invariant c.args.bucket (rw (← c.self.view_is) at c.requires)
+    after_entered _ _ c.self.inside.notes.items c.self.invariant.0 c.args.bucket (rw (← c.self.view_is) at c.requires)
     c.in-Entered.ensures
 
 pub index_mut-requires-in-Nowhere : goal.index_mut-requires-in-Nowhere
@@ -26,14 +26,14 @@ index_mut-requires-in-Nowhere g c =
 
 pub invariant_of-self-in-Nowhere : goal.invariant_of-self-in-Nowhere
 invariant_of-self-in-Nowhere g c =
-    after_nowhere _ _ c.self.inside.notes.items c.self.invariant c.args.bucket (rw (← c.self.view_is) at c.requires)
+    after_nowhere _ _ c.self.inside.notes.items c.self.invariant.0 c.args.bucket (rw (← c.self.view_is) at c.requires)
     c.in-Nowhere.ensures
 
 pub returns-in-In : goal.returns-in-In
-returns-in-In g c = rw (← c.self.view_is) (inr (
+returns-in-In g c = rw (← c.self.view_is) (
   (rw (← c.self.view_is) at c.requires),
-  (c.in-In.slot, c.in-In.lap, (c.in-In.ensures, refl)),
-))
+  (c.in-In.lap, (c.in-In.ensures, refl)),
+)
 
 pub returns-in-Entered : goal.returns-in-Entered
 returns-in-Entered g c =

@@ -4,7 +4,7 @@ use Rattle.bb_memory_seats.specs.Seats.{alone}
 use Rattle.bb_memory_shared_pools.proofs.SharedPoolParties.{no_step, party_seat}
 use Rattle.bb_memory_shared_pools.proofs.shared_pool.buckets.SharedBucketPool.seat_parties.Goals as goal
 use Rattle.bb_memory_shared_pools.specs.SharedPool.{IsSharedScene, PoolParty, SharedPool, fresh_party}
-use Rattle.bb_memory_shared_pools.specs.SharedPoolNextFit.{hint_at}
+use Rattle.bb_memory_pool_machine.specs.PoolHints.{first_hint}
 use Rattle.bb_memory_shared_pools.specs.SharedPoolRule.{party_in}
 use Rattle.std.proofs.Common.{[], ap, arith, rules, subst, sym, ◌∙◌, ◌≡◌}
 use Rattle.std.proofs.lemmas.Grind.{common_steps}
@@ -19,8 +19,8 @@ invariant_of-push_reserved g c =
     c.split_first-seat.result.me (no_step scene number c.split_first-seat.result.me seated)
     (let made = c.requires.parties in omega arith)
     (subst (λ (p : SharedPool). IsSharedScene p.scene) c.self.view_is c.self.invariant.shared)
-    (c.new-hint.ensures ∙ (λ i. hint_at (c.number_of_buckets-buckets.ensures.value i) (c.part_of-home.ensures i)
-    (c.least_walk-least.ensures i)))
+    (c.first-hint.ensures ∙ (λ i. first_hint (c.number_of_buckets-buckets.ensures.value i) (c.requires.parties i)
+    (c.bucket_size.ensures.value i) number))
 
 pub loop-number-preserved : goal.loop-number-preserved
 loop-number-preserved g c =

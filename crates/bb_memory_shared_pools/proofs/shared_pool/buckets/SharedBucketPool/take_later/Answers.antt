@@ -4,7 +4,7 @@ use Rattle.bb_memory_shared_pools.proofs.shared_pool.buckets.SharedBucketPool.ta
 use Rattle.bb_memory_shared_pools.specs.SharedPool.{PoolParty, taken_bucket}
 use Rattle.bb_memory_shared_pools.specs.SharedPoolNextFit.{BeginsSearch}
 use Rattle.bb_memory_shared_pools.specs.SharedPoolRule.{IsPartySeat}
-use Rattle.bb_memory_shared_pools.specs.declared.shared_pool.party.Hint.{Hint}
+use Rattle.bb_memory_pool_machine.specs.declared.hint.Hint.{Hint}
 use Rattle.bb_memory_traits.specs.declared.allocator.AllocationError.TheVariants.{OutOfMemory}
 use Rattle.std.proofs.Common.{ap, subst, sym, ◌∙◌}
 use Rattle.std.specs.Prelude.{Err, Ok}

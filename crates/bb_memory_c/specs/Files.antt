@@ -1,0 +1,358 @@
+-- Pools in files, in handles: what C gets from the calls of a party of a file, and of the words that the parties share.
+use Rattle.bb_memory_c.specs.SharedPools.{shared_pool_info}
+use Rattle.bb_memory_c.specs.declared.file_answer.DetachedNumber.{DetachedNumber}
+use Rattle.bb_memory_c.specs.declared.file_answer.Message.{Message}
+use Rattle.bb_memory_c.specs.declared.file_answer.ShownEntry.{ShownEntry}
+use Rattle.bb_memory_c.specs.declared.file_answer.ShownFlag.{ShownFlag}
+use Rattle.bb_memory_c.specs.declared.file_answer.ShownSlot.{ShownSlot}
+use Rattle.bb_memory_c_calls.specs.Answers.{figure_of, no_figure, refused}
+use Rattle.bb_memory_c_calls.specs.Calls.{Answers, Cutting, HasRoom, IsThere, MayBeShared}
+use Rattle.bb_memory_c_calls.specs.declared.answer.Answer.{Answer}
+use Rattle.bb_memory_c_calls.specs.declared.answer.Figure.{Figure}
+use Rattle.bb_memory_c_calls.specs.declared.answer.SharedPoolInfo.{SharedPoolInfo}
+use Rattle.bb_memory_c_calls.specs.declared.code.TheConstants.{ALREADY_INITIALIZED as already_initialized, DETACHED_EMPTY as detached_empty, DETACHED_FULL as detached_full, FILE_NOT_DONE as file_not_done, INVALID_ARGUMENT as invalid_argument, MALLOC_REFUSED as malloc_refused, NOT_A_BUCKET as not_a_bucket, NOT_HELD as not_held, NO_PARTY as no_party, OK as ok, SIZE_TOO_LARGE as size_too_large, UNINITIALIZED as uninitialized}
+use Rattle.bb_memory_file.specs.FileCalls.{IsJoin, IsLeave}
+use Rattle.bb_memory_file.specs.FileFormat.{entry_at, entry_in, flag_at, flag_in, geometry_of, life_at, slot_at, slot_in, words_of}
+use Rattle.bb_memory_file.specs.FileLog.{FileLog, fresh_log}
+use Rattle.bb_memory_file.specs.FileNotes.{Allocates, Attaches, Caches, Detaches, Flushes, GivesAllBack, IsDoneWith, JoinedParty, Joins, JoinsNot, MissesFirst, Posts, Reaps, Returns, Takes, used_in}
+use Rattle.bb_memory_file.specs.FileParties.{IsUnlocked, log_of, scene_of}
+use Rattle.bb_memory_file.specs.FileTables.{FileTable, HasLoaded}
+use Rattle.bb_memory_file.specs.declared.joined.Note.{Note}
+use Rattle.bb_memory_file.specs.declared.joined.Note.TheVariants.{InUse, Undone}
+use Rattle.bb_memory_file.specs.declared.joined.Refusal.{Refusal}
+use Rattle.bb_memory_file.specs.declared.joined.Refusal.TheVariants.{NotABucket, NotDone, NotHeld}
+use Rattle.bb_memory_file.specs.declared.joined.Taken.{Taken}
+use Rattle.bb_memory_file.specs.declared.joined.Taken.TheVariants as taken
+use Rattle.bb_memory_file.specs.declared.party.FileParty.{FileParty}
+use Rattle.bb_memory_file_machine.specs.declared.steps.file.Entry.{Entry}
+use Rattle.bb_memory_file_machine.specs.declared.steps.file.Entry.TheVariants.{In, Nowhere}
+use Rattle.bb_memory_file_machine.specs.declared.steps.file.FileFlag.{FileFlag}
+use Rattle.bb_memory_file_machine.specs.declared.steps.file.FileFlag.TheVariants.{DetachedBy, Free, HeldBy, SentTo}
+use Rattle.bb_memory_file_machine.specs.declared.steps.file.Slot.{Slot}
+use Rattle.bb_memory_file_machine.specs.declared.steps.file.Slot.TheVariants as slots
+use Rattle.bb_memory_pool_machine.specs.PoolHints.{first_hint}
+use Rattle.bb_memory_traits.specs.Chunk.{Chunk, Region}
+use Rattle.bb_memory_traits.specs.Geometry.{MayBeCut}
+use Rattle.bb_memory_traits.specs.PoolObject.{HasBucket, IsWithin, PoolGeometry, bucket_place, chunk_in, pool_geometry}
+use Rattle.bb_memory_traits.specs.declared.allocator.AllocationError.{AllocationError}
+use Rattle.bb_memory_traits.specs.declared.allocator.AllocationError.TheVariants.{AlignmentFailure, OutOfMemory, SizeTooLarge}
+use Rattle.bb_memory_traits.specs.declared.layout.Layout.{Layout}
+use Rattle.std.specs.Prelude.{Bool, Err, IfSome, None, Ok, Option, Result, Some, false, if◌then◌else◌, min, slice_get, true, ℕ, ◌-◌, ◌<◌, ◌^◌, ◌≡◌, ◌≢◌, ◌≤◌, ◌⊎◌}
+
+-- VALUES
+
+-- a party of a file, and where this process has the buckets
+pub record JoinedFile : Type 0 where
+  pub party : JoinedParty FileParty
+  pub places : PoolGeometry
+
+-- the words of a file, and where this process has the buckets
+pub record OpenFile : Type 0 where
+  pub table : FileTable
+  pub places : PoolGeometry
+
+-- this process has as many buckets as the file
+abbrev pub IsPlaced : JoinedParty FileParty → PoolGeometry → Type 0
+IsPlaced party places = places.buckets ≡ (log_of party.words).scene.buckets
+
+-- the region has room for this many buckets of this layout
+abbrev pub HasRoomFor : Region → ℕ → Layout → Type 0
+HasRoomFor region buckets bucket = (i : ℕ) → i < buckets → HasBucket region bucket i
+
+-- the region may be cut into buckets of this layout, and has room for those of the file
+pub record IsOpen (table : FileTable) (region : Region) (bucket : Layout) : Type 0 where
+  pub may : MayBeCut region bucket
+  pub room : HasRoomFor region table.geometry.buckets bucket
+
+-- THE WORDS OF A FILE
+
+-- a file may have this many buckets and slots
+abbrev pub MayHave : ℕ → ℕ → Type 0
+MayHave buckets slots = (buckets < 2 ^ 32 - 1) × (slots < 2 ^ 32 - 1)
+
+-- C gets how many words the row of a file has, or BB_INVALID_ARGUMENT if no file has these numbers.
+pub record TellsWords (buckets slots parties : ℕ) (told : Figure) : Type 0 where
+  pub there : MayHave buckets slots → told ≡ figure_of (words_of (geometry_of buckets slots parties))
+  pub none : ¬ MayHave buckets slots → told ≡ no_figure invalid_argument
+
+-- the words of a file with these numbers, whose buckets are in the region
+pub record IsFileOver (region : Region) (buckets slots parties : ℕ) (bucket : Layout) (file : OpenFile) : Type 0 where
+  pub geometry : file.table.geometry ≡ geometry_of buckets slots parties
+  pub places : file.places ≡ pool_geometry region bucket buckets
+
+-- how the words of a file with these numbers, whose buckets are in the region, describe their
+-- initialization
+abbrev pub cutting_file : Region → ℕ → ℕ → ℕ → Cutting OpenFile
+cutting_file region buckets slots parties = record {
+  may = λ bucket. MayBeShared region parties bucket × MayHave buckets slots;
+  room = λ bucket. HasRoom region bucket × HasRoomFor region buckets bucket;
+  fresh = λ bucket. IsThere (IsFileOver region buckets slots parties bucket);
+}
+
+-- JOINING AND LEAVING
+
+-- the log of a party of the file whose number's lock was just taken
+abbrev pub fresh_of : OpenFile → ℕ → FileLog
+fresh_of file number = fresh_log (scene_of file.table.geometry) number
+
+-- by these steps a party with this log leaves, frees this many buckets, and its words are given up
+abbrev pub LeavesFrom : FileLog → ℕ → Type 0
+LeavesFrom log freed = (after : FileLog) × IsUnlocked after × ((process : ℕ) → IsLeave process log freed after)
+
+-- The party has just joined as this number. Its first search begins in its own part of the buckets.
+abbrev pub JoinsAt : OpenFile → ℕ → JoinedFile → Type 0
+JoinsAt file number joined =
+    (words : FileParty) × (log_of words ≡ fresh_of file number)
+    × Joins log_of words (first_hint file.table.geometry.buckets file.table.geometry.parties file.places.bucket.size number)
+    (Ok joined.party)
+    × (joined.places ≡ file.places)
+
+-- Memory ran out, and the words of the number were given up: before the number was settled, or after a
+-- party had joined and left again.
+abbrev pub GivesUp : FileLog → Type 0
+GivesUp log = JoinsNot IsUnlocked log ⊎ ((joined : FileLog) × ((process : ℕ) → IsJoin process log true joined)
+    × ((freed : ℕ) × LeavesFrom joined freed))
+
+-- A party joins as this number, whose lock the caller has just taken. Its handle holds `party` then. If
+-- there is no such number, C gets BB_NO_PARTY.
+pub record TellsJoin (file : OpenFile) (party : Option JoinedFile) (number code : ℕ) : Type 0 where
+  pub joins : code ≡ ok → IsThere (JoinsAt file number) party
+  pub none_such : file.table.geometry.parties ≤ number → code ≡ no_party
+  pub no_memory : code ≡ malloc_refused → GivesUp (fresh_of file number)
+  pub no_other : code ≢ ok → code ≢ no_party → code ≡ malloc_refused
+  pub empty : code ≢ ok → party ≡ None
+
+-- a party joins; its handle has to be empty
+pub record AnswersJoin (old new : Option OpenFile) (old_party new_party : Option JoinedFile) (number code : ℕ)
+    : Type 0 where
+  pub held_one : old_party ≢ None → (code ≡ already_initialized) × (new ≡ old) × (new_party ≡ old_party)
+  pub joins : old_party ≡ None → Answers old new ((code ≡ uninitialized) × (new_party ≡ None))
+      (λ file after. TellsJoin file new_party number code × (after ≡ file))
+
+-- a party leaves, and C gets how many buckets were freed; its handle is empty then
+pub record AnswersLeave (old new : Option JoinedFile) (told : Figure) : Type 0 where
+  pub left : IfSome old (λ file. (told ≡ figure_of told.number) × LeavesFrom (log_of file.party.words) told.number)
+  pub was_empty : old ≡ None → told ≡ no_figure uninitialized
+  pub empty : new ≡ None
+
+-- A number is settled, whose lock the caller has just taken, and C gets how many buckets were freed. If
+-- there is no such number, C gets BB_NO_PARTY.
+pub record TellsReap (file : OpenFile) (number : ℕ) (dead left : Bool) (told : Figure) : Type 0 where
+  pub reaped : told.code ≡ ok → (told ≡ figure_of told.number) × ((words : FileParty)
+      × (log_of words ≡ fresh_of file number) × Reaps log_of IsUnlocked words dead left (Ok told.number))
+  pub none_such : file.table.geometry.parties ≤ number → told ≡ no_figure no_party
+  pub no_other : told.code ≢ ok → told ≡ no_figure no_party
+
+-- LOOKS
+
+-- a look at the words of a file, which don't change
+abbrev pub AnswersLook : Option OpenFile → Option OpenFile → Type 0 → (OpenFile → Type 0) → Type 0
+AnswersLook old new refused_so tells = Answers old new refused_so (λ file after. tells file × (after ≡ file))
+
+-- a bucket's flag in the form that C gets it
+abbrev pub shown_flag : FileFlag → ShownFlag
+shown_flag Free = record { state = 0; by = 0; lap = 0 }
+shown_flag (HeldBy party) = record { state = 1; by = party; lap = 0 }
+shown_flag (DetachedBy party) = record { state = 2; by = party; lap = 0 }
+shown_flag (SentTo slot lap) = record { state = 3; by = slot; lap = lap }
+
+-- a slot's word in the form that C gets it
+abbrev pub shown_slot : Slot → ShownSlot
+shown_slot (slots.Empty lap) = record { is_full = false; lap = lap; bucket = 0 }
+shown_slot (slots.Message lap bucket) = record { is_full = true; lap = lap; bucket = bucket }
+
+-- a bucket's entry in the form that C gets it
+abbrev pub shown_entry : Entry → ShownEntry
+shown_entry Nowhere = record { is_in_slot = false; slot = 0; length = 0 }
+shown_entry (In slot length) = record { is_in_slot = true; slot = slot; length = length }
+
+-- C gets the flag of the bucket of this number, as a load found it, or that it is free if there is none.
+pub record TellsFlag (file : OpenFile) (bucket : ℕ) (told : ShownFlag) : Type 0 where
+  pub there : bucket < file.table.geometry.buckets → (word : ℕ)
+      × HasLoaded file.table (flag_at file.table.geometry bucket) word × (told ≡ shown_flag (flag_in word))
+  pub past : file.table.geometry.buckets ≤ bucket → told ≡ shown_flag Free
+
+-- C gets the word of this slot, as a load found it, or that it is empty if there is none.
+pub record TellsSlot (file : OpenFile) (slot : ℕ) (told : ShownSlot) : Type 0 where
+  pub there : slot < file.table.geometry.slots → (word : ℕ)
+      × HasLoaded file.table (slot_at file.table.geometry slot) word × (told ≡ shown_slot (slot_in word))
+  pub past : file.table.geometry.slots ≤ slot → told ≡ shown_slot (slots.Empty 0)
+
+-- C gets the entry of the bucket of this number, as a load found it, or that it is in no slot if there
+-- is none.
+pub record TellsEntry (file : OpenFile) (bucket : ℕ) (told : ShownEntry) : Type 0 where
+  pub there : bucket < file.table.geometry.buckets → (word : ℕ)
+      × HasLoaded file.table (entry_at file.table.geometry bucket) word
+      × (told ≡ shown_entry (entry_in file.table.geometry.slots word))
+  pub past : file.table.geometry.buckets ≤ bucket → told ≡ shown_entry Nowhere
+
+-- C gets the life of the party of this number, as a load found it, or 0 if there is none.
+pub record TellsLife (file : OpenFile) (party told : ℕ) : Type 0 where
+  pub there : party < file.table.geometry.parties → HasLoaded file.table (life_at file.table.geometry party) told
+  pub past : file.table.geometry.parties ≤ party → told ≡ 0
+
+-- BUCKETS OF A PARTY
+
+-- how many slots the party's file has
+abbrev pub slots_of : JoinedFile → ℕ
+slots_of file = (log_of file.party.words).scene.slots
+
+-- the number of the party
+abbrev pub number_of : JoinedFile → ℕ
+number_of file = (log_of file.party.words).party
+
+-- the party becomes another one, as `call` says
+abbrev pub Becomes : (JoinedParty FileParty → JoinedParty FileParty → Type 0) → JoinedFile → JoinedFile → Type 0
+Becomes call file after = call file.party after.party × (after ≡ record file { party = after.party })
+
+-- the bucket of this number begins at this place, and this is the party's note of it
+abbrev pub IsNoted : JoinedFile → ℕ → ℕ → Note → Type 0
+IsNoted file place number note = (slice_get file.party.notes number ≡ Some note) × (place ≡ bucket_place file.places number)
+
+-- a bucket begins at this place, and this is the party's note of it
+abbrev pub IsNotedAt : JoinedFile → ℕ → Note → Type 0
+IsNotedAt file place note = (number : ℕ) × IsNoted file place number note
+
+-- the party has a bucket in use that begins at this place: one in no slot, or one with whose message it
+-- isn't done
+abbrev pub HoldsPlace : JoinedFile → ℕ → Type 0
+HoldsPlace file place = IsNotedAt file place InUse ⊎ IsNotedAt file place Undone
+
+-- the party may free the bucket at this place: the party has it in use, and it is in no slot
+abbrev pub MayFree : JoinedFile → ℕ → Type 0
+MayFree file place = IsNotedAt file place InUse
+
+-- The answer to a request: the chunk in the bucket that the party took, or the reason why it took none.
+abbrev pub GivesChunk : JoinedFile → Layout → Result Chunk AllocationError → JoinedFile → Type 0
+GivesChunk file layout (Ok chunk) after = IsWithin file.places.bucket layout
+    × ((number : ℕ) × (number < file.places.buckets) × (chunk ≡ chunk_in file.places number layout)
+    × Becomes (λ old new. Allocates log_of old (Some number) new) file after)
+GivesChunk file layout (Err OutOfMemory) after =
+    IsWithin file.places.bucket layout × Becomes (λ old new. Allocates log_of old None new) file after
+GivesChunk file layout (Err SizeTooLarge) after = (file.places.bucket.size < layout.size) × (after ≡ file)
+GivesChunk file layout (Err AlignmentFailure) after =
+    (layout.size ≤ file.places.bucket.size) × (file.places.bucket.align < layout.align) × (after ≡ file)
+GivesChunk file layout (Err error) after = ⊥
+
+-- the first bucket that the taking of a whole bucket tried wasn't free, and the taking isn't over
+abbrev pub MissesFirstAt : JoinedFile → JoinedFile → Type 0
+MissesFirstAt = Becomes (MissesFirst log_of)
+
+-- the party gave back the bucket at this place
+abbrev pub GivesBack : JoinedFile → ℕ → JoinedFile → Type 0
+GivesBack file place after =
+    (number : ℕ) × IsNoted file place number InUse × Becomes (λ old new. Returns log_of old number new) file after
+
+-- A party is to free the bucket at a place. Each code is returned for exactly its cause.
+pub record TellsDeallocate (file : JoinedFile) (place code : ℕ) (after : JoinedFile) : Type 0 where
+  pub not_held : ¬ HoldsPlace file place → code ≡ not_held
+  pub not_done : IsNotedAt file place Undone → code ≡ file_not_done
+  pub freed : MayFree file place → (code ≡ ok) × GivesBack file place after
+  pub unchanged : code ≢ ok → after ≡ file
+
+-- the party gives back all that it holds, and C gets how many buckets were freed
+abbrev pub TellsFreed : JoinedFile → Figure → JoinedFile → Type 0
+TellsFreed file told after =
+    (told ≡ figure_of told.number) × Becomes (λ old new. GivesAllBack log_of old told.number new) file after
+
+-- The party gives back what it caches, and caches at most `most` buckets from then on, or as many as the
+-- file has if there are fewer. If memory for their list runs out, nothing changes.
+pub record TellsCache (file : JoinedFile) (most code : ℕ) (after : JoinedFile) : Type 0 where
+  pub done : code ≡ ok → Becomes (λ old new. Caches {E = ⊥} log_of old most (Ok tt) new) file after
+  pub else_memory : code ≢ ok → (code ≡ malloc_refused) × (after ≡ file)
+
+-- the party gives back what it caches
+abbrev pub TellsFlush : JoinedFile → ℕ → JoinedFile → Type 0
+TellsFlush file code after = (code ≡ ok) × Becomes (Flushes log_of) file after
+
+-- C gets the figures of the file's pool: the held buckets are those that the party has in use. The party
+-- doesn't change.
+abbrev pub ShowsParty : JoinedFile → SharedPoolInfo → JoinedFile → Type 0
+ShowsParty file info after = (info ≡ shared_pool_info file.places (used_in file.party.notes)) × (after ≡ file)
+
+-- the code of the refusal of a bucket
+abbrev pub code_of : Refusal → ℕ
+code_of NotABucket = not_a_bucket
+code_of NotHeld = not_held
+code_of NotDone = file_not_done
+
+-- MESSAGES
+
+-- a message of this length fits into a bucket, and into the bucket's entry
+abbrev pub Fits : JoinedFile → ℕ → Type 0
+Fits file len = (len ≤ file.places.bucket.size) × (len < 2 ^ 32)
+
+-- the party may post the bucket at this place in this slot
+abbrev pub MayPost : JoinedFile → ℕ → ℕ → Type 0
+MayPost file slot place = (slot < slots_of file) × MayFree file place
+
+-- A party is to post the bucket at a place, with a message of `len` bytes, in a slot. If several errors
+-- apply, the first one in this list is returned. If the slot is full, only the party's log changes.
+pub record TellsPost (file : JoinedFile) (slot place len code : ℕ) (after : JoinedFile) : Type 0 where
+  pub no_slot : slots_of file ≤ slot → (code ≡ invalid_argument) × (after ≡ file)
+  pub not_held : slot < slots_of file → ¬ HoldsPlace file place → (code ≡ not_held) × (after ≡ file)
+  pub not_done : slot < slots_of file → IsNotedAt file place Undone → (code ≡ file_not_done) × (after ≡ file)
+  pub too_large : MayPost file slot place → ¬ Fits file len → (code ≡ size_too_large) × (after ≡ file)
+  pub tried : MayPost file slot place → Fits file len → (number : ℕ) × IsNoted file place number InUse
+      × ((is_posted : Bool) × (code ≡ (if is_posted then ok else detached_full))
+      × Becomes (λ old new. Posts log_of old slot number len (Ok is_posted) new) file after)
+
+-- no message, for the reason of this code
+abbrev pub no_message : ℕ → Message
+no_message code = record { code = code; number = 0; place = 0; len = 0 }
+
+-- C's answer to the taking of a message
+abbrev pub message_of : PoolGeometry → Taken → Message
+message_of places taken.Empty = no_message detached_empty
+message_of places taken.NotSent = no_message not_held
+message_of places taken.Wrong = no_message not_a_bucket
+message_of places (taken.Message bucket length) =
+    record { code = ok; number = bucket; place = bucket_place places bucket; len = length }
+
+-- A party is to take the message in a slot.
+pub record TellsMessage (file : JoinedFile) (slot : ℕ) (told : Message) (after : JoinedFile) : Type 0 where
+  pub no_slot : slots_of file ≤ slot → (told ≡ no_message invalid_argument) × (after ≡ file)
+  pub tried : slot < slots_of file → (answer : Taken) × (told ≡ message_of file.places answer)
+      × Becomes (λ old new. Takes log_of old slot (min file.places.bucket.size (2 ^ 32 - 1)) answer new) file after
+
+-- A party says that it is done with the message in a slot.
+pub record TellsDone (file : JoinedFile) (slot code : ℕ) (after : JoinedFile) : Type 0 where
+  pub no_slot : slots_of file ≤ slot → (code ≡ invalid_argument) × (after ≡ file)
+  pub tried : slot < slots_of file → (is_done : Bool) × (code ≡ (if is_done then ok else not_held))
+      × Becomes (λ old new. IsDoneWith log_of old slot is_done new) file after
+
+-- BY NUMBER
+
+-- no detached bucket, for the reason of this code
+abbrev pub none_detached : ℕ → DetachedNumber
+none_detached code = record { code = code; number = 0; slot = 0; is_put_back = false }
+
+-- the number of a bucket that is detached
+abbrev pub detached_number : ℕ → DetachedNumber
+detached_number number = record { code = ok; number = number; slot = 0; is_put_back = false }
+
+-- the number of a bucket whose message was put back in this slot
+abbrev pub put_back_number : ℕ → ℕ → DetachedNumber
+put_back_number number slot = record { code = ok; number = number; slot = slot; is_put_back = true }
+
+-- C's answer to an attempt to put back the message in the bucket of this number
+abbrev pub MayPutBack : JoinedFile → ℕ → DetachedNumber → JoinedFile → Type 0
+MayPutBack file number told after =
+    ((slot : ℕ) × (told ≡ put_back_number number slot)
+    × Becomes (λ old new. Detaches log_of old number (Ok (Some slot)) new) file after)
+    ⊎ ((told ≡ none_detached not_a_bucket) × Becomes (λ old new. Detaches log_of old number (Err NotDone) new) file after)
+
+-- A party is to detach the bucket at a place, or to put back the bucket's message.
+pub record TellsDetach (file : JoinedFile) (place : ℕ) (told : DetachedNumber) (after : JoinedFile) : Type 0 where
+  pub not_held : ¬ HoldsPlace file place → (told ≡ none_detached not_held) × (after ≡ file)
+  pub detached : MayFree file place → (number : ℕ) × IsNoted file place number InUse
+      × (told ≡ detached_number number) × Becomes (λ old new. Detaches log_of old number (Ok None) new) file after
+  pub undone : IsNotedAt file place Undone → (number : ℕ) × IsNoted file place number Undone
+      × MayPutBack file number told after
+
+-- A party is to attach the bucket of this number, whoever has detached it.
+pub record TellsAttach (file : JoinedFile) (number : ℕ) (told : Answer) (after : JoinedFile) : Type 0 where
+  pub past : file.places.buckets ≤ number → (told ≡ refused not_a_bucket) × (after ≡ file)
+  pub tried : number < file.places.buckets → (is_attached : Bool)
+      × (told ≡ (if is_attached then record { code = ok; place = bucket_place file.places number } else refused not_held))
+      × Becomes (λ old new. Attaches log_of old number (Ok is_attached) new) file after

@@ -1,0 +1,463 @@
+//! A party of a file, and the words that the parties share, as kinds.
+ghost use Rattle.bb_memory_c.specs.Files.{Becomes, GivesBack, GivesChunk, GivesUp, HoldsPlace, IsNoted, IsNotedAt, IsOpen, IsPlaced, JoinedFile, JoinsAt, LeavesFrom, MayFree, MissesFirstAt, OpenFile, ShowsParty, TellsAttach, TellsCache, TellsDeallocate, TellsDetach, TellsDone, TellsEntry, TellsFlag, TellsJoin, TellsLife, TellsMessage, TellsPost, TellsReap, TellsSlot, code_of, cutting_file, fresh_of, number_of};
+ghost use Rattle.bb_memory_c_calls.specs.Calls.{FailsOf, IsOf, LacksRoomOf};
+ghost use Rattle.bb_memory_c_calls.specs.declared.code.TheConstants.{FILE_NOT_DONE as file_not_done, INVALID_ARGUMENT as invalid_argument, INVALID_LAYOUT as invalid_layout, MALLOC_REFUSED as malloc_refused, NOT_HELD as not_held, NO_BUCKET as no_bucket, NO_PARTY as no_party};
+ghost use Rattle.bb_memory_file.specs.FileFormat.{IsGeometry, geometry_of, words_of};
+ghost use Rattle.bb_memory_file.specs.FileNotes.{Flushes, GivesAllBack};
+ghost use Rattle.bb_memory_file.specs.FileParties.{log_of};
+ghost use Rattle.bb_memory_file.specs.declared.joined.Note.TheVariants.{InUse, Undone};
+ghost use Rattle.bb_memory_traits.specs.Chunk.{region_at};
+ghost use Rattle.std.specs.Align.{IsLayout};
+ghost use Rattle.std.specs.Prelude.{Err, IfErr, IfOk, IfSome, None, ◌↔◌, ◌≡◌, ◌≢◌, ◌≤◌, ◌⊎◌};
+
+use crate::file_answer::{DetachedNumber, Message, ShownEntry, ShownFlag, ShownSlot};
+use bb_memory_c_calls::answer::{Answer, Figure, SharedPoolInfo};
+use bb_memory_c_calls::code;
+use bb_memory_c_calls::kind::{Bucketed, Gives, Keeps};
+use bb_memory_c_calls::layout::{cut_into, layout_of};
+use bb_memory_file::geometry::FileGeometry;
+use bb_memory_file::joined;
+use bb_memory_file::joined::{Joined, Note, Refusal, Taken};
+use bb_memory_file::party::FileParty;
+use bb_memory_file::table::FileTable;
+use bb_memory_file_machine::steps::{Entry, FileFlag, Slot};
+use bb_memory_pool_machine::hint::Hint;
+use bb_memory_traits::allocator::AllocationError;
+use bb_memory_traits::geometry::Geometry;
+use bb_memory_traits::layout::{Chunk, Layout};
+use std::alloc::Global;
+use std::marker::Model;
+
+/// A party of a file that has joined, and where this process has the buckets. A gap keeps what different parties write on separate
+/// cache lines.
+#[derive(Drop)]
+pub struct JoinedFile {
+    party: Joined<FileParty>,
+    places: Geometry,
+    gap: [u64; 16],
+}
+
+impl Model for JoinedFile {
+    ghost use Rattle.bb_memory_c.specs.Files.{IsPlaced, JoinedFile};
+
+    ghost Value = { JoinedFile };
+
+    ghost view = { λ f. record { party = f.party; places = f.places } };
+
+    ghost invariant = { λ f. IsPlaced f.party f.places };
+}
+
+/// Returns the code of the refusal of a bucket.
+fn code_of(refusal: Refusal) -> u32
+    ensures { result ≡ code_of refusal }
+{
+    match refusal {
+        Refusal::NotABucket => code::NOT_A_BUCKET,
+        Refusal::NotHeld => code::NOT_HELD,
+        Refusal::NotDone => code::FILE_NOT_DONE,
+    }
+}
+
+impl JoinedFile {
+    /// Returns the number of the bucket at this place, which the party has in use and which is in no slot, or the code of the reason
+    /// why there is none.
+    fn in_use_at(&self, place: usize) -> Result<u32, u32>
+        ensures there { IfOk result (λ number. IsNoted self.now place number InUse) }
+        ensures refused { IfErr result (λ code. (code ≡ not_held) × (¬ HoldsPlace self.now place)
+            ⊎ ((code ≡ file_not_done) × IsNotedAt self.now place Undone)) }
+    {
+        let Some(number) = self.places.number_at(place) else {
+            return Err(code::NOT_HELD);
+        };
+        match self.party.note(number) {
+            Some(Note::InUse) => Ok(number),
+            Some(Note::Undone) => Err(code::FILE_NOT_DONE),
+            _ => Err(code::NOT_HELD),
+        }
+    }
+
+    /// Gives back the bucket at this place.
+    #[inline(always)]
+    pub(crate) fn deallocate(&mut self, place: usize) -> u32
+        ensures { TellsDeallocate self.old place result self.new }
+    {
+        let Some(number) = self.places.number_at(place) else {
+            return code::NOT_HELD;
+        };
+        match self.party.deallocate(number) {
+            Ok(()) => code::OK,
+            Err(refusal) => code_of(refusal),
+        }
+    }
+
+    /// Has the party cache at most `most` buckets. What it caches already is given back first.
+    pub(crate) fn cache(&mut self, alloc: Global, most: u32) -> u32
+        ensures { TellsCache self.old most result self.new }
+    {
+        match self.party.cache(alloc, most) {
+            Ok(()) => code::OK,
+            Err(_) => code::MALLOC_REFUSED,
+        }
+    }
+
+    /// Gives back the buckets that the party caches.
+    pub(crate) fn flush(&mut self)
+        ensures { Becomes (Flushes log_of) self.old self.new }
+    {
+        self.party.flush();
+    }
+
+    /// Returns the party's number.
+    pub(crate) fn number(&self) -> u32
+        ensures { result ≡ number_of self.now }
+    {
+        self.party.number()
+    }
+
+    /// Gives back each bucket that the party holds, and returns how many were freed.
+    pub(crate) fn give_all_back(&mut self) -> u32
+        ensures { Becomes (λ old new. GivesAllBack log_of old result new) self.old self.new }
+    {
+        self.party.give_all_back()
+    }
+
+    /// Leaves. Returns how many buckets were freed.
+    pub(crate) fn leave(self) -> u32
+        ensures { LeavesFrom (log_of self.party.words) result }
+    {
+        let JoinedFile { party, .. } = self;
+        party.leave()
+    }
+
+    /// Posts the bucket at this place, with a message of `len` bytes, in a slot.
+    pub(crate) fn post(&mut self, slot: u32, place: usize, len: usize) -> u32
+        ensures { TellsPost self.old slot place len result self.new }
+    {
+        if slot >= self.party.slots() {
+            return code::INVALID_ARGUMENT;
+        }
+        let number = match self.in_use_at(place) {
+            Ok(number) => number,
+            Err(code) => return code,
+        };
+        if len > self.places.bucket().size() || len > u32::MAX as usize {
+            return code::SIZE_TOO_LARGE;
+        }
+        match self.party.post(slot, number, len as u32) {
+            Ok(true) => code::OK,
+            Ok(false) => code::DETACHED_FULL,
+            Err(refusal) => code_of(refusal),
+        }
+    }
+
+    /// Takes the message in a slot.
+    pub(crate) fn take_message(&mut self, slot: u32) -> Message
+        ensures { TellsMessage self.old slot result self.new }
+    {
+        if slot >= self.party.slots() {
+            return Message::refusal(code::INVALID_ARGUMENT);
+        }
+        let size = self.places.bucket().size().min(u32::MAX as usize) as u32;
+        match self.party.take(slot, size) {
+            Taken::Empty => Message::refusal(code::DETACHED_EMPTY),
+            Taken::NotSent => Message::refusal(code::NOT_HELD),
+            Taken::Wrong => Message::refusal(code::NOT_A_BUCKET),
+            Taken::Message { bucket, length } => Message {
+                code: code::OK,
+                number: bucket,
+                place: self.places.chunk(bucket as usize, 0).place(),
+                len: length as usize,
+            },
+        }
+    }
+
+    /// Says that the party is done with the message in a slot.
+    pub(crate) fn done(&mut self, slot: u32) -> u32
+        ensures { TellsDone self.old slot result self.new }
+    {
+        if slot >= self.party.slots() {
+            return code::INVALID_ARGUMENT;
+        }
+        if self.party.done(slot) {
+            code::OK
+        } else {
+            code::NOT_HELD
+        }
+    }
+
+    /// Detaches the bucket at this place, or puts back its message.
+    pub(crate) fn detach(&mut self, place: usize) -> DetachedNumber
+        ensures { TellsDetach self.old place result self.new }
+    {
+        let Some(number) = self.places.number_at(place) else {
+            return DetachedNumber::refusal(code::NOT_HELD);
+        };
+        match self.party.detach(number) {
+            Ok(None) => DetachedNumber::detached(number),
+            Ok(Some(slot)) => DetachedNumber::put_back(number, slot),
+            Err(Refusal::NotDone) => DetachedNumber::refusal(code::NOT_A_BUCKET),
+            Err(_) => DetachedNumber::refusal(code::NOT_HELD),
+        }
+    }
+
+    /// Attaches the bucket of this number.
+    pub(crate) fn attach(&mut self, number: u32) -> Answer
+        ensures { TellsAttach self.old number result self.new }
+    {
+        match self.party.attach(number) {
+            Ok(true) => Answer {
+                code: code::OK as usize,
+                place: self.places.chunk(number as usize, 0).place(),
+            },
+            Ok(false) => Answer::refusal(code::NOT_HELD),
+            Err(_) => Answer::refusal(code::NOT_A_BUCKET),
+        }
+    }
+}
+
+impl Gives<SharedPoolInfo> for JoinedFile {
+    ghost may_give = { GivesChunk };
+
+    ghost may_show = { ShowsParty };
+
+    #[inline(always)]
+    fn give(&mut self, layout: Layout) -> Result<Chunk, AllocationError> {
+        self.places.admit(layout)?;
+        let Some(number) = self.party.allocate() else {
+            return Err(AllocationError::OutOfMemory);
+        };
+        Ok(self.places.chunk(number as usize, layout.size()))
+    }
+
+    fn show(&mut self) -> SharedPoolInfo {
+        let bucket = self.places.bucket();
+        SharedPoolInfo {
+            start_address: self.places.first(),
+            size: self.places.region_size(),
+            bucket_size: bucket.size(),
+            max_alignment: bucket.align(),
+            number_of_buckets: self.places.count() as usize,
+            held_buckets: self.party.held() as usize,
+        }
+    }
+}
+
+impl Keeps for JoinedFile {
+    ghost holds = { HoldsPlace };
+
+    ghost may_free = { MayFree };
+
+    ghost frees = { GivesBack };
+
+    fn is_held(&mut self, place: usize) -> bool {
+        let Some(number) = self.places.number_at(place) else {
+            return false;
+        };
+        matches!(self.party.note(number), Some(Note::InUse | Note::Undone))
+    }
+
+    fn give_back(&mut self, place: usize) -> bool {
+        self.deallocate(place) == code::OK
+    }
+}
+
+impl Bucketed for JoinedFile {
+    ghost geometry = { λ file. file.places };
+
+    ghost may_take = { λ file. GivesChunk file file.places.bucket };
+
+    ghost misses_first = { MissesFirstAt };
+
+    #[inline(always)]
+    fn take_first(&mut self) -> Option<Chunk> {
+        let number = self.party.allocate_first()?;
+        let len = self.places.bucket().size();
+        Some(self.places.chunk(number as usize, len))
+    }
+
+    fn take_later(&mut self) -> Result<Chunk, AllocationError> {
+        let Some(number) = self.party.allocate_later() else {
+            return Err(AllocationError::OutOfMemory);
+        };
+        let len = self.places.bucket().size();
+        Ok(self.places.chunk(number as usize, len))
+    }
+
+    fn limit(&self) -> Layout {
+        self.places.bucket()
+    }
+
+    fn place_of(&self, number: u32) -> Option<usize> {
+        self.places.place_at(number)
+    }
+
+    fn number_of(&self, place: usize) -> Option<u32> {
+        self.places.number_at(place)
+    }
+}
+
+/// The words of a file, and where this process has the buckets: in the region of `size` bytes at `start`.
+#[derive(Drop)]
+pub struct OpenFile {
+    pub(crate) table: FileTable,
+    pub(crate) bucket: Layout,
+    pub(crate) start: usize,
+    pub(crate) size: usize,
+}
+
+impl Model for OpenFile {
+    ghost use Rattle.bb_memory_c.specs.Files.{IsOpen, OpenFile};
+    ghost use Rattle.bb_memory_traits.specs.Chunk.{region_at};
+    ghost use Rattle.bb_memory_traits.specs.PoolObject.{pool_geometry};
+
+    ghost Value = { OpenFile };
+
+    ghost view = { λ f. record {
+      table = f.table;
+      places = pool_geometry (region_at f.start f.size) f.bucket f.table.geometry.buckets;
+    } };
+
+    ghost invariant = { λ f. IsOpen f.table (region_at f.start f.size) f.bucket };
+}
+
+/// Returns the layout of a bucket and the geometry of a file with these numbers, if there is such a file whose buckets have room in
+/// the region. Otherwise returns the code of the first reason why there is none.
+pub(crate) fn cut_file(
+    bucket_size: usize,
+    bucket_align: usize,
+    start: usize,
+    size: usize,
+    buckets: u32,
+    slots: u32,
+    parties: u32,
+) -> Result<(Layout, FileGeometry), u32>
+    ensures cut { IfOk result (λ cut. IsOf bucket_size bucket_align cut.0
+        × (cutting_file (region_at start size) buckets slots parties).may cut.0
+        × (cutting_file (region_at start size) buckets slots parties).room cut.0) }
+    ensures geometry { IfOk result (λ cut. cut.1 ≡ geometry_of buckets slots parties) }
+    ensures row { IfOk result (λ cut. IsGeometry cut.1 (words_of cut.1)) }
+    ensures invalid_layout { (result ≡ Err invalid_layout) ↔ (¬ IsLayout bucket_size bucket_align) }
+    ensures invalid_argument { (result ≡ Err invalid_argument)
+        ↔ FailsOf bucket_size bucket_align (cutting_file (region_at start size) buckets slots parties).may }
+    ensures no_bucket { (result ≡ Err no_bucket) ↔ LacksRoomOf bucket_size bucket_align
+        (cutting_file (region_at start size) buckets slots parties).may
+        (cutting_file (region_at start size) buckets slots parties).room }
+    ensures others { IfErr result (λ code. code ≢ invalid_layout → code ≢ invalid_argument → code ≡ no_bucket) }
+{
+    let Some(geometry) = FileGeometry::of(buckets, slots, parties) else {
+        return Err(match layout_of(bucket_size, bucket_align) {
+            Some(_) => code::INVALID_ARGUMENT,
+            None => code::INVALID_LAYOUT,
+        });
+    };
+    let bucket = cut_into(bucket_size, bucket_align, start, size, parties)?;
+    if Geometry::new(bucket, start, size).count() < buckets {
+        return Err(code::NO_BUCKET);
+    }
+    Ok((bucket, geometry))
+}
+
+impl OpenFile {
+    /// Returns where the buckets are.
+    fn places(&self) -> Geometry
+        ensures { result ≡ self.now.places }
+    {
+        let buckets = self.table.geometry().buckets;
+        Geometry::cut_at_most(self.bucket, self.start, self.size, buckets)
+    }
+
+    /// Makes a party of this number, whose log is empty, if there is one.
+    fn party(&self, number: u32) -> Option<FileParty>
+        ensures fresh { IfSome result (λ party. log_of party ≡ fresh_of self.now number) }
+        ensures past { self.now.table.geometry.parties ≤ number → result ≡ None }
+    {
+        if number >= self.table.geometry().parties {
+            return None;
+        }
+        self.table.party(number)
+    }
+
+    /// Joins as this number, whose lock the caller has just taken.
+    pub(crate) fn join(&self, alloc: Global, number: u32) -> Result<Box<JoinedFile>, u32>
+        ensures joins { IfOk result (λ joined. JoinsAt self.now number joined.value) }
+        ensures none_such { self.now.table.geometry.parties ≤ number → result ≡ Err no_party }
+        ensures no_memory { result ≡ Err malloc_refused → GivesUp (fresh_of self.now number) }
+        ensures no_other { IfErr result (λ code. code ≢ no_party → code ≡ malloc_refused) }
+    {
+        let Some(words) = self.party(number) else {
+            return Err(code::NO_PARTY);
+        };
+        let geometry = self.table.geometry();
+        let hint = Hint::first(geometry.buckets, geometry.parties, self.bucket.size(), number);
+        let party = match Joined::join(words, alloc, hint) {
+            Ok(Ok(party)) => party,
+            Ok(Err(_)) => return Err(code::NO_PARTY),
+            Err(_) => return Err(code::MALLOC_REFUSED),
+        };
+        let joined = JoinedFile {
+            party,
+            places: self.places(),
+            gap: [0; 16],
+        };
+        match Box::new(alloc, joined) {
+            Ok(joined) => Ok(joined),
+            Err(refused) => {
+                refused.value.leave();
+                Err(code::MALLOC_REFUSED)
+            }
+        }
+    }
+
+    /// Settles this number, whose lock the caller has just taken.
+    pub(crate) fn reap(&self, number: u32, dead: bool, left: bool) -> Figure
+        ensures { TellsReap self.now number dead left result }
+    {
+        let Some(words) = self.party(number) else {
+            return Figure::refusal(code::NO_PARTY);
+        };
+        match joined::reap(words, dead, left) {
+            Ok(freed) => Figure::of(freed as usize),
+            Err(_) => Figure::refusal(code::NO_PARTY),
+        }
+    }
+
+    /// Loads the flag of the bucket of this number. If there is none, it is free.
+    pub(crate) fn flag(&self, bucket: u32) -> ShownFlag
+        ensures { TellsFlag self.now bucket result }
+    {
+        if bucket >= self.table.geometry().buckets {
+            return ShownFlag::of(FileFlag::Free);
+        }
+        ShownFlag::of(self.table.flag(bucket))
+    }
+
+    /// Loads the word of this slot. If there is none, it is empty.
+    pub(crate) fn slot(&self, slot: u32) -> ShownSlot
+        ensures { TellsSlot self.now slot result }
+    {
+        if slot >= self.table.geometry().slots {
+            return ShownSlot::of(Slot::Empty { lap: 0 });
+        }
+        ShownSlot::of(self.table.slot(slot))
+    }
+
+    /// Loads the entry of the bucket of this number. If there is none, it is in no slot.
+    pub(crate) fn entry(&self, bucket: u32) -> ShownEntry
+        ensures { TellsEntry self.now bucket result }
+    {
+        if bucket >= self.table.geometry().buckets {
+            return ShownEntry::of(Entry::Nowhere);
+        }
+        ShownEntry::of(self.table.entry(bucket))
+    }
+
+    /// Loads the life of the party of this number. If there is none, it is 0.
+    pub(crate) fn life(&self, party: u32) -> u64
+        ensures { TellsLife self.now party result }
+    {
+        if party >= self.table.geometry().parties {
+            return 0;
+        }
+        self.table.life(party)
+    }
+}
