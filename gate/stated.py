@@ -14,9 +14,8 @@ LIBRARY = "crates/bb_memory_c/"
 HIDDEN_HEADER = LIBRARY + "pool_file.h"
 HEADER = LIBRARY + "bb_pool_file.h"
 FORMAT = LIBRARY + "pool_file_format.c"
-CALLS = LIBRARY + "bb_pool_file.c"
-FLAGS = "crates/bb_memory_shared_pools/src/shared_pool/flags.rt"
 GEOMETRY = "crates/bb_memory_file/src/geometry.rt"
+WORDS = "crates/bb_memory_file/src/format.rt"
 
 HEADLINE = (
     "> For every region and every list of commands, each one-owner region allocator's replies and"
@@ -40,16 +39,15 @@ class Number:
 NUMBERS = {
     "page": (Number(HIDDEN_HEADER, r"\bPAGE = (\d+)"),),
     "line": (Number(HIDDEN_HEADER, r"\bLINE = (\d+)"),),
-    "words_before": (
-        Number(HIDDEN_HEADER, r"\bWORDS_BEFORE = (\d+)"),
-        Number(FLAGS, r"\bconst FIRST: usize = (\d+);"),
-        Number(GEOMETRY, r"\bconst WORDS_BEFORE: usize = (\d+);"),
-    ),
+    "words_before": (Number(GEOMETRY, r"\bconst WORDS_BEFORE: usize = (\d+);"),),
+    "words_of_part": (Number(GEOMETRY, r"\bwords as usize \+ 15\) / (\d+) \* 16\b"),),
+    "words_of_slot": (Number(GEOMETRY, r"\bconst WORDS_FROM_SLOT_TO_SLOT: usize = (\d+);"),),
     "party_lock": (Number(HIDDEN_HEADER, r"\bLOCK_PARTY = (\d+)"),),
     "format": (Number(FORMAT, r"\bFORMAT = (\d+)"),),
     "parties": (Number(FORMAT, r"\bMOST_PARTIES = (\d+)"),),
-    "held": (Number(CALLS, r"\bheld_by\(.*\) \{\n +return 2 \* \(uint64_t\)\w+ \+ (\d+);"),),
-    "sent": (Number(CALLS, r"\bsent_by\(.*\) \{\n +return 2 \* \(uint64_t\)\w+ \+ (\d+);"),),
+    "held": (Number(WORDS, r"\bHeldBy\(party\) => 4 \* party as u64 \+ (\d+),"),),
+    "detached": (Number(WORDS, r"\bDetachedBy\(party\) => 4 \* party as u64 \+ (\d+),"),),
+    "sent": (Number(WORDS, r"=> lap as u64 \* \(4 \* HALF\) \+ 4 \* slot as u64 \+ (\d+),"),),
 }
 
 
@@ -72,20 +70,21 @@ def read_numbers(texts: Mapping[str, str]) -> Iterator[tuple[str, int] | str]:
 def sentences(numbers: Mapping[str, int]) -> Iterator[tuple[str, str]]:
     """Yields each file with words that it has to have, made with the numbers of the code."""
     page, line = numbers["page"], numbers["line"]
-    before = 8 * numbers["words_before"]
-    held, sent = numbers["held"], numbers["sent"]
-    tables = f"byte {page} + F + {line}"
+    part = 8 * numbers["words_of_part"]
+    held, detached, sent = numbers["held"], numbers["detached"], numbers["sent"]
+    flags = f"byte {page} + {8 * numbers['words_before']}"
     yield PAGE, f"has the number {numbers['format']} in the 32 bits at byte 8"
-    yield PAGE, f"8 for each bucket and {before} more, rounded up to a multiple of {page:,}."
-    yield PAGE, f"8 for each party, rounded up to a multiple of {line}."
+    yield PAGE, f"8 for each bucket, rounded up to a multiple of {part}."
+    yield PAGE, f"8 for each party, rounded up to a multiple of {part}."
     yield PAGE, (
-        f"| the flag of bucket b | the 64 bits at byte {page} + {before} + 8 b: 0 is free,"
-        f" 2k + {held} is held by party k, 2k + {sent} is detached by party k."
-        f" If k is P or more, 2k + {sent} is sent to slot s at lap l,"
+        f"| the flag of bucket b | the 64 bits at {flags} + 8 b: 0 is free,"
+        f" 4k + {held} is held by party k, 4k + {detached} is detached by party k,"
+        f" and 2^34 l + 4s + {sent} is sent to slot s at lap l |"
     )
-    yield PAGE, f"| the word of slot s | the 64 bits at {tables} + {line} s: "
-    yield PAGE, f"| the life of number k | the 64 bits at {tables} + {line} S + 8 k |"
-    yield PAGE, f"| the entry of bucket b | the 64 bits at {tables} + {line} S + L + 8 b: "
+    slot = 8 * numbers["words_of_slot"]
+    yield PAGE, f"| the life of number k | the 64 bits at {flags} + F + 8 k |"
+    yield PAGE, f"| the entry of bucket b | the 64 bits at {flags} + F + L + 8 b: "
+    yield PAGE, f"| the word of slot s | the 64 bits at {flags} + 2 F + L + {slot} s: "
     yield PAGE, f"| the lock of number k | the lock of byte {numbers['party_lock']} + k by "
     yield HEADER, f"over all processes: at most {numbers['parties']:,}."
     yield HEADER, f"`options.user_bytes` bytes at a multiple of {line},"

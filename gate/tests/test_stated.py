@@ -1,6 +1,7 @@
 """Tests that a wrong number in a sentence, and a changed word in the headline, are found."""
 
 import unittest
+import unittest.mock
 
 from gate import stated
 from gate.crates import TOP
@@ -43,14 +44,16 @@ class RealTree(unittest.TestCase):
     def test_wrong_bytes_on_the_page(self) -> None:
         wrong = (
             ("byte 4096 + 128 + 8 b", "byte 4096 + 64 + 8 b", "4096 + 128 + 8 b"),
-            ("8 for each bucket and 128 more", "8 for each bucket and 64 more", "128 more"),
-            ("2k + 1 is held", "2k is held", "2k + 1 is held"),
-            ("F + 128 + 128 s:", "F + 64 + 64 s:", "F + 128 + 128 s"),
-            ("128 S + 8 k", "128 S + 16 k", "128 S + 8 k"),
-            ("128 S + L + 8 b", "128 S + 8 b", "128 S + L + 8 b"),
+            ("8 for each bucket, rounded up to a multiple of 128", "8 for each bucket", "of 128"),
+            ("4k + 1 is held", "4k is held", "4k + 1 is held"),
+            ("4k + 2 is detached", "4k + 3 is detached", "4k + 2 is detached"),
+            ("4s + 3 is sent", "4s + 2 is sent", "4s + 3 is sent"),
+            ("2 F + L + 128 s:", "2 F + L + 64 s:", "2 F + L + 128 s"),
+            ("F + 8 k", "F + 16 k", "F + 8 k"),
+            ("F + L + 8 b", "F + 8 b", "F + L + 8 b"),
             ("8 for each party, rounded up to a multiple of 128", "8 for each party", "of 128"),
             ("lock of byte 2 + k", "lock of byte 1 + k", "byte 2 + k"),
-            ("has the number 5", "has the number 4", "the number 5"),
+            ("has the number 6", "has the number 5", "the number 6"),
         )
         for old, new, right in wrong:
             with self.subTest(new):
@@ -62,16 +65,17 @@ class RealTree(unittest.TestCase):
         self.finds(found, "a multiple of 128")
 
     def test_code_that_changes(self) -> None:
-        self.finds(self.after(stated.FORMAT, "FORMAT = 5,", "FORMAT = 6,"), "the number 6")
+        self.finds(self.after(stated.FORMAT, "FORMAT = 6,", "FORMAT = 7,"), "the number 7")
         self.finds(self.after(stated.FORMAT, "PARTIES = 65535", "PARTIES = 1000"), "1,000")
         self.finds(self.after(stated.HIDDEN_HEADER, "LOCK_PARTY = 2", "LOCK_PARTY = 3"), "3 + k")
-        found = self.after(stated.HIDDEN_HEADER, " LINE = 128", " LINE = 64")
-        self.assertEqual(len(found), 5)
+        found = self.after(stated.GEOMETRY, "BEFORE: usize = 16;", "BEFORE: usize = 8;")
+        self.assertEqual(len(found), 4)
 
     def test_numbers_that_differ(self) -> None:
-        found = self.after(stated.FLAGS, "const FIRST: usize = 16;", "const FIRST: usize = 8;")
-        self.finds(found, "different numbers", "16", "8")
+        places = (*stated.NUMBERS["page"], stated.Number(stated.FORMAT, r"\bMOST_PARTIES = (\d+)"))
+        with unittest.mock.patch.dict(stated.NUMBERS, {"page": places}):
+            self.finds(list(stated.findings(self.texts)), "different numbers", "4096", "65535")
 
     def test_number_that_is_missing(self) -> None:
-        found = self.after(stated.HIDDEN_HEADER, "WORDS_BEFORE = 16", "WORDS = 16")
+        found = self.after(stated.GEOMETRY, "WORDS_BEFORE: usize = 16", "WORDS: usize = 16")
         self.finds(found, "has no number", "WORDS_BEFORE")

@@ -1017,7 +1017,8 @@ static bool pause_leave(bb_pool_file *ours, bb_file_party *party, uint32_t steps
     if (!ended)
         go_on(child);
     end_killed(child);
-    EXPECT(bb_file_party_holds(other, got.place).number == 1);
+    const uint32_t number = (uint32_t)bb_file_party_number_at(other, got.place).number;
+    expect_flag(ours, number, BB_HELD, bb_file_party_number(other).number);
     EXPECT(bb_pool_file_take(ours, party, 0).len == 44);
     return ended;
 }
