@@ -3,8 +3,9 @@
 A mutant is a wrong body that a check has to refuse. Each of these has to have one:
 
 - a function of `bb_memory.h`: an edit (gate/edits.py) with a line `# promise: FUNCTION: LABEL`,
-- a function of `bb_pool_file.h`: a file `WHAT.mutant` (gate/pool_file.py) with the line
-  `# function: FUNCTION`, or `# call: FUNCTION` if it changes a function that this one calls,
+- a function of `bb_pool_file.h`: such an edit if the library exports the function itself, otherwise
+  a file `WHAT.mutant` (gate/pool_file.py) with the line `# function: FUNCTION`, or `# call: FUNCTION`
+  if it changes a function that this one calls,
 - a call that carries a row of PROMISES.md: an edit that breaks one of the labels that the row has
   for the call, or any clause of the call if the row has none,
 - a row of PROMISES.md: an edit that breaks one of the clauses that carry it.
@@ -28,9 +29,11 @@ EXCEPTIONS = "gate/promised.txt"
 HEADER = "crates/bb_memory_c/bb_memory.h"
 POOL_FILE_HEADER = "crates/bb_memory_c/bb_pool_file.h"
 MUTANT_PATH = re.compile(r"crates/bb_memory_c/tests/pool_file/mutants/[^/]+\.mutant")
+EXPORTING_PATH = re.compile(r"crates/bb_memory_c/src/[^/]+\.rt")
 
 DECLARED = re.compile(r"^(?:BB_MUST_USE )?[a-z0-9_]+ \*?(bb_[a-z0-9_]+)\(", re.M)
 CHANGED = re.compile(r"^# (?:function|call): (\w+)$", re.M)
+EXPORTED = re.compile(r'^pub extern "C" fn (\w+)\(', re.M)
 
 
 @dataclass(frozen=True)
@@ -50,8 +53,17 @@ def lacks_of_headers(texts: Mapping[str, str], edits: list[Edit]) -> Iterator[La
             yield Lack(name, f"{HEADER}: no mutant of {name}: {add}")
     mutants = [text for path, text in texts.items() if MUTANT_PATH.fullmatch(path)]
     changed = {name for text in mutants for name in CHANGED.findall(text)}
+    exported = {
+        name
+        for path, text in texts.items()
+        if EXPORTING_PATH.fullmatch(path)
+        for name in EXPORTED.findall(text)
+    }
     for name in DECLARED.findall(texts.get(POOL_FILE_HEADER, "")):
-        if name not in changed:
+        if name in exported and name not in broken:
+            add = f"add crates/bb_memory_c/must-fail/WHAT.edit with `# promise: {name}: LABEL`"
+            yield Lack(name, f"{POOL_FILE_HEADER}: no mutant of {name}: {add}")
+        if name not in exported and name not in changed:
             add = "add crates/bb_memory_c/tests/pool_file/mutants/WHAT.mutant"
             yield Lack(name, f"{POOL_FILE_HEADER}: no mutant of {name}: {add}")
 

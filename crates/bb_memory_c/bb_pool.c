@@ -130,9 +130,8 @@ static char sign_of(bb_pool_file *file, const bb_pool_file_options *options,
         return '?';
     if (holder.state == BB_FREE)
         return '.';
-    // Whoever sends a bucket to a slot detaches it by a number that no party has.
-    if (holder.state == BB_DETACHED && holder.party >= options->parties && options->slots > 0)
-        return '*';
+    if (holder.state == BB_SENT)
+        return holder.party < options->slots ? '*' : '?';
     if (holder.party >= options->parties)
         return '?';
     return holder.state == BB_DETACHED ? '-' : letter_of(parties, holder.party);

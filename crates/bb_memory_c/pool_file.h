@@ -3,9 +3,8 @@
 // makes a file, checks it, and locks its bytes; `pool_file_map.c` opens, maps and closes it; and
 // `bb_pool_file.c` has all other calls. All of them are outside the proofs.
 //
-// A file has a header page, the pages of the flags' words, those of the tables, and those of the
-// region. The tables are the events, the slots, the lives of the parties, the entries of the
-// buckets, and the bytes that the host uses. The file's pages have 4 KiB on every system.
+// A file has a header page, the row of words that memory.h describes, the events, the bytes that
+// the host uses, and the pages of the region. The file's pages have 4 KiB on every system.
 #ifndef BB_POOL_FILE_HIDDEN_H
 #define BB_POOL_FILE_HIDDEN_H
 
@@ -18,17 +17,14 @@
 #include <stdint.h>
 #include <sys/types.h>
 
+#include "memory.h"
+
 // Sizes in bytes.
 enum {
     // A page of the file. The pages of a system may be larger: on ARM64 they have 4, 16 or 64 KiB.
     PAGE = 4096,
     // Processors fetch lines of 64 bytes in pairs, or have lines of 128 bytes.
     LINE = 128
-};
-
-// How many words come before the first flag.
-enum {
-    WORDS_BEFORE = 16
 };
 
 // The bytes of the file that are locked: LOCK_MAKE by the process that makes the file, or looks
@@ -70,8 +66,8 @@ struct event {
     uint32_t value;
 };
 
-// The events of the file, in the line before the slots. Those of `filled`, `emptied` and `watched`
-// are for whoever waits for any slot: each slot has events of its own.
+// The events of the file, in the line after the row of words. Those of `filled`, `emptied` and
+// `watched` are for whoever waits for any slot: each slot has events of its own.
 struct events {
     struct event filled;
     struct event emptied;
@@ -81,22 +77,20 @@ struct events {
     char gap[LINE - 4 * sizeof(struct event)];
 };
 
-// A slot: its word, and the events of those who wait for it.
-struct slot {
-    uint64_t word;
+// The events of a slot, for those who wait for it. They are a line of their own, so that no two
+// slots share one.
+struct slot_events {
     struct event filled;
     struct event emptied;
     struct event watched;
-    char gap[LINE - sizeof(uint64_t) - 3 * sizeof(struct event)];
+    char gap[LINE - 3 * sizeof(struct event)];
 };
 
 struct bb_file_party {
-    // The party of this process's pool, or an empty handle if it hasn't joined.
-    bb_pool_party pool;
+    // The party of this process's table, or an empty handle if it hasn't joined. It is the first
+    // member, since the calls that the library exports for a `bb_file_party` use it as the handle.
+    struct file_party party;
     bb_pool_file *file;
-    // How many messages the party has taken and isn't done with. If there are none, none of the
-    // buckets that it holds is in a slot.
-    uint32_t undone;
     // Keeps what different parties write on separate cache lines.
     char gap[LINE];
 };
@@ -104,30 +98,28 @@ struct bb_file_party {
 struct bb_pool_file {
     int fd;
     struct header head;
+    // The bytes of the row of words, of all from there to the region, and of the region.
     size_t words_size;
-    size_t tables_size;
+    size_t events_size;
     size_t region_size;
     // The bytes of the system's page, and of the header that are mapped before the words.
     size_t page;
     size_t lead;
-    // Where the mapping of the file begins: the lead, the words, the tables and the region. Before
+    // Where the mapping of the file begins: the lead, the words, the events and the region. Before
     // the file is mapped, these addresses are reserved for it. NULL if this process has neither.
     char *mapped;
-    uint64_t *words;
+    char *words;
     struct events *events;
-    struct slot *slots;
-    // For each party, its life: LIVES in bb_pool_file.c.
-    uint64_t *lives;
-    // For each bucket, its entry: WORDS in bb_pool_file.c.
-    uint64_t *entries;
-    // How many laps a slot has before it begins again at lap 0.
-    uint32_t laps;
+    // For each slot, its events.
+    struct slot_events *slots;
     // The host's own bytes.
     char *user;
     char *region;
-    bb_shared_pool pool;
+    // The words, as the library uses them.
+    struct file_table table;
     bb_file_party *parties;
-    // For each party, whether this `bb_pool_file` holds its lock.
+    // For each party, whether this `bb_pool_file` holds its lock: it has joined as the party, or
+    // nobody can join as it anymore.
     bool *mine;
     // Whether threads run at the same time, so that one may wait for another by spinning.
     bool is_parallel;
@@ -171,15 +163,8 @@ int pool_file_find_lock(int fd, off_t base, uint32_t *first, uint32_t *end);
 // Releases all locks of the open file. Returns 0 or -1.
 int pool_file_unlock(int fd);
 
-// Returns how many bytes of the tables come before the lives.
-size_t pool_file_bytes_before_lives(const struct header *head);
-
-// Returns how many bytes of the tables come before the entries.
-size_t pool_file_bytes_before_entries(const struct header *head);
-
-// Returns how many bytes of the tables come before the host's own. Without slots there are no
-// entries.
-size_t pool_file_bytes_before_user(const struct header *head);
+// Returns how many bytes come between the row of words and the host's own bytes.
+size_t pool_file_bytes_of_events(const struct header *head);
 
 // Returns whether this process may make a file of that length. If it tried to without being
 // allowed, the system would send a signal.

@@ -28,7 +28,7 @@ enum {
 };
 
 enum {
-    FORMAT = 5,
+    FORMAT = 6,
     MOST_PARTIES = 65535,
     TMPFS = 0x01021994
 };
@@ -96,41 +96,27 @@ static size_t region_align(const struct header *head) {
     return smaller(head->bucket_align, LARGEST_PAGE);
 }
 
-size_t pool_file_bytes_before_lives(const struct header *head) {
-    return sizeof(struct events) + (size_t)head->slots * sizeof(struct slot);
-}
-
-size_t pool_file_bytes_before_entries(const struct header *head) {
-    return pool_file_bytes_before_lives(head) + round_up(head->parties * sizeof(uint64_t), LINE);
-}
-
-size_t pool_file_bytes_before_user(const struct header *head) {
-    const size_t entries = head->slots > 0 ? head->buckets : 0;
-    return pool_file_bytes_before_entries(head) + round_up(entries * sizeof(uint64_t), LINE);
+size_t pool_file_bytes_of_events(const struct header *head) {
+    return sizeof(struct events) + (size_t)head->slots * sizeof(struct slot_events);
 }
 
 // Lays the file out by its header, and returns its length, or 0 if the figures are impossible.
 static size_t lay_out(bb_pool_file *file) {
     const struct header *head = &file->head;
     const size_t region = bb_bytes_for(head->bucket_size, head->bucket_align, head->buckets);
+    const bb_number words = file_words(head->buckets, head->slots, head->parties);
     if (region == 0 || region > SIZE_MAX / 8 || head->bucket_align > SIZE_MAX / 8)
         return 0;
-    if (head->buckets == UINT32_MAX || head->parties == 0 || head->parties > MOST_PARTIES)
+    if (words.code != BB_OK || head->parties == 0 || head->parties > MOST_PARTIES)
         return 0;
     if (head->user_bytes > SIZE_MAX / 8)
         return 0;
-    // Each slot has a number of its own at each lap, after those of the parties: WORDS in
-    // bb_pool_file.c.
-    const uint32_t numbers = UINT32_MAX - head->parties;
-    if (head->slots > numbers)
-        return 0;
-    file->laps = head->slots > 0 ? numbers / head->slots : 0;
-    file->words_size = round_up((WORDS_BEFORE + (size_t)head->buckets) * sizeof(uint64_t), PAGE);
-    const size_t tables = PAGE + file->words_size;
-    const size_t tables_size = pool_file_bytes_before_user(head) + (size_t)head->user_bytes;
-    file->tables_size = round_up(tables + tables_size, region_align(head)) - tables;
+    file->words_size = words.number * sizeof(uint64_t);
+    const size_t events = PAGE + file->words_size;
+    const size_t events_size = pool_file_bytes_of_events(head) + (size_t)head->user_bytes;
+    file->events_size = round_up(events + events_size, region_align(head)) - events;
     file->region_size = round_up(region, PAGE);
-    return tables + file->tables_size + file->region_size;
+    return events + file->events_size + file->region_size;
 }
 
 // MAKING THE FILE

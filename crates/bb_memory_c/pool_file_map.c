@@ -1,9 +1,10 @@
-// Opens and closes a pool in a file (pool_file.h). Each process has its own mapping of the file, a
-// shared pool over it, and a list of all that are open, for forks. This file is outside the proofs.
+// Opens and closes a pool in a file (pool_file.h). Each process has its own mapping of the file, the
+// library's table of its words, and a list of all that are open, for forks. This file is outside
+// the proofs.
 //
-// Each process maps all but the header, at any address, and makes a shared pool of its own: the
-// library is lent memory of this process for the flags' words (memory.h), and then the file is
-// mapped at the addresses of that memory.
+// Each process maps all but the header, at any address, and makes a table of its own: the library
+// is lent memory of this process for the row of words (memory.h), and then the file is mapped at
+// the addresses of that memory.
 //
 // No mapping replaces another one: if the system failed, nobody could say whether it had unmapped
 // the first one, and whether another thread had mapped something there since. So this file unmaps
@@ -22,8 +23,6 @@
 #include <time.h>
 #include <unistd.h>
 
-#include "memory.h"
-
 // Requests that older headers of the C library lack.
 #ifndef MADV_POPULATE_READ
 #define MADV_POPULATE_READ 22
@@ -33,12 +32,12 @@
 #endif
 
 enum {
-    // Of the requests for memory that `bb_shared_pool_init` makes, the second is for a list of
-    // zeros, and the third for the flags' words, which are a copy of that list.
-    ZEROS_REQUEST = 2,
+    // Of the requests for memory that `file_table_init` makes, the first is for a list of zeros, and
+    // the second for the row of words, which is a copy of that list.
+    ZEROS_REQUEST = 1,
     WORDS_REQUESTS = 2,
-    // If the flags' words take more bytes than this, they are at first that many bytes or more,
-    // which are mapped again and again, at most MOST_STAND_INS times.
+    // If the words take more bytes than this, they are at first that many bytes or more, which are
+    // mapped again and again, at most MOST_STAND_INS times.
     STAND_IN = 1 << 18,
     MOST_STAND_INS = 64,
     // The file is mapped at another place if another thread has taken the first one, at most this
@@ -50,11 +49,11 @@ enum {
 
 // Returns how many bytes of memory the system maps for everything that is mapped.
 static size_t mapped_size(const bb_pool_file *file) {
-    const size_t size = file->lead + file->words_size + file->tables_size + file->region_size;
+    const size_t size = file->lead + file->words_size + file->events_size + file->region_size;
     return round_up(size, file->page);
 }
 
-// Returns how many bytes of memory the system maps if it maps no more than the words. Tables and
+// Returns how many bytes of memory the system maps if it maps no more than the words. Events and
 // region may begin in their last page.
 static size_t mapped_for_words(const bb_pool_file *file) {
     return round_up(file->lead + file->words_size, file->page);
@@ -83,7 +82,7 @@ static bool keep_the_middle(char *start, size_t before, size_t size, size_t afte
     return true;
 }
 
-// Reserves addresses for words, tables and region side by side, at which the file can be mapped.
+// Reserves addresses for words, events and region side by side, at which the file can be mapped.
 //
 // A mapping begins at a multiple of the system's page, in memory and in the file. So if the
 // alignment of the buckets is at most that page, the region is aligned in memory as it is in the
@@ -92,7 +91,7 @@ static bool reserve(bb_pool_file *file) {
     file->page = (size_t)sysconf(_SC_PAGESIZE);
     file->lead = PAGE % file->page;
     const size_t size = mapped_size(file);
-    const size_t before = file->lead + file->words_size + file->tables_size;
+    const size_t before = file->lead + file->words_size + file->events_size;
     const size_t align = file->head.bucket_align;
     const size_t more = align > file->page ? align : 0;
     char *reserved =
@@ -104,15 +103,12 @@ static bool reserve(bb_pool_file *file) {
     if (!keep_the_middle(reserved, skipped, size, more - skipped))
         return false;
     file->mapped = reserved + skipped;
-    char *words = file->mapped + file->lead;
-    char *tables = words + file->words_size;
-    file->words = (uint64_t *)(void *)words;
-    file->events = (struct events *)(void *)tables;
-    file->slots = (struct slot *)(void *)(tables + sizeof(struct events));
-    file->lives = (uint64_t *)(void *)(tables + pool_file_bytes_before_lives(&file->head));
-    file->entries = (uint64_t *)(void *)(tables + pool_file_bytes_before_entries(&file->head));
-    file->user = tables + pool_file_bytes_before_user(&file->head);
-    file->region = tables + file->tables_size;
+    file->words = file->mapped + file->lead;
+    char *events = file->words + file->words_size;
+    file->events = (struct events *)(void *)events;
+    file->slots = (struct slot_events *)(void *)(events + sizeof(struct events));
+    file->user = events + pool_file_bytes_of_events(&file->head);
+    file->region = events + file->events_size;
     return true;
 }
 
@@ -173,7 +169,7 @@ static bool map_again_and_again(bb_pool_file *file) {
 }
 
 // Reserves the file's addresses, and maps memory for the words, for as long as the library makes
-// its pool, which fills them with zeros.
+// its table, which fills them with zeros.
 static bool map_stand_ins(bb_pool_file *file) {
     if (!reserve(file))
         return false;
@@ -184,27 +180,27 @@ static bool map_stand_ins(bb_pool_file *file) {
     return mprotect(file->mapped, mapped_for_words(file), PROT_READ | PROT_WRITE) == 0;
 }
 
-// Makes this process's pool over the words, which so far are the stand-ins. The library uses them
-// for its list of zeros and for the copy of that list: it writes nothing but zeros to either.
-static uint32_t make_pool(bb_pool_file *file) {
+// Makes this process's table of the words, which so far are the stand-ins. The library uses them for
+// its list of zeros and for the copy of that list: it writes nothing but zeros to either.
+static uint32_t make_table(bb_pool_file *file) {
     const struct header *head = &file->head;
-    const size_t words_size = (WORDS_BEFORE + (size_t)head->buckets) * sizeof(uint64_t);
     const size_t size = BB_BYTES_FOR(head->bucket_size, head->bucket_align, head->buckets);
-    memory_lend(file->words, words_size, ZEROS_REQUEST, WORDS_REQUESTS);
-    const uint32_t code = bb_shared_pool_init(&file->pool, head->bucket_size, head->bucket_align,
-                                              file->region, size, head->parties + 1);
+    memory_lend(file->words, file->words_size, ZEROS_REQUEST, WORDS_REQUESTS);
+    const uint32_t code =
+        file_table_init(&file->table, head->bucket_size, head->bucket_align, file->region, size,
+                        head->buckets, head->slots, head->parties);
     const bool is_kept = memory_end_loan();
     if (code != BB_OK)
         return code;
     return is_kept ? BB_OK : BB_FILE_VERSION;
 }
 
-// Makes the pool, and maps words, tables and region at one place: TAKEN if another thread has
+// Makes the table, and maps words, events and region at one place: TAKEN if another thread has
 // mapped something there. A forked child has nothing of the mapping: its copy would keep the locks.
 static uint32_t map_once(bb_pool_file *file) {
     if (!map_stand_ins(file))
         return BB_FILE_SYSTEM;
-    const uint32_t code = make_pool(file);
+    const uint32_t code = make_table(file);
     if (code != BB_OK)
         return code;
     const size_t size = mapped_size(file);
@@ -219,24 +215,24 @@ static uint32_t map_once(bb_pool_file *file) {
     return madvise(place, size, MADV_DONTFORK) == 0 ? BB_OK : BB_FILE_SYSTEM;
 }
 
-// Frees the pool of this process. The library doesn't touch the words here, which are no longer
+// Frees the table of this process. The library doesn't touch the words here, which are no longer
 // mapped: a call that did would crash, or change what another thread has mapped there since.
-static void free_pool(bb_pool_file *file) {
+static void free_table(bb_pool_file *file) {
     if (file->words == NULL)
         return;
     memory_lend(file->words, 0, 1, 0);
-    bb_shared_pool_abandon(&file->pool);
+    file_table_abandon(&file->table);
     memory_end_loan();
     file->words = NULL;
 }
 
-// Maps words, tables and region, and makes the pool.
+// Maps words, events and region, and makes the table.
 static uint32_t map_all(bb_pool_file *file) {
     for (int places = 0; places < MOST_PLACES; places++) {
         const uint32_t code = map_once(file);
         if (code != TAKEN)
             return code;
-        free_pool(file);
+        free_table(file);
     }
     errno = EAGAIN;
     return BB_FILE_SYSTEM;
@@ -300,7 +296,7 @@ static void begin(void) {
 static bool drop(bb_pool_file *file) {
     bool is_dropped = unmap(file);
     int error = errno;
-    free_pool(file);
+    free_table(file);
     // A mapping that is left, or a copy of the descriptor, would keep the locks.
     if (!file->is_copy && pool_file_unlock(file->fd) != 0) {
         if (is_dropped)

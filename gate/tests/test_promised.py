@@ -55,6 +55,16 @@ class Lacks(unittest.TestCase):
             mutant = f"{line}\n# refused by: cases\n"
             self.assertEqual(found_in({**header, MUTANT_PATH: mutant}), [])
 
+    def test_function_of_pools_in_files_that_the_library_exports(self) -> None:
+        changes = {
+            promised.POOL_FILE_HEADER: functions("bb_file_party_take"),
+            "crates/bb_memory_c/src/file.rt": 'pub extern "C" fn bb_file_party_take(\n',
+            MUTANT_PATH: "# function: bb_file_party_take\n# refused by: cases\n",
+        }
+        self.finds(found_in(changes), "no mutant of bb_file_party_take", "WHAT.edit")
+        edit = f"# promise: bb_file_party_take: answer\n{EDIT}"
+        self.assertEqual(found_in({**changes, EDIT_PATH: edit}), [])
+
     def test_function_whose_edit_is_deleted(self) -> None:
         changes = promises("| It counts | `Pool::count`: `value` |")
         self.assertEqual(found_in(changes), [])

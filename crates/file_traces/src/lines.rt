@@ -150,9 +150,8 @@ pub fn read_figures(text: &[u8]) -> Option<Figures> {
     }
 }
 
-/// Parses a line after the first, of a trace with these figures. Returns `None` if the line is
-/// unreadable.
-pub fn read_line(text: &[u8], figures: Figures) -> Option<Line> {
+/// Parses a line after the first. Returns `None` if the line is unreadable.
+pub fn read_line(text: &[u8]) -> Option<Line> {
     let (name, numbers) = words(text)?;
     let (process, event) = match numbers {
         Numbers::One(process) => (process, event_of_one(name)?),
@@ -160,7 +159,7 @@ pub fn read_line(text: &[u8], figures: Figures) -> Option<Line> {
         Numbers::Three(process, a, b) => (process, event_of_three(name, to_u32(a)?, to_u32(b)?)?),
         Numbers::Four(process, a, from, to) => (
             process,
-            event_of_four(name, to_u32(a)?, from, to, figures)?,
+            event_of_four(name, to_u32(a)?, from, to)?,
         ),
         Numbers::Five(process, party, slot, bucket, length) if is_word(name, b"post") => {
             let call = Call::Post {
@@ -258,19 +257,12 @@ fn event_of_three(name: &[u8], party: u32, number: u32) -> Option<Event> {
 }
 
 /// Returns the event of a line with the change of a flag, an entry, a slot or a life.
-fn event_of_four(
-    name: &[u8],
-    number: u32,
-    from: usize,
-    to: usize,
-    figures: Figures,
-) -> Option<Event> {
-    let Figures { parties, slots, .. } = figures;
+fn event_of_four(name: &[u8], number: u32, from: usize, to: usize) -> Option<Event> {
     if is_word(name, b"flag") {
         let change = Change::Flag {
             bucket: number,
-            from: flag_of(from, parties, slots)?,
-            to: flag_of(to, parties, slots)?,
+            from: flag_of(from)?,
+            to: flag_of(to)?,
         };
         Some(Event::Changes(change))
     } else if is_word(name, b"entry") {

@@ -34,7 +34,7 @@ pub fn end_of(alloc: Global, input: &[u8]) -> End {
     let mut left = rest;
     while let Some((text, rest)) = first_line(left) {
         number += 1;
-        let Some(line) = read_line(text, figures) else {
+        let Some(line) = read_line(text) else {
             return End::Unreadable(number);
         };
         if let Err(difference) = replay.follow(line) {

@@ -1,34 +1,27 @@
-//! The table of the file's words: which flag, entry or slot of the machine each word is. No proof
-//! ties the file to the machine, so this table is trusted.
+//! The table of the file's words: which flag, entry or slot of the machine each word is. It is
+//! trusted: it was written by the format, and not by the code that makes the words.
 
 use bb_memory_file_machine::steps::{Entry, FileFlag, Slot};
 use scripts::words::to_u32;
 
-/// Returns the flag that a word encodes, in a file with that many parties and slots: 0 is free,
-/// 2n + 1 is held by party n, and 2n + 2 is detached by number n.
-///
-/// The numbers from `parties` on are no party's. Number `parties + slot + slots * lap` stands for a
-/// slot and a lap: the bucket is sent there. Returns `None` if n doesn't fit into 32 bits, or if it
-/// stands for neither a party nor a slot.
-pub fn flag_of(word: usize, parties: u32, slots: u32) -> Option<FileFlag> {
+/// Returns the flag that a word encodes: 0 is free. Otherwise the two lowest bits are the kind, and the
+/// others a number n: with kind 1 the bucket is held by party n, with kind 2 party n has detached it.
+/// With kind 3 it is sent: the low 32 bits of n are the slot, and the others the lap. Returns `None` if
+/// the kind is 0, or if a party's number doesn't fit into 32 bits.
+pub fn flag_of(word: usize) -> Option<FileFlag> {
     if word == 0 {
         return Some(FileFlag::Free);
     }
-    let number = to_u32((word - 1) / 2)?;
-    if word % 2 == 1 {
-        return Some(FileFlag::HeldBy(number));
+    let number = word >> 2;
+    match word & 3 {
+        1 => Some(FileFlag::HeldBy(to_u32(number)?)),
+        2 => Some(FileFlag::DetachedBy(to_u32(number)?)),
+        3 => Some(FileFlag::SentTo {
+            slot: to_u32(number & 0xffff_ffff)?,
+            lap: to_u32(number >> 32)?,
+        }),
+        _ => None,
     }
-    if number < parties {
-        return Some(FileFlag::DetachedBy(number));
-    }
-    if slots == 0 {
-        return None;
-    }
-    let sent = number - parties;
-    Some(FileFlag::SentTo {
-        slot: sent % slots,
-        lap: sent / slots,
-    })
 }
 
 /// Returns the entry that a word encodes: 0 is in no slot. Otherwise the high 32 bits are the

@@ -33,10 +33,13 @@
 
 enum {
     PAGE = 4096,
-    // The first slot's word, in the file of OPTIONS: after the header, a page of words, and the
-    // line of events. After the slots, and a line of lives, comes the first bucket's entry.
-    FIRST_SLOT = 2 * PAGE + 128,
-    FIRST_ENTRY = FIRST_SLOT + 4 * 128 + 128,
+    // Where the file of OPTIONS has its first words, which begin at multiples of 128: after the
+    // header come 16 words, the flags of 20 buckets, the lives of 6 parties, the entries of the
+    // buckets, and the slots.
+    FIRST_FLAG = PAGE + 128,
+    FIRST_LIFE = FIRST_FLAG + 256,
+    FIRST_ENTRY = FIRST_LIFE + 128,
+    FIRST_SLOT = FIRST_ENTRY + 256,
     // The file's state, and the machine's boot when it was made.
     STATE = 12,
     BOOT = 48,
@@ -123,7 +126,7 @@ int fdatasync(int fd) {
     char header[PAGE] = "";
     const ssize_t length = pread(fd, header, sizeof header, 0);
     EXPECT(length > 16 && length < PAGE && memcmp(header, "bbpool\r\n", 8) == 0);
-    EXPECT(header[8] == 5 && memcmp(header + 9, "\0\0\0\1", 4) == 0);
+    EXPECT(header[8] == 6 && memcmp(header + 9, "\0\0\0\1", 4) == 0);
     synced++;
     errno = syncing_error;
     return syncing_error == 0 ? 0 : -1;
@@ -414,7 +417,7 @@ static void impossible_options(void) {
         {8, (size_t)1 << 62, 1, 6, 4, 0, 0},
         {100, 8, 20, 6, 4, 0, SIZE_MAX},
         {100, 8, 20, 6, 4, 0, SIZE_MAX / 8 + 1},
-        {100, 8, 20, 6, UINT32_MAX - 5, 0, 0},
+        {100, 8, 20, 6, UINT32_MAX, 0, 0},
         {100, 8, 20, 65535, UINT32_MAX, 0, 0},
     };
     for (size_t at = 0; at < sizeof impossible / sizeof *impossible; at++) {
@@ -463,7 +466,7 @@ static void wrong_files(void) {
     foreign_file(bytes, sizeof bytes, BB_FILE_FOREIGN);
     memcpy(bytes, "bbpool\n\n", 8);
     foreign_file(bytes, sizeof bytes, BB_FILE_FOREIGN);
-    for (char older = 1; older < 5; older++) {  // the formats of 3.0.0 to 4.0.0
+    for (char older = 1; older < 6; older++) {  // the formats before this one
         memcpy(bytes, "bbpool\r\n", 8);
         bytes[8] = older;
         foreign_file(bytes, sizeof bytes, BB_FILE_VERSION);
@@ -474,9 +477,9 @@ static void wrong_files(void) {
         foreign_file(bytes, 15, BB_FILE_FOREIGN);
         bytes[STATE] = 0;
     }
-    memcpy(bytes, "bbpool\r\n\5\0\0\0\3", 13);  // state 3
+    memcpy(bytes, "bbpool\r\n\6\0\0\0\3", 13);  // state 3
     foreign_file(bytes, sizeof bytes, BB_FILE_FOREIGN);
-    memcpy(bytes, "bbpool\r\n\5\0\0\0\2", 13);  // ready, with no buckets
+    memcpy(bytes, "bbpool\r\n\6\0\0\0\2", 13);  // ready, with no buckets
     write_file(path, bytes, sizeof bytes, 0);
     EXPECT(code_of(path, NULL) == BB_FILE_DAMAGED && code_of(path, &OPTIONS) == BB_FILE_MISMATCH);
     remove_it();
@@ -489,7 +492,7 @@ static void wrong_files(void) {
     write_file(path, "\1", 1, STATE);
     EXPECT(truncate(path, 16) == 0 && code_of(path, NULL) == BB_FILE_STALE);
     EXPECT(code_of(path, &OPTIONS) == BB_OK && code_of(path, NULL) == BB_OK);
-    write_file(path, "\6", 1, 8);  // a later format
+    write_file(path, "\7", 1, 8);  // a later format
     EXPECT(code_of(path, NULL) == BB_FILE_VERSION && code_of(path, &OPTIONS) == BB_FILE_VERSION);
     remove_it();
     impossible_options();
@@ -511,7 +514,7 @@ static void full(void) {
     EXPECT(fails_with(ENOSPC, path, &large) && requested == 0);
     EXPECT(stat(path, &stat_of) == 0 && stat_of.st_size == 0 && stat_of.st_blocks == 0);
     remove_it();
-    large.slots = UINT32_MAX - large.parties;  // as many as there can be
+    large.slots = UINT32_MAX - 1;  // as many as there can be
     EXPECT(fails_with(ENOSPC, path, &large) && requested == 0);
     large.slots = OPTIONS.slots;
     remove_it();
@@ -918,7 +921,7 @@ static void layouts(void) {
     }
     for (size_t align = 1; align <= (size_t)1 << 22; align *= 2) {
         aligned(align, 1);
-        for (uint32_t slots = 64; slots < 256 && align <= 1 << 16; slots += 64)
+        for (uint32_t slots = 16; slots < 64 && align <= 1 << 16; slots += 16)
             aligned(align, slots);
     }
 }
@@ -931,16 +934,17 @@ static off_t length_of(const bb_pool_file_options *options) {
     return stat_of.st_size;
 }
 
-// The buckets have entries of 8 bytes, but none if there are no slots. The rest of this file is a
-// page for the header, 4 for the flags, and 4 for the buckets.
+// The row of words has 16 words, 2000 flags, 16 words for a life, 2000 entries, and 16 words for each
+// slot. After it come 128 bytes of events, and 128 more for each slot. So these take 32384 bytes, and
+// 256 more for each slot. The rest of the file is a page for the header, and 4 for the buckets.
 static void lengths(void) {
     bb_pool_file_options options = {
         .bucket_size = 8, .bucket_align = 8, .buckets = 2000, .parties = 1, .slots = 0};
-    EXPECT(length_of(&options) == (1 + 4 + 1 + 4) * PAGE);
+    EXPECT(length_of(&options) == (1 + 8 + 4) * PAGE);
     options.slots = 1;
-    EXPECT(length_of(&options) == (1 + 4 + 4 + 4) * PAGE);
+    EXPECT(length_of(&options) == (1 + 8 + 4) * PAGE);
     options.slots = 2;
-    EXPECT(length_of(&options) == (1 + 4 + 5 + 4) * PAGE);
+    EXPECT(length_of(&options) == (1 + 9 + 4) * PAGE);
 }
 
 static size_t memory_requests;
@@ -987,7 +991,7 @@ static void refused_memory(void) {
         code = bb_pool_file_open(&file, path, &OPTIONS);
         EXPECT(code == BB_OK || (code == BB_MALLOC_REFUSED && blocks == 0));
     }
-    EXPECT(to_refuse > 3);
+    EXPECT(to_refuse > 2);
     const size_t opened = blocks;
     code = BB_MALLOC_REFUSED;
     for (to_refuse = 1; code != BB_OK; to_refuse++) {
@@ -1002,13 +1006,18 @@ static void refused_memory(void) {
     end_killed(dying);
     memory_requests = 0;
     EXPECT(reap(file, BB_REAP_HELD) == 2 && memory_requests == 0);
-    // A join that fails has freed what the dead party held.
+    // A join that fails keeps no lock, and frees what the dead party held, or nothing.
     const pid_t second = holder(2);
     end_killed(second);
-    to_refuse = 1;
-    EXPECT(bb_pool_file_join(file, &party) == BB_MALLOC_REFUSED);
+    code = BB_MALLOC_REFUSED;
+    for (to_refuse = 1; code != BB_OK; to_refuse++) {
+        memory_requests = 0;
+        code = bb_pool_file_join(file, &party);
+        EXPECT(code == BB_OK || (code == BB_MALLOC_REFUSED && info_of(file).alive == 1));
+        EXPECT(info_of(file).held == 0 || (code != BB_OK && info_of(file).lost == 2));
+    }
     to_refuse = 0;
-    EXPECT(info_of(file).held == 0 && info_of(file).alive == 1);
+    EXPECT(number_of(party) == 1 && info_of(file).alive == 2);
     close_it(file);
     EXPECT(blocks == 0);
     bb_use_memory(allocate_plainly, release_plainly, NULL);
@@ -1059,7 +1068,7 @@ static uint32_t opened_beside_others(const bb_pool_file_options *options) {
 // frees all that it had.
 static void addresses(void) {
     const bb_pool_file_options many_buckets = {
-        .bucket_size = 1, .bucket_align = 1, .buckets = 100000, .parties = 3, .slots = 0};
+        .bucket_size = 1, .bucket_align = 1, .buckets = 50000, .parties = 3, .slots = 0};
     bb_pool_file *file;
     bb_use_memory(allocate, release, &blocks);
     EXPECT(opened_beside_others(&OPTIONS) == 0 && opened_beside_others(&many_buckets) == 0);
@@ -1090,7 +1099,7 @@ static void addresses(void) {
         EXPECT(bb_pool_file_open(&file, path, NULL) == BB_FILE_SYSTEM && errno == EAGAIN);
         intruded_mmap = 0;
         intrudes_on = false;
-        // Each of these places has three pages, and `malloc` may keep some of its own.
+        // Each of these places has two pages, and `malloc` may keep some of its own.
         EXPECT(unmap_others() == 100 && mapped_pages() < before + 100 && blocks == 0);
         remove_it();
     }
@@ -1117,7 +1126,7 @@ static bool maps_at_once(void) {
 // few. It has fewer page faults than half of the flags' pages, if the system makes a file in
 // memory.
 static void many(bool again) {
-    const uint32_t numbers[] = {1000, 32760, 32761, 100000, 2200000};
+    const uint32_t numbers[] = {1000, 16352, 16353, 100000, 2200000};
     size_t few = 0;
     memfd_error = again ? 0 : EMFILE;
     bb_use_memory(allocate, release, &blocks);
@@ -1425,9 +1434,8 @@ static void slots(void) {
     EXPECT(bb_pool_file_done(two, a, 4) == BB_INVALID_ARGUMENT);
     const bb_message seen = bb_pool_file_look(two, 0);
     EXPECT(seen.code == BB_OK && seen.len == 6);
-    // A message in slot 0 is detached by the number after the parties'.
     EXPECT(bb_pool_file_holder(two, seen.number, &flag) == BB_OK);
-    EXPECT(flag.state == BB_DETACHED && flag.party == 6 && info_of(two).wrong == 0);
+    EXPECT(flag.state == BB_SENT && flag.party == 0 && info_of(two).wrong == 0);
     EXPECT(bb_pool_file_holder(two, 20, &flag) == BB_NOT_A_BUCKET);
     const bb_message got = bb_pool_file_take(two, a, 0);
     EXPECT(got.code == BB_OK && got.len == 6 && strcmp(got.place, "hello") == 0);
@@ -1438,7 +1446,7 @@ static void slots(void) {
     EXPECT(bb_pool_file_done(two, b, 0) == BB_NOT_HELD);
     EXPECT(bb_pool_file_detach(two, a, got.place).number == got.number);  // it is put back
     EXPECT(bb_pool_file_holder(two, got.number, &flag) == BB_OK);
-    EXPECT(flag.state == BB_DETACHED && flag.party == 6);
+    EXPECT(flag.state == BB_SENT && flag.party == 0);
     const bb_message again = bb_pool_file_take(two, b, 0);
     EXPECT(again.code == BB_OK && again.len == 6 && again.number == got.number);
     EXPECT(bb_pool_file_leave(two, b) == BB_OK);  // this puts it back, too
@@ -1446,16 +1454,15 @@ static void slots(void) {
     EXPECT(bb_pool_file_take(one, sender, 0).len == 6);
     EXPECT(bb_pool_file_done(one, sender, 0) == BB_OK);
     EXPECT(bb_pool_file_done(one, sender, 0) == BB_NOT_HELD);
-    // At the slot's next lap, the number is another one. So it is in other slots.
     EXPECT(bb_pool_file_post(one, sender, 0, bucket, 0) == BB_OK);
     EXPECT(bb_pool_file_holder(two, seen.number, &flag) == BB_OK);
-    EXPECT(flag.state == BB_DETACHED && flag.party == 10);
+    EXPECT(flag.state == BB_SENT && flag.party == 0);
     const bb_message empty = bb_pool_file_take(one, sender, 0);
     EXPECT(empty.code == BB_OK && empty.len == 0 && empty.place == bucket);
     EXPECT(bb_pool_file_done(one, sender, 0) == BB_OK);
     EXPECT(bb_pool_file_post(one, sender, 3, bucket, 100) == BB_OK);
     EXPECT(bb_pool_file_holder(two, seen.number, &flag) == BB_OK);
-    EXPECT(flag.state == BB_DETACHED && flag.party == 9 && info_of(two).wrong == 0);
+    EXPECT(flag.state == BB_SENT && flag.party == 3 && info_of(two).wrong == 0);
     EXPECT(bb_pool_file_take(one, sender, 0).code == BB_DETACHED_EMPTY);
     EXPECT(bb_pool_file_look(one, 3).len == 100 && bb_pool_file_take(one, sender, 3).len == 100);
     EXPECT(bb_pool_file_done(one, sender, 3) == BB_OK);
@@ -1464,6 +1471,30 @@ static void slots(void) {
     EXPECT(figures.held == 0 && figures.detached == 0 && figures.full_slots == 0);
     close_it(one);
     close_it(two);
+    remove_it();
+}
+
+// A call with a party of another `bb_pool_file` does nothing, even if both have the same file open.
+static void others_parties(void) {
+    bb_pool_file *file = open_it();
+    bb_pool_file *other = open_it();
+    bb_file_party *party = join_it(file);
+    const bb_place place = take_one(party);
+    EXPECT(bb_pool_file_post(other, party, 0, place, 1) == BB_UNINITIALIZED);
+    EXPECT(bb_pool_file_detach(other, party, place).code == BB_UNINITIALIZED);
+    EXPECT(bb_pool_file_leave(other, party) == BB_UNINITIALIZED);
+    EXPECT(bb_pool_file_give_all_back(other, party) == BB_UNINITIALIZED);
+    EXPECT(bb_pool_file_post(file, party, 0, place, 1) == BB_OK);
+    EXPECT(bb_pool_file_take(other, party, 0).code == BB_UNINITIALIZED);
+    EXPECT(bb_pool_file_take(file, party, 0).code == BB_OK);
+    EXPECT(bb_pool_file_done(other, party, 0) == BB_UNINITIALIZED);
+    EXPECT(bb_pool_file_done(file, party, 0) == BB_OK);
+    const bb_number detached = bb_pool_file_detach(file, party, place);
+    EXPECT(detached.code == BB_OK);
+    EXPECT(bb_pool_file_attach(other, party, (uint32_t)detached.number).code == BB_UNINITIALIZED);
+    EXPECT(bb_pool_file_attach(file, party, (uint32_t)detached.number).place == place);
+    close_it(other);
+    close_it(file);
     remove_it();
 }
 
@@ -1675,8 +1706,9 @@ static void looks_at_no_entry(void) {
     requested = 0;
     EXPECT(bb_pool_file_open(&file, path, &options) == BB_OK);
     bb_file_party *party = join_it(file);
-    // The bytes of the host come right after the entries. The pages in between are whole.
-    char *const first = (char *)bb_pool_file_user(file) - 100000 * sizeof(uint64_t);
+    // The bytes of the host come after the entries, the slot, and the events of the file and of the
+    // slot. The pages in between are whole.
+    char *const first = (char *)bb_pool_file_user(file) - 3 * 128 - 100000 * sizeof(uint64_t);
     char *const from = first + (page - (uintptr_t)first % page) % page;
     const size_t size = 90000 * sizeof(uint64_t) / page * page;
     bb_place *places = calloc(100000, sizeof *places);
@@ -1724,12 +1756,21 @@ static void set_word(int fd, off_t at, uint64_t word) {
     EXPECT(pwrite(fd, &word, sizeof word, at) == sizeof word);
 }
 
+static off_t flag_at(uint32_t bucket) {
+    return FIRST_FLAG + 8 * (off_t)bucket;
+}
+
 static off_t slot_at(uint32_t slot) {
     return FIRST_SLOT + 128 * (off_t)slot;
 }
 
 static off_t entry_at(uint32_t bucket) {
     return FIRST_ENTRY + 8 * (off_t)bucket;
+}
+
+// Returns the word of the flag of a bucket that is sent to this slot at this lap.
+static uint64_t sent_to(uint32_t slot, uint32_t lap) {
+    return ((uint64_t)lap << 34) + 4 * (uint64_t)slot + 3;
 }
 
 // Starts a child that takes a bucket and dies. Returns the bucket's number.
@@ -1763,7 +1804,8 @@ static void half_done(void) {
     EXPECT(bb_pool_file_wait_full(file, 1, 0) == BB_FILE_TIMED_OUT);
     EXPECT(reap(file, BB_REAP_HELD) == 0 && bb_pool_file_look(file, 1).len == 7);
     EXPECT(bb_pool_file_holder(file, number, &flag) == BB_OK);
-    EXPECT(flag.state == BB_DETACHED && flag.party == 6 + 1 + 4 * 5);
+    EXPECT(flag.state == BB_SENT && flag.party == 1);
+    EXPECT(word_at(fd, flag_at(number)) == sent_to(1, 5));
     EXPECT(bb_pool_file_wait_full(file, 1, 0) == BB_OK);
     // The slot has another message.
     const uint32_t other = held_by_the_dead(file);
@@ -1827,27 +1869,24 @@ static void stale_takes(void) {
     remove_it();
 }
 
-// The laps of 4 slots, with 6 parties: after the last one, 1073741821, comes lap 0. A later one is
-// a wrong value, and counts as lap 0.
+// After the last lap of a slot, 2^30 - 1, comes lap 0. With a later one, which is a wrong value, no
+// message can be posted.
 static void laps(void) {
-    const uint32_t last = 1073741821;
+    const uint32_t last = ((uint32_t)1 << 30) - 1;
     bb_pool_file *file = open_it();
     bb_file_party *party = join_it(file);
-    bb_holder flag;
     const int fd = open(path, O_RDWR | O_CLOEXEC);
     EXPECT(fd >= 0);
     bb_place place = take_one(party);
     const uint32_t number = (uint32_t)bb_file_party_number_at(party, place).number;
-    const uint32_t first[] = {last, last + 1, UINT32_MAX, 0};
-    const uint32_t sent_by[] = {4294967293, 9, 9, 9};
-    const uint32_t next[] = {0, 1, 1, 1};
-    for (int at = 0; at < 4; at++) {
+    const uint32_t first[] = {last, 0};
+    const uint32_t next[] = {0, 1};
+    for (int at = 0; at < 2; at++) {
         set_word(fd, slot_at(3), (uint64_t)first[at] << 32);
         EXPECT(bb_pool_file_look(file, 3).code == BB_DETACHED_EMPTY);
         EXPECT(bb_pool_file_wait_empty(file, 3, 0) == BB_OK && info_of(file).full_slots == 0);
         EXPECT(bb_pool_file_post(file, party, 3, place, 8) == BB_OK);
-        EXPECT(bb_pool_file_holder(file, number, &flag) == BB_OK);
-        EXPECT(flag.state == BB_DETACHED && flag.party == sent_by[at]);
+        EXPECT(word_at(fd, flag_at(number)) == sent_to(3, first[at]));
         EXPECT(info_of(file).wrong == 0 && bb_pool_file_look(file, 3).len == 8);
         EXPECT(bb_pool_file_take(file, party, 3).len == 8);
         EXPECT(bb_pool_file_detach(file, party, place).number == number);
@@ -1855,11 +1894,71 @@ static void laps(void) {
         EXPECT(bb_pool_file_done(file, party, 3) == BB_OK);
         EXPECT(word_at(fd, slot_at(3)) == (uint64_t)next[at] << 32);
     }
-    // The number after the last slot's last one is none of the file's.
-    set_word(fd, PAGE + 8 * (16 + (off_t)number), 2 * (uint64_t)4294967293 + 2);
-    EXPECT(info_of(file).wrong == 0 && info_of(file).detached == 1);
-    set_word(fd, PAGE + 8 * (16 + (off_t)number), 2 * (uint64_t)4294967294 + 2);
-    EXPECT(info_of(file).wrong == 1 && info_of(file).detached == 0);
+    set_word(fd, slot_at(3), (uint64_t)(last + 1) << 32);
+    EXPECT(bb_pool_file_post(file, party, 3, place, 8) == BB_DETACHED_FULL && holds(party, place));
+    close_it(file);
+    close(fd);
+    remove_it();
+}
+
+// Nobody joins as a number whose life can't become greater, or reaps it: whoever has tried to keeps
+// the number's lock. A process joins as another number, and the buckets of this one stay held.
+static void last_lives(void) {
+    bb_pool_file *file = open_it();
+    bb_pool_file *other = open_it();
+    const int fd = open(path, O_RDWR | O_CLOEXEC);
+    EXPECT(fd >= 0);
+    end_killed(holder(2));
+    EXPECT(info_of(file).lost == 2);
+    set_word(fd, FIRST_LIFE, UINT64_MAX - 2);
+    EXPECT(number_of(join_it(file)) == 1);
+    EXPECT(info_of(file).held == 2 && info_of(file).alive == 2 && info_of(other).alive == 2);
+    EXPECT(number_of(join_it(file)) == 2 && number_of(join_it(other)) == 3);
+    EXPECT(reap(file, BB_REAP_DEAD) == 0 && reap(other, BB_REAP_DEAD) == 0);
+    close_it(file);
+    EXPECT(info_of(other).lost == 2 && info_of(other).alive == 1);
+    EXPECT(reap(other, BB_REAP_DEAD) == 0 && life_of(other, 0) == UINT64_MAX - 2);
+    EXPECT(info_of(other).held == 2 && info_of(other).alive == 2);
+    EXPECT(number_of(join_it(other)) == 1);
+    close_it(other);
+    // This is the last life that becomes greater, up to the greatest that no process has.
+    set_word(fd, FIRST_LIFE, UINT64_MAX - 4);
+    file = open_it();
+    bb_file_party *party = join_it(file);
+    EXPECT(number_of(party) == 0 && life_of(file, 0) == UINT64_MAX - 2);
+    EXPECT(info_of(file).held == 0 && bb_pool_file_leave(file, party) == BB_OK);
+    EXPECT(life_of(file, 0) == UINT64_MAX - 1 && number_of(join_it(file)) == 1);
+    close_it(file);
+    close(fd);
+    remove_it();
+}
+
+// What flags say: a flag with a wrong value is counted, and leads to no access outside.
+static void flags(void) {
+    const uint32_t last = ((uint32_t)1 << 30) - 1;
+    const uint64_t large = (uint64_t)1 << 34;
+    // Held and detached by party 5, and sent to slot 3. Then what no call writes: a number that is
+    // no party's or no slot's, or too large, and words that say none of these.
+    const uint64_t words[] = {21,         22, sent_to(3, last), 25, 26, sent_to(4, 0), large + 21,
+                              large + 22, 4,  UINT64_MAX - 3};
+    const uint32_t states[] = {BB_HELD, BB_DETACHED, BB_SENT, BB_HELD, BB_DETACHED,
+                               BB_SENT, BB_SENT,     BB_SENT, BB_SENT, BB_SENT};
+    const uint32_t by[] = {5, 5, 3, 6, 6, 4, UINT32_MAX, UINT32_MAX, UINT32_MAX, UINT32_MAX};
+    bb_pool_file *file = open_it();
+    const int fd = open(path, O_RDWR | O_CLOEXEC);
+    bb_holder flag;
+    EXPECT(fd >= 0);
+    for (uint32_t at = 0; at < 10; at++) {
+        set_word(fd, flag_at(at), words[at]);
+        EXPECT(bb_pool_file_holder(file, at, &flag) == BB_OK);
+        EXPECT(flag.state == states[at] && flag.party == by[at]);
+        const bb_pool_file_figures figures = info_of(file);
+        EXPECT(figures.held == 1 && figures.lost == 1);
+        EXPECT(figures.detached == (at < 2 ? at : 2) && figures.wrong == (at < 3 ? 0 : at - 2));
+    }
+    // A reap frees what party 5 held, and what it had detached, and nothing else.
+    EXPECT(reap(file, BB_REAP_DEAD | BB_REAP_LEFT) == 2);
+    EXPECT(info_of(file).detached == 1 && info_of(file).wrong == 7);
     close_it(file);
     close(fd);
     remove_it();
@@ -1867,31 +1966,42 @@ static void laps(void) {
 
 // Entries with wrong values lead to no access outside, and a message that can't be is not received.
 static void wrong_entries(void) {
+    const uint32_t slots_of_others[] = {1, 4, UINT32_MAX - 1};
     bb_pool_file *file = open_it();
     bb_file_party *party = join_it(file);
-    bb_holder flag;
     const int fd = open(path, O_RDWR | O_CLOEXEC);
     EXPECT(fd >= 0 && bb_pool_file_post(file, party, 0, take_one(party), 5) == BB_OK);
     const uint32_t number = bb_pool_file_look(file, 0).number;
     const uint64_t right = word_at(fd, entry_at(number));
     EXPECT(right == ((uint64_t)5 << 32 | 1));
-    set_word(fd, entry_at(number), (uint64_t)101 << 32 | 1);  // longer than a bucket
-    EXPECT(bb_pool_file_look(file, 0).code == BB_NOT_A_BUCKET);
-    EXPECT(bb_pool_file_take(file, party, 0).code == BB_NOT_A_BUCKET && held_by(party) == 0);
-    EXPECT(bb_pool_file_holder(file, number, &flag) == BB_OK);
-    EXPECT(flag.state == BB_DETACHED && flag.party == 6);  // it is sent as before
-    set_word(fd, entry_at(number), right);
-    const bb_message message = bb_pool_file_take(file, party, 0);
-    EXPECT(message.code == BB_OK && message.len == 5);
-    const uint32_t slots_of_others[] = {1, 4, UINT32_MAX - 1};
-    for (int at = 0; at < 3; at++) {
-        set_word(fd, entry_at(number), (uint64_t)5 << 32 | (slots_of_others[at] + 1));
-        EXPECT(bb_pool_file_detach(file, party, message.place).code == BB_NOT_A_BUCKET);
-        EXPECT(bb_file_party_deallocate(party, message.place) == BB_FILE_NOT_DONE);
-        EXPECT(held_by(party) == 1);
+    // The length is greater than a bucket's, or the entry names no slot, or another one.
+    const uint64_t wrong[] = {(uint64_t)101 << 32 | 1, 0, (uint64_t)5 << 32 | 2,
+                              (uint64_t)5 << 32 | 5};
+    for (int at = 0; at < 4; at++) {
+        set_word(fd, entry_at(number), wrong[at]);
+        EXPECT(bb_pool_file_look(file, 0).code == BB_NOT_A_BUCKET);
+        EXPECT(bb_pool_file_take(file, party, 0).code == BB_NOT_A_BUCKET && held_by(party) == 0);
+        EXPECT(word_at(fd, flag_at(number)) == sent_to(0, 0));  // it is sent as before
     }
+    set_word(fd, entry_at(number), right);
+    EXPECT(bb_pool_file_take(file, party, 0).len == 5);
     EXPECT(bb_pool_file_done(file, party, 0) == BB_OK);
-    EXPECT(bb_file_party_deallocate(party, message.place) == BB_OK && info_of(file).held == 0);
+    for (uint32_t at = 0; at < 3; at++) {
+        const bb_place place = take_one(party);
+        const uint32_t its = (uint32_t)bb_file_party_number_at(party, place).number;
+        EXPECT(bb_pool_file_post(file, party, 2, place, 5) == BB_OK);
+        EXPECT(bb_pool_file_take(file, party, 2).code == BB_OK);
+        const uint64_t entry = word_at(fd, entry_at(its));
+        set_word(fd, entry_at(its), (uint64_t)5 << 32 | (slots_of_others[at] + 1));
+        EXPECT(bb_pool_file_detach(file, party, place).code == BB_NOT_A_BUCKET);
+        EXPECT(holds(party, place) && held_by(party) == 2);
+        set_word(fd, entry_at(its), entry);
+        EXPECT(bb_pool_file_give_all_back(file, party) == BB_OK);
+        EXPECT(bb_pool_file_take(file, party, 2).len == 5);
+        EXPECT(bb_pool_file_done(file, party, 2) == BB_OK);
+        EXPECT(bb_file_party_deallocate(party, place) == BB_OK);
+        take_one(party);
+    }
     close_it(file);
     close(fd);
     remove_it();
@@ -2195,7 +2305,8 @@ static void be_done(bb_pool_file *file, bb_file_party *party) {
 
 // Another party has taken slot 1's message, and holds all other buckets.
 static void take_by_another(bb_pool_file *file, bb_file_party *party) {
-    leaving = join_it(file);
+    if (leaving == NULL)
+        leaving = join_it(file);
     free_message(file, party, 1);
     post_into(file, party, 1);
     EXPECT(bb_pool_file_take(file, leaving, 1).code == BB_OK);
@@ -2206,10 +2317,18 @@ static void take_by_another(bb_pool_file *file, bb_file_party *party) {
 static void leave_both(bb_pool_file *file, bb_file_party *party) {
     (void)party;
     EXPECT(bb_pool_file_leave(file, leaving) == BB_OK);
+    leaving = NULL;
 }
 
-// The same by a process that is dead by now.
+static void give_both_back(bb_pool_file *file, bb_file_party *party) {
+    (void)party;
+    EXPECT(bb_pool_file_give_all_back(file, leaving) == BB_OK);
+}
+
+// The same by a process that is dead by now. Nobody has joined as its party since.
 static void take_by_the_dead(bb_pool_file *file, bb_file_party *party) {
+    if (leaving != NULL)
+        leave_both(file, party);
     free_message(file, party, 1);
     post_into(file, party, 1);
     const pid_t child = child_of();
@@ -2227,6 +2346,11 @@ static void take_by_the_dead(bb_pool_file *file, bb_file_party *party) {
 static void reap_all(bb_pool_file *file, bb_file_party *party) {
     (void)party;
     EXPECT(reap(file, BB_REAP_HELD) == 19);
+}
+
+static void join_as_the_dead(bb_pool_file *file, bb_file_party *party) {
+    leaving = join_it(file);
+    EXPECT(number_of(leaving) == number_of(party) + 1);
 }
 
 // The party holds all buckets, and then frees them by one call.
@@ -2253,6 +2377,7 @@ static void wakes(const struct waking *waking) {
     int asks[2];
     int replies[2];
     EXPECT(pipe(asks) == 0 && pipe(replies) == 0);
+    leaving = NULL;
     bb_pool_file *file = open_it();
     bb_file_party *party = join_it(file);
     const pid_t child = child_of();
@@ -2298,8 +2423,12 @@ static void woken(void) {
         {bb_pool_file_wait_full, 1, take_by_another, leave_both},
         {bb_pool_file_wait_full, BB_ANY_SLOT, take_by_another, leave_both},
         {wait_bucket, 0, take_by_another, leave_both},
+        {bb_pool_file_wait_full, 1, take_by_another, give_both_back},
+        {wait_bucket, 0, take_by_another, give_both_back},
         {bb_pool_file_wait_full, 1, take_by_the_dead, reap_all},
         {wait_bucket, 0, take_by_the_dead, reap_all},
+        {bb_pool_file_wait_full, 1, take_by_the_dead, join_as_the_dead},
+        {wait_bucket, 0, take_by_the_dead, join_as_the_dead},
         {wait_bucket, 0, take_all, free_all},
     };
     for (size_t at = 0; at < sizeof all_of_them / sizeof *all_of_them; at++)
@@ -2892,11 +3021,11 @@ static void forked(void) {
     const bb_place place = take_one(party);
     EXPECT(bb_pool_file_post(file, party, 0, take_one(party), 1) == BB_OK);
     const bb_place taken = bb_pool_file_take(file, party, 0).place;
-    // The pages of words, tables and region.
+    // The pages of words, events and region.
     const size_t page = system_page();
-    char *first = (char *)info_of(file).start - 2 * PAGE;
+    char *first = (char *)info_of(file).start - PAGE;
     first -= (uintptr_t)first % page;
-    const size_t size = (3 * PAGE + page - 1) / page * page;
+    const size_t size = (2 * PAGE + page - 1) / page * page;
     unsigned char pages[4];
     EXPECT(mincore(first, size, pages) == 0);
     const pid_t child = child_of();
@@ -3173,12 +3302,12 @@ static bool is_bucket(const bb_pool_file_figures *figures, bb_place place) {
     return offset <= 19 * STRIDE && offset % STRIDE == 0;
 }
 
-// Garbage in words and tables leads to wrong answers, but to no access outside, and to no crash.
+// Garbage in words and events leads to wrong answers, but to no access outside, and to no crash.
 static void garbage(void) {
     bb_pool_file *file = open_it();
     bb_file_party *party = join_it(file);
     const int fd = open(path, O_RDWR | O_CLOEXEC);
-    unsigned char bytes[2 * PAGE];
+    unsigned char bytes[PAGE];
     uint32_t seed = 1;
     EXPECT(fd >= 0);
     for (int round = 0; round < 1000; round++) {
@@ -3374,6 +3503,7 @@ int main(int argc, char **argv) {
         lives();
         gives_all_back();
         slots();
+        others_parties();
         buckets_of_a_party();
         undone(0);
         undone(8);
@@ -3384,6 +3514,8 @@ int main(int argc, char **argv) {
         half_done();
         stale_takes();
         laps();
+        last_lives();
+        flags();
         wrong_entries();
         by_number();
         one_wins();

@@ -122,12 +122,13 @@ static size_t length_of(const unsigned char *bytes) {
     if (size > most || align == 0 || align > most || buckets > most || slots > most || user > most)
         return 0;
     const uint64_t lives = round_up(8 * get(bytes, PARTIES_AT, 4), LINE);
-    const uint64_t words = round_up(8 * (16 + buckets), PAGE);
+    const uint64_t flags = round_up(8 * buckets, LINE);
+    const uint64_t entries = flags;
+    const uint64_t words = LINE + flags + lives + entries + LINE * slots;
     uint64_t region_align = align < PAGE ? PAGE : align;
     if (region_align > 65536)
         region_align = 65536;
-    const uint64_t entries = slots > 0 ? round_up(8 * buckets, LINE) : 0;
-    const uint64_t before = PAGE + words + LINE + LINE * slots + lives + entries + user;
+    const uint64_t before = PAGE + words + LINE + LINE * slots + user;
     const uint64_t region = round_up(size, align) * (buckets - (buckets > 0)) + size;
     const uint64_t length = round_up(before, region_align) + round_up(region, PAGE);
     return length > most ? 0 : (size_t)length;
@@ -144,7 +145,7 @@ static size_t change(unsigned char *bytes, size_t length) {
         case 1: bytes[any(HEADER)] ^= (unsigned char)(1 << any(8)); break;
         case 2: bytes[any(length)] = (unsigned char)any(256); break;
         default:
-            // A word of a flag, of an event, of a slot, of a life, or of an entry.
+            // A word of a flag, of a life, of an entry, of a slot, or of an event.
             put(bytes, PAGE + 8 * any((length - PAGE) / 8), 8, odd_number() << any(2) * 32);
         }
     }

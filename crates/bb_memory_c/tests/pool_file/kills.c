@@ -35,6 +35,8 @@ enum {
     // Places where one process leaves the number of a detached bucket for another.
     HANDS = 4,
     BURST = 6,
+    // What a look that finds no message notes: this, plus its code.
+    NO_LENGTH = 1000,
     // The most threads that live, over all, and the most messages that each posts.
     LIVES = 131072,
     SEQUENCES = 1024,
@@ -670,7 +672,10 @@ static void operate(int what, struct prepared with) {
     case GIVES_ALL_BACK: EXPECT(bb_pool_file_give_all_back(file, mine) == BB_OK); break;
     case LEAVES: EXPECT(bb_pool_file_leave(file, mine) == BB_OK); break;
     case NOTES_TAKE: *noted = bb_pool_file_take(file, mine, 0).code; break;
-    case NOTES_LOOK: *noted = (uint32_t)bb_pool_file_look(file, 0).len; break;
+    case NOTES_LOOK:
+        got = bb_pool_file_look(file, 0);
+        *noted = got.code == BB_OK ? (uint32_t)got.len : NO_LENGTH + got.code;
+        break;
     case NOTES_OPEN: note_open(); break;
     case REAPS_DETACHED: EXPECT(bb_pool_file_reap(file, BB_REAP_DEAD, NULL) == BB_OK); break;
     default: EXPECT(bb_pool_file_close(file) == BB_OK);
@@ -895,11 +900,11 @@ static bool pause_reap(bb_pool_file *ours, bb_file_party *party, uint32_t steps)
     return ended;
 }
 
-// Expects that the flag of the bucket with this number says that it is detached by this number.
-static void expect_detached(bb_pool_file *ours, uint32_t number, size_t by) {
+// Expects that the flag of the bucket with this number has this state, and names this party or slot.
+static void expect_flag(bb_pool_file *ours, uint32_t number, uint32_t state, size_t by) {
     bb_holder flag;
     EXPECT(bb_pool_file_holder(ours, number, &flag) == BB_OK);
-    EXPECT(flag.state == BB_DETACHED && flag.party == by);
+    EXPECT(flag.state == state && flag.party == by);
 }
 
 // A take by a child, which is stopped, and what another party got from the same slot.
@@ -936,7 +941,7 @@ static bool pause_take(bb_pool_file *ours, bb_file_party *party, uint32_t steps)
     if (message.code == BB_OK) {
         uint32_t freed = 1;
         EXPECT(*noted == BB_NOT_HELD || *noted == BB_DETACHED_EMPTY);
-        expect_detached(ours, message.number, bb_file_party_number(party).number);
+        expect_flag(ours, message.number, BB_DETACHED, bb_file_party_number(party).number);
         end_killed(take.child);
         EXPECT(bb_pool_file_reap(ours, BB_REAP_DEAD, &freed) == BB_OK && freed == 0);
         const bb_chunk back = bb_pool_file_attach(ours, party, message.number);
@@ -962,7 +967,7 @@ static bool pause_posted(bb_pool_file *ours, bb_file_party *party, uint32_t step
         go_on(take.child);
     if (message.code == BB_OK) {
         EXPECT(*noted == BB_NOT_HELD || *noted == BB_DETACHED_EMPTY);
-        expect_detached(ours, message.number, OPTIONS.parties + 1);  // it is sent to slot 1
+        expect_flag(ours, message.number, BB_SENT, 1);
         const bb_message again = bb_pool_file_take(ours, party, 1);
         EXPECT(again.code == BB_OK && again.len == 17 && is_filled(again.place, 55));
         EXPECT(bb_pool_file_done(ours, party, 1) == BB_OK);
@@ -993,7 +998,7 @@ static bool pause_look(bb_pool_file *ours, bb_file_party *party, uint32_t steps)
         EXPECT(bb_pool_file_post(ours, party, 0, chunk.place, 33) == BB_OK);
     if (!ended)
         go_on(child);
-    EXPECT(*noted == 44 || *noted == (steps % 3 == 1 ? 0 : 33));
+    EXPECT(*noted == 44 || *noted == (steps % 3 == 1 ? NO_LENGTH + BB_DETACHED_EMPTY : 33));
     end_killed(child);
     return ended;
 }
@@ -1012,7 +1017,8 @@ static bool pause_leave(bb_pool_file *ours, bb_file_party *party, uint32_t steps
     if (!ended)
         go_on(child);
     end_killed(child);
-    EXPECT(bb_file_party_holds(other, got.place).number == 1);
+    const uint32_t number = (uint32_t)bb_file_party_number_at(other, got.place).number;
+    expect_flag(ours, number, BB_HELD, bb_file_party_number(other).number);
     EXPECT(bb_pool_file_take(ours, party, 0).len == 44);
     return ended;
 }

@@ -51,9 +51,8 @@
 
 #include "bb_pool_file.h"
 
-// The pool, and where its words are in the file: after a page for the header come 16 words that
-// are no flag, and then the flags. After their page comes a line of events, then the slots, then the
-// lives, and then the entries.
+// The pool, and where its words are in the file: after a page for the header come 16 words, then the
+// flags, the lives, the entries and the slots. Each of these parts begins at a multiple of 16 words.
 enum {
     PARTIES = 4,
     SLOTS = 3,
@@ -61,11 +60,10 @@ enum {
     SIZE = 64,
     PAGE = 4096,
     FIRST_FLAG = 16,
-    FIRST_SLOT = (PAGE + 128) / 8,
+    FIRST_LIFE = 32,
+    FIRST_ENTRY = 48,
+    FIRST_SLOT = 64,
     WORDS_IN_SLOT = 16,
-    FIRST_LIFE = FIRST_SLOT + SLOTS * WORDS_IN_SLOT,
-    // The lives take a line, which has as many words as a slot.
-    FIRST_ENTRY = FIRST_LIFE + WORDS_IN_SLOT,
     // The byte of the file whose lock is that of number 0.
     FIRST_LOCK = 2
 };
@@ -195,7 +193,7 @@ static uint32_t find_detached(uint32_t bucket) {
     bb_holder holder;
     for (uint32_t at = bucket; at < bucket + BUCKETS; at++)
         if (bb_pool_file_holder(file, at % BUCKETS, &holder) == BB_OK &&
-            holder.state == BB_DETACHED && (any || holder.party < PARTIES))
+            (holder.state == BB_DETACHED || (any && holder.state == BB_SENT)))
             return at % BUCKETS;
     return bucket;
 }
@@ -959,9 +957,9 @@ int main(int argc, char **argv) {
     watching = open(path, O_RDWR | O_CLOEXEC);
     inherited = open(path, O_RDWR | O_CLOEXEC);
     EXPECT(watching >= 0 && inherited >= 0);
-    // The words, the slots and the lives, after as much of the header as a mapping begins with.
+    // The words, after as much of the header as a mapping begins with.
     const size_t lead = PAGE % (size_t)sysconf(_SC_PAGESIZE);
-    char *first = map(lead + 2 * PAGE, watching, (off_t)(PAGE - lead));
+    char *first = map(lead + PAGE, watching, (off_t)(PAGE - lead));
     words = (void *)(first + lead);
     shared = map(PROCESSES * sizeof *shared, -1, 0);
     if (is_random) {

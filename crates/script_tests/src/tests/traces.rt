@@ -9,26 +9,27 @@ use std::process::Abort;
 
 #[test]
 fn words_of_flags(rt: HostRuntime) {
-    check(&rt, flag_of(0, 4, 3) == Some(FileFlag::Free));
-    check(&rt, flag_of(1, 4, 3) == Some(FileFlag::HeldBy(0)));
-    check(&rt, flag_of(2, 4, 3) == Some(FileFlag::DetachedBy(0)));
-    check(&rt, flag_of(7, 4, 3) == Some(FileFlag::HeldBy(3)));
-    check(&rt, flag_of(8, 4, 3) == Some(FileFlag::DetachedBy(3)));
-    check(&rt, flag_of(usize::MAX, 4, 3) == None);
+    check(&rt, flag_of(0) == Some(FileFlag::Free));
+    check(&rt, flag_of(1) == Some(FileFlag::HeldBy(0)));
+    check(&rt, flag_of(2) == Some(FileFlag::DetachedBy(0)));
+    check(&rt, flag_of(13) == Some(FileFlag::HeldBy(3)));
+    check(&rt, flag_of(14) == Some(FileFlag::DetachedBy(3)));
+    check(&rt, flag_of(4) == None);
+    check(&rt, flag_of(17_179_869_185) == None);
+    check(&rt, flag_of(17_179_869_186) == None);
 }
 
-/// The numbers from 4 on are those of slots 0 to 2 at lap 0, then at lap 1, and so on.
+/// The lap counts in steps of 2^34.
 #[test]
 fn words_of_flags_that_name_a_slot(rt: HostRuntime) {
     let at_first = FileFlag::SentTo { slot: 0, lap: 0 };
     let last = FileFlag::SentTo { slot: 2, lap: 0 };
     let next = FileFlag::SentTo { slot: 0, lap: 1 };
     let later = FileFlag::SentTo { slot: 1, lap: 5 };
-    check(&rt, flag_of(10, 4, 3) == Some(at_first));
-    check(&rt, flag_of(14, 4, 3) == Some(last));
-    check(&rt, flag_of(16, 4, 3) == Some(next));
-    check(&rt, flag_of(42, 4, 3) == Some(later));
-    check(&rt, flag_of(10, 4, 0) == None);
+    check(&rt, flag_of(3) == Some(at_first));
+    check(&rt, flag_of(11) == Some(last));
+    check(&rt, flag_of(17_179_869_187) == Some(next));
+    check(&rt, flag_of(85_899_345_927) == Some(later));
 }
 
 #[test]
@@ -62,7 +63,7 @@ ok 0 0
 post 0 0 0 0 8
 entry 0 0 0 34359738369
 slot 0 0 0 1
-flag 0 0 1 4
+flag 0 0 1 3
 ok 0
 ";
 
@@ -139,10 +140,10 @@ ok 0 0
 post 0 0 0 0 8
 entry 0 0 0 34359738369
 slot 0 0 0 1
-flag 0 0 1 4
+flag 0 0 1 3
 ok 0
 take 0 0 1
-flag 0 0 4 1
+flag 0 0 3 1
 ";
     let difference = Difference::OtherStep {
         place: Place::Outside,
@@ -200,10 +201,10 @@ flag 1 0 1 0
 #[test]
 fn calls_after_a_post_that_are_refused(rt: HostRuntime) {
     let outside = Difference::OtherReturn(Place::Outside);
-    differs_after(&rt, b"take 0 0 0\nflag 0 0 4 1\nok 0 0 9\n", 17, outside);
+    differs_after(&rt, b"take 0 0 0\nflag 0 0 3 1\nok 0 0 9\n", 17, outside);
     differs_after(
         &rt,
-        b"take 0 0 0\nflag 0 0 4 1\nok 0 0 8\ndone 0 0 0\nrefused 0\n",
+        b"take 0 0 0\nflag 0 0 3 1\nok 0 0 8\ndone 0 0 0\nrefused 0\n",
         19,
         outside,
     );
@@ -214,7 +215,7 @@ fn calls_after_a_post_that_are_refused(rt: HostRuntime) {
     };
     differs_after(
         &rt,
-        b"take 0 0 0\nflag 0 0 4 1\nok 0 0 8\ndone 0 0 0\nentry 0 0 34359738369 0\n",
+        b"take 0 0 0\nflag 0 0 3 1\nok 0 0 8\ndone 0 0 0\nentry 0 0 34359738369 0\n",
         19,
         cleared_first,
     );
@@ -231,7 +232,7 @@ fn calls_after_a_post_that_are_refused(rt: HostRuntime) {
     };
     differs_after(
         &rt,
-        b"take 0 0 0\nflag 0 0 4 1\nok 0 0 8\ngive_all_back 0 0\nok 0\n",
+        b"take 0 0 0\nflag 0 0 3 1\nok 0 0 8\ngive_all_back 0 0\nok 0\n",
         19,
         kept,
     );
