@@ -67,9 +67,9 @@ PATH = re.compile(r"(?<![\w:])(?:::\s*)?((?:std|core|alloc|atomic_table|thiserro
 CALLED = frozenset(
     """
     close_with compare_exchange copied fill filter from_elem from_raw get
-    into_raw_with_allocator is_none is_some iter_mut join_seat load_new_seat map map_err min
+    into_raw_with_allocator is_none is_some iter_mut join_seat load_new_seat map map_err matches min
     null_mut of_words ok ok_or peek pop push_reserved replace rev saturating_sub split_seat store
-    swap try_clone unwrap with_capacity wrapping_sub
+    swap truncate try_clone unwrap with_capacity wrapping_sub
     """.split()
 )
 ATTRIBUTE = re.compile(r"#!?\[(?!cycle\b)[^\[\]]*\]")
@@ -151,6 +151,7 @@ PLACES = (
                 "store": 1,
             },
             FILE + "party_words": {"load": 4, "exchange": 2, "store": 4},
+            FILE + "table": {"load": 5},
             C + "shared_pool": {"swap": 1},
         },
     ),
@@ -219,7 +220,9 @@ PLACES = (
             BUMP + "/meeting": {"for": 2, "..": 2, "while": 1},
             BUMP + "/request": {"loop": 1},
             FILE + "calls": {"for": 2, "..": 2},
+            FILE + "joined": {"for": 1, "while": 1, "..": 1},
             C + "detached": {"for": 2, "iter_mut": 1},
+            C + "file_party": {"..": 1},
             C + "shared_pool": {"for": 3, "..": 5, "|": 1},
             C_CALLS + "call": {"for": 2, "iter_mut": 1},
             C_CALLS + "handle": {"|": 1},
