@@ -2935,7 +2935,7 @@ static void reaps(void) {
     end_killed(living);
     bb_file_party *next = join_it(file);  // it has the dead one's number, with nothing left
     EXPECT(number_of(next) == 1 && info_of(file).held == 1);
-    EXPECT(bb_file_party_holds(party, mine).number == 1);
+    EXPECT(holds(party, mine));
     close_it(file);
     remove_it();
     reapers();
@@ -3069,7 +3069,7 @@ static void forked(void) {
         _exit(0);
     }
     end(child);
-    EXPECT(bb_file_party_holds(party, place).number == 1);
+    EXPECT(holds(party, place) && info_of(file).held == 2);
     close_it(file);
     remove_it();
 }
