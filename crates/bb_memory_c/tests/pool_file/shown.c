@@ -10,7 +10,8 @@
 
 #include "bb_pool_file.h"
 
-// Six parties with four buckets each. Each party's first request finds the first of its own buckets.
+// Six parties with four buckets each. Each party's first request finds the first of its own
+// buckets.
 static const bb_pool_file_options OPTIONS = {.bucket_size = 100,
                                              .bucket_align = 8,
                                              .buckets = 24,
