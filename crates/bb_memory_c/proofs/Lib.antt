@@ -1,5 +1,8 @@
 mod Counting
 mod Detaching
+mod FileCuts
+mod FileParties
+mod FileTold
 mod InUse
 mod Numbers
 mod SentHandles

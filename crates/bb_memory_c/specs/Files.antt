@@ -37,7 +37,7 @@ use Rattle.bb_memory_traits.specs.PoolObject.{HasBucket, IsWithin, PoolGeometry,
 use Rattle.bb_memory_traits.specs.declared.allocator.AllocationError.{AllocationError}
 use Rattle.bb_memory_traits.specs.declared.allocator.AllocationError.TheVariants.{AlignmentFailure, OutOfMemory, SizeTooLarge}
 use Rattle.bb_memory_traits.specs.declared.layout.Layout.{Layout}
-use Rattle.std.specs.Prelude.{Bool, Err, IfSome, None, Ok, Option, Result, Some, false, if◌then◌else◌, min, slice_get, true, ℕ, ◌-◌, ◌<◌, ◌^◌, ◌≡◌, ◌≢◌, ◌≤◌, ◌⊎◌}
+use Rattle.std.specs.Prelude.{Bool, Err, IfSome, None, Ok, Option, Result, Some, false, if◌then◌else◌, min, slice_get, true, ℕ, ◌-◌, ◌<◌, ◌^◌, ◌↔◌, ◌≡◌, ◌≢◌, ◌≤◌, ◌⊎◌}
 
 -- VALUES
 
@@ -245,9 +245,10 @@ GivesBack file place after =
 
 -- A party is to free the bucket at a place. Each code is returned for exactly its cause.
 pub record TellsDeallocate (file : JoinedFile) (place code : ℕ) (after : JoinedFile) : Type 0 where
-  pub not_held : ¬ HoldsPlace file place → code ≡ not_held
-  pub not_done : IsNotedAt file place Undone → code ≡ file_not_done
-  pub freed : MayFree file place → (code ≡ ok) × GivesBack file place after
+  pub not_held : (code ≡ not_held) ↔ (¬ HoldsPlace file place)
+  pub not_done : (code ≡ file_not_done) ↔ IsNotedAt file place Undone
+  pub freed : (code ≡ ok) ↔ MayFree file place
+  pub gone : code ≡ ok → GivesBack file place after
   pub unchanged : code ≢ ok → after ≡ file
 
 -- the party gives back all that it holds, and C gets how many buckets were freed

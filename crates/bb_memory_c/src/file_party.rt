@@ -3,12 +3,13 @@ ghost use Rattle.bb_memory_c.specs.Files.{Becomes, GivesBack, GivesChunk, GivesU
 ghost use Rattle.bb_memory_c_calls.specs.Calls.{FailsOf, IsOf, LacksRoomOf};
 ghost use Rattle.bb_memory_c_calls.specs.declared.code.TheConstants.{FILE_NOT_DONE as file_not_done, INVALID_ARGUMENT as invalid_argument, INVALID_LAYOUT as invalid_layout, MALLOC_REFUSED as malloc_refused, NOT_HELD as not_held, NO_BUCKET as no_bucket, NO_PARTY as no_party};
 ghost use Rattle.bb_memory_file.specs.FileFormat.{IsGeometry, geometry_of, words_of};
-ghost use Rattle.bb_memory_file.specs.FileNotes.{Flushes, GivesAllBack};
+ghost use Rattle.bb_memory_file.specs.FileNotes.{AreCached, Flushes, GivesAllBack};
 ghost use Rattle.bb_memory_file.specs.FileParties.{log_of};
 ghost use Rattle.bb_memory_file.specs.declared.joined.Note.TheVariants.{InUse, Undone};
 ghost use Rattle.bb_memory_traits.specs.Chunk.{region_at};
+ghost use Rattle.bb_memory_traits.specs.PoolObject.{bucket_place};
 ghost use Rattle.std.specs.Align.{IsLayout};
-ghost use Rattle.std.specs.Prelude.{Err, IfErr, IfOk, IfSome, None, ◌↔◌, ◌≡◌, ◌≢◌, ◌≤◌, ◌⊎◌};
+ghost use Rattle.std.specs.Prelude.{Err, IfErr, IfNone, IfOk, IfSome, None, length, ℕ, ◌<◌, ◌↔◌, ◌≡◌, ◌≢◌, ◌≤◌};
 
 use crate::file_answer::{DetachedNumber, Message, ShownEntry, ShownFlag, ShownSlot};
 use bb_memory_c_calls::answer::{Answer, Figure, SharedPoolInfo};
@@ -59,14 +60,40 @@ fn code_of(refusal: Refusal) -> u32
 }
 
 impl JoinedFile {
+    /// Proof hint: brings into scope what holds for every party.
+    #[inline(always)]
+    fn invariant(&self)
+        ensures noted { length self.now.party.notes ≡ self.now.places.buckets }
+        ensures cached { AreCached self.now.party.notes self.now.party.cached }
+    {
+        let _ = self.party.buckets();
+        let _ = self.party.number_of_cached();
+    }
+
+    /// Returns the number of the bucket at this place. If no bucket begins there, the party has none in use there.
+    #[inline(always)]
+    fn numbered(&self, place: usize) -> Option<u32>
+        ensures below { IfSome result (λ number. number < self.now.places.buckets) }
+        ensures there { IfSome result (λ number. place ≡ bucket_place self.now.places number) }
+        ensures one { IfSome result (λ number. (other : ℕ)
+            → place ≡ bucket_place self.now.places other → other ≡ number) }
+        ensures none { IfNone result (¬ HoldsPlace self.now place) }
+    {
+        self.invariant();
+        self.places.number_at(place)
+    }
+
     /// Returns the number of the bucket at this place, which the party has in use and which is in no slot, or the code of the reason
     /// why there is none.
     fn in_use_at(&self, place: usize) -> Result<u32, u32>
         ensures there { IfOk result (λ number. IsNoted self.now place number InUse) }
-        ensures refused { IfErr result (λ code. (code ≡ not_held) × (¬ HoldsPlace self.now place)
-            ⊎ ((code ≡ file_not_done) × IsNotedAt self.now place Undone)) }
+        ensures done { IfOk result (λ number. ¬ IsNotedAt self.now place Undone) }
+        ensures refused { IfErr result (λ code. ¬ MayFree self.now place) }
+        ensures not_held { IfErr result (λ code. code ≢ file_not_done
+            → (code ≡ not_held) × (¬ HoldsPlace self.now place)) }
+        ensures not_done { IfErr result (λ code. code ≡ file_not_done → IsNotedAt self.now place Undone) }
     {
-        let Some(number) = self.places.number_at(place) else {
+        let Some(number) = self.numbered(place) else {
             return Err(code::NOT_HELD);
         };
         match self.party.note(number) {
@@ -81,7 +108,7 @@ impl JoinedFile {
     pub(crate) fn deallocate(&mut self, place: usize) -> u32
         ensures { TellsDeallocate self.old place result self.new }
     {
-        let Some(number) = self.places.number_at(place) else {
+        let Some(number) = self.numbered(place) else {
             return code::NOT_HELD;
         };
         match self.party.deallocate(number) {
@@ -154,6 +181,7 @@ impl JoinedFile {
     pub(crate) fn take_message(&mut self, slot: u32) -> Message
         ensures { TellsMessage self.old slot result self.new }
     {
+        self.invariant();
         if slot >= self.party.slots() {
             return Message::refusal(code::INVALID_ARGUMENT);
         }
@@ -189,7 +217,7 @@ impl JoinedFile {
     pub(crate) fn detach(&mut self, place: usize) -> DetachedNumber
         ensures { TellsDetach self.old place result self.new }
     {
-        let Some(number) = self.places.number_at(place) else {
+        let Some(number) = self.numbered(place) else {
             return DetachedNumber::refusal(code::NOT_HELD);
         };
         match self.party.detach(number) {
@@ -204,6 +232,7 @@ impl JoinedFile {
     pub(crate) fn attach(&mut self, number: u32) -> Answer
         ensures { TellsAttach self.old number result self.new }
     {
+        self.invariant();
         match self.party.attach(number) {
             Ok(true) => Answer {
                 code: code::OK as usize,
@@ -222,6 +251,7 @@ impl Gives<SharedPoolInfo> for JoinedFile {
 
     #[inline(always)]
     fn give(&mut self, layout: Layout) -> Result<Chunk, AllocationError> {
+        self.invariant();
         self.places.admit(layout)?;
         let Some(number) = self.party.allocate() else {
             return Err(AllocationError::OutOfMemory);
@@ -250,7 +280,7 @@ impl Keeps for JoinedFile {
     ghost frees = { GivesBack };
 
     fn is_held(&mut self, place: usize) -> bool {
-        let Some(number) = self.places.number_at(place) else {
+        let Some(number) = self.numbered(place) else {
             return false;
         };
         matches!(self.party.note(number), Some(Note::InUse | Note::Undone))
@@ -270,12 +300,14 @@ impl Bucketed for JoinedFile {
 
     #[inline(always)]
     fn take_first(&mut self) -> Option<Chunk> {
+        self.invariant();
         let number = self.party.allocate_first()?;
         let len = self.places.bucket().size();
         Some(self.places.chunk(number as usize, len))
     }
 
     fn take_later(&mut self) -> Result<Chunk, AllocationError> {
+        self.invariant();
         let Some(number) = self.party.allocate_later() else {
             return Err(AllocationError::OutOfMemory);
         };

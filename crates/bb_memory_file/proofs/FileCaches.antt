@@ -1,5 +1,5 @@
 -- The list of the buckets that a party caches, and its notes.
-use Rattle.bb_memory_file.specs.FileNotes.{AreCached, Cached, Note, Unheld}
+use Rattle.bb_memory_file.specs.FileNotes.{AreCached, Cached, InUse, Note, Undone, Unheld}
 use Rattle.bb_memory_lists.proofs.SliceGets.{slice_get-replicated, slice_get-set, slice_get-set_other, slice_get-set_same}
 use Rattle.std.proofs.Common.{List, Some, [], ap, arith, inl, inr, length, refl, subst, sym, ℕ, ◌++◌, ◌∙◌, ◌∷◌, ◌≡◌, ◌≢◌}
 use Rattle.std.proofs.lemmas.List.{get_or_append_left, get_or_default, get_or_push, length_push}
@@ -9,6 +9,16 @@ use Rattle.std.specs.Prelude.{Contains, replicate, slice_get, slice_set}
 
 same_some : {X : Type 0} (one other : X) → Some one ≡ Some other → one ≡ other
 same_some one other same = cc
+
+-- no other note is that of a cached bucket
+pub in_use_apart : InUse ≢ Cached
+in_use_apart same = absurd (cc)
+
+pub undone_apart : Undone ≢ Cached
+undone_apart same = absurd (cc)
+
+pub unheld_apart : Unheld ≢ Cached
+unheld_apart same = absurd (cc)
 
 -- a bucket with another note isn't cached
 pub uncached : (notes : List Note) (cached : List ℕ) (bucket : ℕ) (note : Note) → AreCached notes cached →
@@ -82,6 +92,19 @@ cached_less notes cached before last note are is apart =
             (sym (slice_get-set_same notes last note Cached (last_cached notes cached before last are is))
             ∙ ap (slice_get (slice_set notes last note)) same ∙ sym there))
 
+-- a bucket gets a note while none is cached
+pub cached_still_none : (notes : List Note) (cached : List ℕ) (bucket : ℕ) (note : Note) → AreCached notes cached → cached ≡ [] →
+    note ≢ Cached → AreCached (slice_set notes bucket note) cached
+cached_still_none notes cached bucket note are none apart =
+    subst (λ (xs : List ℕ). AreCached (slice_set notes bucket note) xs) (sym none) record {
+      differ = λ i j d lt within. absurd (omega arith);
+      noted = λ other at. let low = at.1 in absurd (omega arith);
+      all = λ other is. elim (slice_get-set notes bucket other note Cached is) [
+        | inl old ↦ subst (λ (xs : List ℕ). Contains xs other) none (are.all other old)
+        | inr new ↦ absurd (apart new.1)
+      ];
+    }
+
 -- none is cached
 pub cached_none : (size : ℕ) → AreCached (replicate size Unheld) []
 cached_none size = record {
@@ -89,6 +112,3 @@ cached_none size = record {
   noted = λ bucket at. let low = at.1 in absurd (omega arith);
   all = λ bucket is. absurd (unheld_apart (slice_get-replicated size bucket Unheld Cached is));
 }
-  where
-    unheld_apart : Unheld ≢ Cached
-    unheld_apart same = absurd (cc)

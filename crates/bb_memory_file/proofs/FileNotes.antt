@@ -1,21 +1,22 @@
 -- The notes of a party say what it knows of its buckets, before each call and after it.
 use Rattle.bb_memory_file.proofs.FileMessages.{seen_away}
-use Rattle.bb_memory_file.proofs.FileWalks.{path_on, walk_nowhere}
-use Rattle.bb_memory_file.specs.FileCalls.{AllocateSays, IsAttach, IsDeallocate, IsDetach, IsDone, IsJoin, IsPost, IsPutBack, IsReceive, IsSettled, unseen}
+use Rattle.bb_memory_file.proofs.FileWalks.{path_on, walk_look, walk_nowhere}
+use Rattle.bb_memory_file.specs.FileCalls.{BeginsSearch, Gets, IsAttach, IsDeallocate, IsDetach, IsDone, IsJoin, IsPost, IsPutBack, IsReceive, IsSettled, TakesOne, unseen}
 use Rattle.bb_memory_file.specs.FileCalls.received as received
 use Rattle.bb_memory_file.specs.FileCalls.whereabouts as whereabouts
-use Rattle.bb_memory_file.specs.FileCode.{FileLog, Has, HasNot, Holds, IsWalk, Known, LoadSlot, Path, Seen, Unknown, begins, known_of, looks, told}
+use Rattle.bb_memory_file.specs.FileCode.{Event, FileLog, Has, HasNot, Holds, IsWalk, Known, LoadSlot, MissFlag, Path, Seen, Unknown, begins, known_of, looks, told}
 use Rattle.bb_memory_file.specs.FileLog.{IsKnownIn, fresh_log, held_still, is_clear, is_held, seen_in, with_entry, with_seen}
-use Rattle.bb_memory_file.specs.FileNames.{Counting, Entry, FileStep, HeldBy, In, Message, Nowhere, Outside, Slot}
+use Rattle.bb_memory_file.specs.FileNames.{Counting, Entry, FileStep, Free, HeldBy, In, Message, Nowhere, Outside, Place, Settled, Slot}
 use Rattle.bb_memory_file.specs.FileNotes.{Cached, InUse, IsHome, IsJoined, IsNoted, Note, Undone, Unheld, looked}
+use Rattle.bb_memory_file.specs.FileRuns.{CanUnlock, MayUnlock}
 use Rattle.bb_memory_file_machine.specs.FileMachine.{FileScene, same_flag}
 use Rattle.bb_memory_lists.proofs.SliceGets.{length-set_at, slice_get-replicated, slice_get-set_other, slice_get-set_same}
 use Rattle.bb_memory_pool_machine.proofs.PoolSteps.{test_same}
-use Rattle.std.proofs.Common.{Bool, List, None, Option, Some, [], ap, arith, false, get_or, inl, inr, length, refl, subst, sym, true, ℕ, ◌++◌, ◌<◌, ◌∙◌, ◌≡◌, ◌≢◌}
+use Rattle.std.proofs.Common.{Bool, List, None, Option, Some, [], ap, arith, false, get_or, inl, inr, length, refl, subst, sym, true, ℕ, ◌++◌, ◌<◌, ◌∙◌, ◌∷◌, ◌≡◌, ◌≢◌}
 use Rattle.std.proofs.lemmas.Bool.{eqb-false, eqb-true, ne_eqb}
 use Rattle.std.proofs.lemmas.List.{length-replicate}
 use Rattle.std.proofs.lemmas.Option.{slice_get-get_or, slice_get_within}
-use Rattle.std.specs.Prelude.{if◌then◌else◌, replicate, slice_get, slice_set, ◌==◌}
+use Rattle.std.specs.Prelude.{if◌then◌else◌, nat_lt, replicate, slice_get, slice_set, ◌==◌}
 
 -- A NOTE
 
@@ -349,15 +350,58 @@ after_join old new fresh did = record {
   };
 }
 
-module _ (old new : FileLog) (notes : List Note) (joined : IsJoined old notes) (hint : ℕ) where
-  pub after_allocate : (bucket : ℕ) → AllocateSays old hint (Some bucket) new → IsJoined new (slice_set notes bucket InUse)
-  after_allocate bucket says =
-      let enough = joined.noted.enough in
-      let below = says.4 in
-      go_noted old new notes joined (λ process. (_, says.2 process)) bucket InUse
-      (subst (λ known. IsNoted known InUse) (sym says.5.0) tt) (λ other apart. ap unseen (says.5.1 other apart))
-      (get_or notes bucket Unheld) (slice_get-get_or notes bucket Unheld (omega (arith, below, enough)))
+module _ (old new : FileLog) (notes : List Note) (joined : IsJoined old notes) where
+  pub after_allocate : (bucket : ℕ) → TakesOne old (Some bucket) new → IsJoined new (slice_set notes bucket InUse)
+  after_allocate bucket takes = go_noted old new notes joined (λ process. (_, takes.0 process)) bucket InUse
+      (subst (λ known. IsNoted known InUse) (sym takes.2.0) tt) (λ other apart. ap unseen (takes.2.1 other apart))
+      (get_or notes bucket Unheld)
+      (let enough = joined.noted.enough in
+      let below = takes.1 in slice_get-get_or notes bucket Unheld (omega (arith, below, enough)))
 
-  pub after_no_allocate : AllocateSays old hint None new → IsJoined new notes
-  after_no_allocate says =
-      go_same old new notes joined (λ process. (_, says.2 process)) (λ other. ap unseen (says.4 other))
+  pub after_no_allocate : TakesOne old None new → IsJoined new notes
+  after_no_allocate takes =
+      go_same old new notes joined (λ process. (_, takes.0 process)) (λ other. ap unseen (takes.1 other))
+
+  pub after_no_first : (hint : ℕ) → BeginsSearch old hint new → IsJoined new notes
+  after_no_first hint begun = by_test (nat_lt hint old.scene.buckets) begun
+    where
+      by_test : (is : Bool) → Gets old (if is then MissFlag hint Free ∷ [] else []) new → IsJoined new notes
+      by_test true gets = go_same old new notes joined
+          (λ process. ([], walk_look process old new Outside (MissFlag hint Free) tt gets))
+          (λ other. ap (λ (log : FileLog). unseen (known_of log other)) gets)
+      by_test false gets = subst (λ log. IsJoined log notes) (sym gets) joined
+
+-- THE LOCK
+
+-- a process that has settled the party's number may free its lock
+pub home_unlocks : (old new : FileLog) → IsHome old →
+    ((process : ℕ) → (taken : List FileStep) × IsWalk process old Outside new taken (Settled old.party)) → CanUnlock new
+home_unlocks old new home goes process =
+    let first = home process in
+    let next = goes process in (
+      next.0 ++ first.0,
+      Settled new.party,
+      subst (λ (scene : FileScene). Path process (fresh_log scene new.party) (Counting new.party) new (next.0 ++ first.0) (Settled new.party))
+          (sym next.1.scene)
+          (subst (λ (party : ℕ). Path process (fresh_log old.scene party) (Counting party) new (next.0 ++ first.0) (Settled party))
+          (sym next.1.party) (path_on process (fresh_log old.scene old.party) old (Counting old.party) Outside first.0 first.1 new next.0
+          (Settled old.party) next.1.path)),
+      inl refl,
+    )
+
+-- so may one that has just counted the lock, or has settled the number right after it took the lock
+pub fresh_unlocks : (old new : FileLog) (there : ℕ → Place) → old.events ≡ [] →
+    ((process : ℕ) → (taken : List FileStep) × IsWalk process old (Counting old.party) new taken (there old.party)) →
+    MayUnlock new.party (there new.party) → CanUnlock new
+fresh_unlocks old new there fresh goes may process =
+    let walk = (goes process).1 in (
+      (goes process).0,
+      there new.party,
+      subst (λ (scene : FileScene). Path process (fresh_log scene new.party) (Counting new.party) new (goes process).0 (there new.party))
+          (sym walk.scene)
+          (subst (λ (party : ℕ). Path process (fresh_log old.scene party) (Counting party) new (goes process).0 (there party))
+          (sym walk.party)
+          (subst (λ (log : FileLog). Path process log (Counting old.party) new (goes process).0 (there old.party))
+          (ap (λ events. record old { events = events }) fresh) walk.path)),
+      may,
+    )

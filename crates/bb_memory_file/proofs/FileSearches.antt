@@ -2,7 +2,7 @@
 use Rattle.bb_memory_file.proofs.FileEvents.{gets_on, has_first, has_next}
 use Rattle.bb_memory_file.proofs.FileSteps.{allocates}
 use Rattle.bb_memory_file.proofs.FileWalks.{walk_look, walk_nowhere, walk_on, walk_step}
-use Rattle.bb_memory_file.specs.FileCalls.{AllocateSays, Gets, IsGained, IsPassed, Makes, SearchSays, missed, misses}
+use Rattle.bb_memory_file.specs.FileCalls.{AllocateSays, BeginsSearch, Gets, IsGained, IsPassed, Makes, SearchSays, TakesOne, missed, misses}
 use Rattle.bb_memory_file.specs.FileCode.{Event, ExchangeFlag, FileLog, MissFlag, known_of, told}
 use Rattle.bb_memory_file.specs.FileNames.{Allocate, Free, HeldBy, Outside}
 use Rattle.bb_memory_pool_machine.proofs.PoolSteps.{test_same}
@@ -78,16 +78,9 @@ search_ends old log new from to bucket party search below mine is =
 
 -- THE WHOLE SEARCH
 
--- where the search begins
-pub first_hint : (hint first buckets all : ℕ) → buckets ≡ all → hint < buckets → first ≡ hint →
-    first ≡ (if nat_lt hint all then hint else 0)
-first_hint hint first buckets all same below is =
-    let test : nat_lt hint all ≡ true = lt-ltb hint all (subst (λ (n : ℕ). hint < n) same below) in rw test is
-
-pub first_zero : (hint first buckets all : ℕ) → buckets ≡ all → buckets ≤ hint → first ≡ 0 →
-    first ≡ (if nat_lt hint all then hint else 0)
-first_zero hint first buckets all same past is =
-    let test : nat_lt hint all ≡ false = le-ltb hint all (subst (λ (n : ℕ). n ≤ hint) same past) in rw test is
+split_at : (one other : ℕ) (less : Bool) → nat_lt one other ≡ less → (one < other) ⊎ (other ≤ one)
+split_at one other true e = inl (ltb-true one other e)
+split_at one other false e = inr (ltb-false one other e)
 
 passed_first : (first bucket other : ℕ) → first ≤ bucket → IsPassed first bucket other → (first ≤ other) × (other < bucket)
 passed_first first bucket other low (inl between) = between
@@ -112,10 +105,6 @@ module _ (old new : FileLog) (hint first buckets : ℕ) (all : buckets ≡ old.s
     middle_party : middle.party ≡ old.party
     middle_party = ap (λ (l : FileLog). l.party) one.1
 
-    split_by : (other : ℕ) (less : Bool) → nat_lt other first ≡ less → (other < first) ⊎ (first ≤ other)
-    split_by other true e = inl (ltb-true other first e)
-    split_by other false e = inr (ltb-false other first e)
-
     -- a bucket that the first part missed
     missed_one : (next : List Event) (other : ℕ) → other < old.scene.buckets → first ≤ other → missed other (next ++ one.0) ≡ true
     missed_one next other below low =
@@ -126,7 +115,7 @@ module _ (old new : FileLog) (hint first buckets : ℕ) (all : buckets ≡ old.s
       two.0 ++ one.0,
       gets_on old middle new one.0 two.0 one.1 two.1,
       (λ process. walk_on process old middle new Outside Outside Outside [] [] (one.2 process) (two.2 process)),
-      (λ other below. elim (split_by other (nat_lt other first) refl) [
+      (λ other below. elim (split_at other first (nat_lt other first) refl) [
         | inl before ↦ has_next (misses other) one.0 two.0 (two.3 other (omega arith) before)
         | inr after ↦ missed_one two.0 other below after
       ]),
@@ -160,3 +149,126 @@ module _ (old new : FileLog) (hint first buckets : ℕ) (all : buckets ≡ old.s
     pub found_by : (answer : Option ℕ) → first ≤ buckets → SearchSays middle 0 first answer new → AllocateSays old hint answer new
     found_by None order two = found_none two
     found_by (Some bucket) order two = found_second bucket order two
+
+-- ONE BUCKET IS TAKEN
+
+pub search_takes : (old new : FileLog) (from to : ℕ) (answer : Option ℕ) → to ≤ old.scene.buckets →
+    SearchSays old from to answer new → TakesOne old answer new
+search_takes old new from to None most says = (says.2, says.4)
+search_takes old new from to (Some bucket) most says =
+    let less = says.5 in (says.2, (omega (arith, less, most)), says.6)
+
+-- after a search that found none
+pub takes_on : (old middle new : FileLog) (from to : ℕ) (answer : Option ℕ) → SearchSays old from to None middle →
+    TakesOne middle answer new → TakesOne old answer new
+takes_on old middle new from to None one two = (
+  (λ process. walk_on process old middle new Outside Outside Outside [] [] (one.2 process) (two.0 process)),
+  (λ other. two.1 other ∙ one.4 other),
+)
+takes_on old middle new from to (Some bucket) one two = (
+  (λ process. subst (λ (p : ℕ). Makes process old (Allocate process p bucket ∷ []) new) (ap (λ (l : FileLog). l.party) one.1)
+      (walk_on process old middle new Outside Outside Outside [] (Allocate process middle.party bucket ∷ []) (one.2 process)
+      (two.0 process))),
+  subst (λ (n : ℕ). bucket < n) (ap (λ (l : FileLog). l.scene.buckets) one.1) two.1,
+  (two.2.0, (λ other apart. two.2.1 other apart ∙ one.4 other)),
+)
+
+pub allocate_takes : (old new : FileLog) (hint : ℕ) (answer : Option ℕ) → AllocateSays old hint answer new → TakesOne old answer new
+allocate_takes old new hint None says = (says.2, says.4)
+allocate_takes old new hint (Some bucket) says = (says.2, says.4, says.5)
+
+-- A SEARCH IN TWO PARTS
+
+-- a search goes on behind the buckets of which none was free
+pub search_goes_on : (old log new : FileLog) (from bucket to : ℕ) (answer : Option ℕ) → Searched old from bucket log →
+    SearchSays log bucket to answer new → SearchSays old from to answer new
+search_goes_on old log new from bucket to answer before says = by_answer answer says
+  where
+    mine : log.party ≡ old.party
+    mine = ap (λ (l : FileLog). l.party) before.gets
+
+    either : (other : ℕ) → (other < bucket) ⊎ (bucket ≤ other)
+    either other = split_at other bucket (nat_lt other bucket) refl
+
+    missed_in : (next : List Event) (end other : ℕ) → from ≤ other → other < end →
+        ((other' : ℕ) → bucket ≤ other' → other' < end → missed other' next ≡ true) → missed other (next ++ before.events) ≡ true
+    missed_in next end other low high later = elim (either other) [
+      | inl less ↦ has_first (misses other) before.events next (before.all other low less)
+      | inr more ↦ has_next (misses other) before.events next (later other more high)
+    ]
+
+    by_answer : (found : Option ℕ) → SearchSays log bucket to found new → SearchSays old from to found new
+    by_answer None two = (
+      two.0 ++ before.events,
+      gets_on old log new before.events two.0 before.gets two.1,
+      (λ process. walk_on process old log new Outside Outside Outside [] [] (before.makes process) (two.2 process)),
+      (λ other low high. missed_in two.0 to other low high two.3),
+      (λ other. two.4 other ∙ before.same other),
+    )
+    by_answer (Some found) two = (
+      two.0 ++ before.events,
+      gets_on old log new before.events two.0 before.gets two.1,
+      (λ process. subst (λ (p : ℕ). Makes process old (Allocate process p found ∷ []) new) mine
+          (walk_on process old log new Outside Outside Outside [] (Allocate process log.party found ∷ []) (before.makes process)
+          (two.2 process))),
+      (λ other low high. missed_in two.0 found other low high two.3),
+      (let low = before.order in let high = two.4 in omega (arith, low, high)),
+      two.5,
+      (two.6.0, (λ other apart. two.6.1 other apart ∙ before.same other)),
+    )
+
+-- a search that begins in the file
+module _ (old new : FileLog) (hint buckets : ℕ) (all : buckets ≡ old.scene.buckets) (below : hint < buckets) where
+  inside : nat_lt hint old.scene.buckets ≡ true
+  inside = lt-ltb hint old.scene.buckets (subst (λ (n : ℕ). hint < n) all below)
+
+  starts : hint ≡ (if nat_lt hint old.scene.buckets then hint else 0)
+  starts = rw inside refl
+
+  -- its first bucket was free
+  pub first_taken : (party : ℕ) → party ≡ old.party → new ≡ told old (ExchangeFlag hint Free (HeldBy party)) →
+      AllocateSays old hint (Some hint) new
+  first_taken party mine is = found_first old new hint hint buckets all starts hint
+      (search_ends old old new hint buckets hint party (searched_none old hint) below mine is)
+
+  -- its first bucket wasn't free
+  pub first_missed : new ≡ told old (MissFlag hint Free) → BeginsSearch old hint new
+  first_missed is = rw inside is
+
+  pub first_searched : BeginsSearch old hint new → Searched old hint (hint + 1) new
+  first_searched begun = searched_on old old new hint hint (searched_none old hint) (rw inside at begun)
+
+  -- its later part
+  pub found_behind : (last : FileLog) (bucket : ℕ) → BeginsSearch old hint new → SearchSays new (hint + 1) buckets (Some bucket) last →
+      AllocateSays old hint (Some bucket) last
+  found_behind last bucket begun says = found_first old last hint hint buckets all starts bucket
+      (search_goes_on old new last hint (hint + 1) buckets (Some bucket) (first_searched begun) says)
+
+  pub found_before : (middle last : FileLog) (answer : Option ℕ) → BeginsSearch old hint new →
+      SearchSays new (hint + 1) buckets None middle → SearchSays middle 0 hint answer last → AllocateSays old hint answer last
+  found_before middle last answer begun one two = found_by old last hint hint buckets all starts middle
+      (search_goes_on old new middle hint (hint + 1) buckets None (first_searched begun) one) answer (omega (arith, below)) two
+
+-- a search that begins behind the last bucket
+module _ (old new : FileLog) (hint buckets : ℕ) (all : buckets ≡ old.scene.buckets) (past : buckets ≤ hint) where
+  outside : nat_lt hint old.scene.buckets ≡ false
+  outside = le-ltb hint old.scene.buckets (subst (λ (n : ℕ). n ≤ hint) all past)
+
+  pub none_first : new ≡ old → BeginsSearch old hint new
+  none_first is = rw outside is
+
+  none_tried : BeginsSearch old hint new → new ≡ old
+  none_tried begun = rw outside at begun
+
+  starts_zero : 0 ≡ (if nat_lt hint old.scene.buckets then hint else 0)
+  starts_zero = rw outside refl
+
+  pub found_anywhere : (last : FileLog) (answer : Option ℕ) → BeginsSearch old hint new → SearchSays new 0 buckets answer last →
+      AllocateSays old hint answer last
+  found_anywhere last answer begun says =
+      by_answer answer (subst (λ (l : FileLog). SearchSays l 0 buckets answer last) (none_tried begun) says)
+    where
+      by_answer : (found : Option ℕ) → SearchSays old 0 buckets found last → AllocateSays old hint found last
+      by_answer None one = found_none old last hint 0 buckets all starts_zero last one
+          (searched_all last last 0 0 0 (searched_none last 0) (omega arith))
+      by_answer (Some bucket) one = found_first old last hint 0 buckets all starts_zero bucket one

@@ -1,8 +1,10 @@
 pub mod FileBeginnings
 pub mod FileBuckets
 pub mod FileCaches
+pub mod FileCounts
 pub mod FileEvents
 pub mod FileFlagWords
+pub mod FileFlushes
 pub mod FileKnows
 pub mod FileMade
 pub mod FileMessages
@@ -15,5 +17,6 @@ pub mod FileRunTheorem
 pub mod FileSearches
 pub mod FileSettlers
 pub mod FileSteps
+pub mod FileTakings
 pub mod FileWalks
 pub mod Recording

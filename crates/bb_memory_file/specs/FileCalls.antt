@@ -78,6 +78,14 @@ AllocateSays old hint (Some bucket) new =
 abbrev pub BeginsSearch : FileLog → ℕ → FileLog → Type 0
 BeginsSearch old hint new = Gets old (if nat_lt hint old.scene.buckets then MissFlag hint Free ∷ [] else []) new
 
+-- the call has taken this bucket, or none, and knows of each other bucket what it knew
+abbrev pub TakesOne : FileLog → Option ℕ → FileLog → Type 0
+TakesOne old None new =
+    ((process : ℕ) → Makes process old [] new) × ((other : ℕ) → known_of new other ≡ known_of old other)
+TakesOne old (Some bucket) new =
+    ((process : ℕ) → Makes process old (Allocate process old.party bucket ∷ []) new)
+    × (bucket < old.scene.buckets) × IsGained old bucket new
+
 -- the call has given back the bucket
 abbrev pub IsDeallocate : ℕ → FileLog → ℕ → FileLog → Type 0
 IsDeallocate process old bucket new =

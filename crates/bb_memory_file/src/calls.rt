@@ -2,12 +2,12 @@
 //!
 //! Each of them is given a party whose lock this process has, and what it needs to know of a bucket
 //! is in its `requires`: that the party holds the bucket, and what the bucket's entry says.
-ghost use Rattle.bb_memory_file.specs.FileCalls.{AllocateSays, BeginsSearch, IsAttach, IsDeallocate, IsDetach, IsDone, IsFound, IsJoin, IsLeave, IsPost, IsPutBack, IsReap, IsReceive, IsSettled, SearchSays, is_fit, length_in};
+ghost use Rattle.bb_memory_file.specs.FileCalls.{AllocateSays, BeginsSearch, IsAttach, IsDeallocate, IsDetach, IsDone, IsFound, IsJoin, IsLeave, IsPost, IsPutBack, IsReap, IsReceive, IsSettled, SearchSays, TakesOne, is_fit, length_in};
 ghost use Rattle.bb_memory_file.specs.FileLog.{FileLog, IsKnownIn, IsLap, is_clear, is_held, known_of};
 ghost use Rattle.bb_memory_file.specs.FileNames.{Deallocate, DetachNumber, Done, Flags, Next, Outside, Settled};
 ghost use Rattle.bb_memory_file.specs.FileSettlers.{IsCounted, IsCountedOn, IsRecover, IsSettledAt};
 ghost use Rattle.bb_memory_file_machine.specs.FileMachine.{same_flag};
-ghost use Rattle.std.specs.Prelude.{MatchBool, Some, [], false, true, ℕ, ◌%◌, ◌+◌, ◌<◌, ◌^◌, ◌∷◌, ◌≡◌, ◌≤◌};
+ghost use Rattle.std.specs.Prelude.{IfSome, IsTrue, MatchBool, Some, [], false, true, ℕ, ◌%◌, ◌+◌, ◌<◌, ◌^◌, ◌∷◌, ◌≡◌, ◌≤◌};
 
 use crate::words::Words;
 use bb_memory_file_machine::steps::{Entry, FileFlag, Slot};
@@ -43,9 +43,10 @@ pub enum Whereabouts {
 /// whether it took the bucket.
 #[inline(always)]
 pub fn allocate_first<W: Words>(words: &mut W, hint: u32) -> bool
-    ensures { MatchBool result
+    ensures answer { MatchBool result
         (AllocateSays (W.log words.old) hint (Some hint) (W.log words.new))
         (BeginsSearch (W.log words.old) hint (W.log words.new)) }
+    ensures fits { IsTrue result → hint + 1 < 2 ^ 32 }
 {
     if hint >= words.buckets() {
         return false;
@@ -55,11 +56,13 @@ pub fn allocate_first<W: Words>(words: &mut W, hint: u32) -> bool
 }
 
 /// Goes on with a search that has not taken its first bucket: tries each other bucket, first from `hint`
-/// on, and then before it. The clause holds for each log with which the search may have begun.
+/// on, and then before it. The first clause holds for each log with which the search may have begun.
 #[inline(never)]
 pub fn allocate_later<W: Words>(words: &mut W, hint: u32) -> Option<u32>
-    ensures { (before : FileLog) → BeginsSearch before hint (W.log words.old)
+    ensures answer { (before : FileLog) → BeginsSearch before hint (W.log words.old)
         → AllocateSays before hint result (W.log words.new) }
+    ensures takes { TakesOne (W.log words.old) result (W.log words.new) }
+    ensures fits { IfSome result (λ bucket. bucket + 1 < 2 ^ 32) }
 {
     let buckets = words.buckets();
     if hint >= buckets {

@@ -109,7 +109,7 @@ pub struct Joined<W: Words + Drop> {
 
 impl<W: Words + Drop> Model for Joined<W> {
     ghost use Rattle.bb_memory_file.specs.FileNotes.{AreCached, IsJoined, JoinedParty};
-    ghost use Rattle.std.specs.Prelude.{length, vec_capacity, ◌≤◌};
+    ghost use Rattle.std.specs.Prelude.{length, vec_capacity, ◌<◌, ◌^◌, ◌≤◌};
 
     ghost Value = { JoinedParty W };
 
@@ -123,7 +123,8 @@ impl<W: Words + Drop> Model for Joined<W> {
 
     ghost invariant = { λ p. IsJoined (W.log p.words) p.notes.items
         × AreCached p.notes.items p.cached.items
-        × (length p.cached.items ≤ p.most) × (p.most ≤ vec_capacity p.cached) };
+        × (length p.cached.items ≤ p.most) × (p.most ≤ vec_capacity p.cached)
+        × (p.most < 2 ^ 32) };
 }
 
 impl<W: Words + Drop> Joined<W> {

@@ -1,32 +1,42 @@
-use Rattle.bb_memory_file.proofs.FileSearches.{first_hint, first_zero, found_by, found_first}
-use Rattle.bb_memory_file.proofs.calls.allocate_later.Goals.{else-hint-buckets, then-hint-buckets}
+use Rattle.bb_memory_file.proofs.FileSearches.{found_anywhere, found_before, found_behind, search_takes, takes_on}
 use Rattle.bb_memory_file.proofs.calls.allocate_later.Goals as goal
-use Rattle.std.proofs.Common.{arith, ◌≡◌, ◌≤◌}
-use Rattle.std.specs.Prelude.{if◌then◌else◌, nat_lt}
+use Rattle.bb_memory_file.specs.FileCode.{FileLog}
+use Rattle.std.proofs.Common.{Some, ap, arith, sym, ◌∙◌, ◌≡◌, ◌≤◌}
 
-pub returns-in-Some : goal.returns-in-Some
-returns-in-Some g c =
-    let old = g.W.Words.log c.args.words.now in
-    let start : c.if-hint-buckets.first ≡ (if nat_lt c.args.hint old.scene.buckets then c.args.hint else 0) =
-    elim c.if-hint-buckets.branch [
-      | then-hint-buckets w ↦ first_hint c.args.hint _ _ _ c.buckets-buckets.ensures w.if-hint-buckets.true w.first-is
-      | else-hint-buckets w ↦ first_zero c.args.hint _ _ _ c.buckets-buckets.ensures w.if-hint-buckets.false w.first-is
-    ] in
-    found_first old _ c.args.hint c.if-hint-buckets.first c.buckets-buckets.result c.buckets-buckets.ensures start c.in-Some.bucket
-    c.in-Some.ensures
+pub returns-then-hint-buckets-clause-answer : goal.returns-then-hint-buckets-clause-answer
+returns-then-hint-buckets-clause-answer g c before begun =
+    let all = c.buckets-buckets.ensures ∙ ap (λ (log : FileLog). log.scene.buckets) begun in
+    found_anywhere before (g.W.Words.log c.args.words.now) c.args.hint c.buckets-buckets.result all c.if-hint-buckets.true
+    (g.W.Words.log c.search.new.words) c.search.result begun c.search.ensures
 
-pub returns : goal.returns
-returns g c =
-    let old = g.W.Words.log c.args.words.now in
-    let start : c.if-hint-buckets.first ≡ (if nat_lt c.args.hint old.scene.buckets then c.args.hint else 0) =
-    elim c.if-hint-buckets.branch [
-      | then-hint-buckets w ↦ first_hint c.args.hint _ _ _ c.buckets-buckets.ensures w.if-hint-buckets.true w.first-is
-      | else-hint-buckets w ↦ first_zero c.args.hint _ _ _ c.buckets-buckets.ensures w.if-hint-buckets.false w.first-is
-    ] in
-    let order : c.if-hint-buckets.first ≤ c.buckets-buckets.result =
-    elim c.if-hint-buckets.branch [
-      | then-hint-buckets w ↦ let below = w.if-hint-buckets.true in let is = w.first-is in omega (arith, below, is)
-      | else-hint-buckets w ↦ let is = w.first-is in omega (arith, is)
-    ] in
-    found_by old _ c.args.hint c.if-hint-buckets.first c.buckets-buckets.result c.buckets-buckets.ensures start _ c.in_default.ensures
-    c.search-2.result order c.search-2.ensures
+pub returns-then-hint-buckets-clause-takes : goal.returns-then-hint-buckets-clause-takes
+returns-then-hint-buckets-clause-takes g c =
+    let all = c.buckets-buckets.ensures in
+    search_takes _ _ 0 c.buckets-buckets.result c.search.result (omega (arith, all)) c.search.ensures
+
+pub returns-in-Some-clause-answer : goal.returns-in-Some-clause-answer
+returns-in-Some-clause-answer g c before begun =
+    let all = c.buckets-buckets.ensures ∙ ap (λ (log : FileLog). log.scene.buckets) begun in
+    found_behind before (g.W.Words.log c.args.words.now) c.args.hint c.buckets-buckets.result all c.if-hint-buckets.false
+    (g.W.Words.log c.search-2.new.words) c.in-Some.bucket begun c.in-Some.ensures
+
+pub returns-in-Some-clause-takes : goal.returns-in-Some-clause-takes
+returns-in-Some-clause-takes g c =
+    let all = c.buckets-buckets.ensures in
+    search_takes (g.W.Words.log c.args.words.now) _ _ c.buckets-buckets.result (Some c.in-Some.bucket) (omega (arith, all)) c.in-Some.ensures
+
+pub returns-clause-answer : goal.returns-clause-answer
+returns-clause-answer g c before begun =
+    let all = c.buckets-buckets.ensures ∙ ap (λ (log : FileLog). log.scene.buckets) begun in
+    found_before before (g.W.Words.log c.args.words.now) c.args.hint c.buckets-buckets.result all c.if-hint-buckets.false
+    (g.W.Words.log c.search-2.new.words) (g.W.Words.log c.search-3.new.words) c.search-3.result begun c.in_default.ensures
+    c.search-3.ensures
+
+pub returns-clause-takes : goal.returns-clause-takes
+returns-clause-takes g c =
+    let all = c.buckets-buckets.ensures in
+    let below = c.if-hint-buckets.false in
+    let same = ap (λ (log : FileLog). log.scene.buckets) c.in_default.ensures.1 in
+    takes_on (g.W.Words.log c.args.words.now) (g.W.Words.log c.search-2.new.words) (g.W.Words.log c.search-3.new.words) _ _
+    c.search-3.result c.in_default.ensures
+    (search_takes _ _ 0 c.args.hint c.search-3.result (omega (arith, all, below, same)) c.search-3.ensures)

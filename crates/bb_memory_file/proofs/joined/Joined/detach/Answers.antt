@@ -1,5 +1,7 @@
+use Rattle.bb_memory_file.proofs.FileCaches.{cached_while, in_use_apart, unheld_apart}
 use Rattle.bb_memory_file.proofs.FileNotes.{after_detach, in_use_clear, within}
 use Rattle.bb_memory_file.proofs.joined.Joined.detach.Goals as goal
+use Rattle.bb_memory_file.specs.FileNotes.{InUse, Unheld}
 use Rattle.std.proofs.Common.{refl}
 
 pub detach-requires-clause-clear : goal.detach-requires-clause-clear
@@ -13,9 +15,14 @@ index_mut-requires g c =
     (rw (← c.self.view_is) at c.in_ok-check-in_default.ensures.held)
 
 pub invariant_of-self : goal.invariant_of-self
-invariant_of-self g c =
-    after_detach _ _ c.self.inside.notes.items c.self.invariant.0 c.args.bucket
-    (rw (← c.self.view_is) at c.in_ok-check-in_default.ensures.held) c.detach.ensures
+invariant_of-self g c = (
+      after_detach _ _ c.self.inside.notes.items c.self.invariant.0 c.args.bucket
+    (rw (← c.self.view_is) at c.in_ok-check-in_default.ensures.held) c.detach.ensures,
+      cached_while c.self.inside.notes.items c.self.inside.cached.items c.args.bucket InUse Unheld c.self.invariant.1 (rw (← c.self.view_is) at c.in_ok-check-in_default.ensures.held) in_use_apart unheld_apart,
+      c.self.invariant.2,
+      c.self.invariant.3,
+      c.self.invariant.4,
+    )
 
 pub returns-in_ok-check-in_default : goal.returns-in_ok-check-in_default
 returns-in_ok-check-in_default g c = rw (← c.self.view_is) (

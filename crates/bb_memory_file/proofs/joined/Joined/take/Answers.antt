@@ -1,23 +1,39 @@
+use Rattle.bb_memory_file.proofs.FileCaches.{cached_while, undone_apart, unheld_apart}
 use Rattle.bb_memory_file.proofs.FileNotes.{after_look, after_message, after_not_sent, after_wrong, below_by, within}
 use Rattle.bb_memory_file.proofs.joined.Joined.take.Goals as goal
 use Rattle.bb_memory_file.specs.FileCalls.{IsReceive}
 use Rattle.bb_memory_file.specs.FileCalls.received as received
 use Rattle.bb_memory_file.specs.FileCode.{FileLog}
-use Rattle.bb_memory_file.specs.FileNotes.{Unheld}
+use Rattle.bb_memory_file.specs.FileNotes.{Undone, Unheld}
 use Rattle.std.proofs.Common.{Some, inr, refl, subst, ◌≡◌}
 use Rattle.std.specs.Prelude.{slice_get}
 
 pub invariant_of-self : goal.invariant_of-self
-invariant_of-self g c =
-    after_look _ _ c.self.inside.notes.items c.args.slot _ c.self.invariant.0 c.load_slot.ensures.told
+invariant_of-self g c = (
+      after_look _ _ c.self.inside.notes.items c.args.slot _ c.self.invariant.0 c.load_slot.ensures.told,
+      c.self.invariant.1,
+      c.self.invariant.2,
+      c.self.invariant.3,
+      c.self.invariant.4,
+    )
 
 pub invariant_of-self-2 : goal.invariant_of-self-2
-invariant_of-self-2 g c =
-    after_look _ _ c.self.inside.notes.items c.args.slot _ c.self.invariant.0 c.load_slot.ensures.told
+invariant_of-self-2 g c = (
+      after_look _ _ c.self.inside.notes.items c.args.slot _ c.self.invariant.0 c.load_slot.ensures.told,
+      c.self.invariant.1,
+      c.self.invariant.2,
+      c.self.invariant.3,
+      c.self.invariant.4,
+    )
 
 pub invariant_of-self-in-None : goal.invariant_of-self-in-None
-invariant_of-self-in-None g c =
-    after_look _ _ c.self.inside.notes.items c.args.slot _ c.self.invariant.0 c.load_slot.ensures.told
+invariant_of-self-in-None g c = (
+      after_look _ _ c.self.inside.notes.items c.args.slot _ c.self.invariant.0 c.load_slot.ensures.told,
+      c.self.invariant.1,
+      c.self.invariant.2,
+      c.self.invariant.3,
+      c.self.invariant.4,
+    )
 
 pub receive-requires-clause-below : goal.receive-requires-clause-below
 receive-requires-clause-below g c =
@@ -27,17 +43,27 @@ receive-requires-clause-below g c =
 
 pub invariant_of-self-in-NotSent : goal.invariant_of-self-in-NotSent
 invariant_of-self-in-NotSent g c =
-    let was : slice_get c.self.inside.notes.items c.in-Message.bucket ≡ Some Unheld = cc in
-    after_not_sent _ _ c.self.inside.notes.items
+    let was : slice_get c.self.inside.notes.items c.in-Message.bucket ≡ Some Unheld = cc in (
+      after_not_sent _ _ c.self.inside.notes.items
     (after_look _ _ c.self.inside.notes.items c.args.slot _ c.self.invariant.0 c.load_slot.ensures.told) c.in-Message.bucket
-    c.args.slot c.in-Message.lap c.args.size was c.in-NotSent.ensures
+    c.args.slot c.in-Message.lap c.args.size was c.in-NotSent.ensures,
+      c.self.invariant.1,
+      c.self.invariant.2,
+      c.self.invariant.3,
+      c.self.invariant.4,
+    )
 
 pub invariant_of-self-in-Wrong : goal.invariant_of-self-in-Wrong
 invariant_of-self-in-Wrong g c =
-    let was : slice_get c.self.inside.notes.items c.in-Message.bucket ≡ Some Unheld = cc in
-    after_wrong _ _ c.self.inside.notes.items
+    let was : slice_get c.self.inside.notes.items c.in-Message.bucket ≡ Some Unheld = cc in (
+      after_wrong _ _ c.self.inside.notes.items
     (after_look _ _ c.self.inside.notes.items c.args.slot _ c.self.invariant.0 c.load_slot.ensures.told) c.in-Message.bucket
-    c.args.slot c.in-Message.lap c.args.size was c.in-Wrong.ensures
+    c.args.slot c.in-Message.lap c.args.size was c.in-Wrong.ensures,
+      c.self.invariant.1,
+      c.self.invariant.2,
+      c.self.invariant.3,
+      c.self.invariant.4,
+    )
 
 pub index_mut-requires : goal.index_mut-requires
 index_mut-requires g c =
@@ -46,14 +72,24 @@ index_mut-requires g c =
 
 pub invariant_of-self-in-Message-receive : goal.invariant_of-self-in-Message-receive
 invariant_of-self-in-Message-receive g c =
-    let was : slice_get c.self.inside.notes.items c.in-Message.bucket ≡ Some Unheld = cc in
-    after_message _ _ c.self.inside.notes.items
+    let was : slice_get c.self.inside.notes.items c.in-Message.bucket ≡ Some Unheld = cc in (
+      after_message _ _ c.self.inside.notes.items
     (after_look _ _ c.self.inside.notes.items c.args.slot _ c.self.invariant.0 c.load_slot.ensures.told) c.in-Message.bucket
-    c.args.slot c.in-Message.lap c.args.size was _ c.in-Message-receive.ensures
+    c.args.slot c.in-Message.lap c.args.size was _ c.in-Message-receive.ensures,
+      cached_while c.self.inside.notes.items c.self.inside.cached.items c.in-Message.bucket Unheld Undone c.self.invariant.1 was unheld_apart undone_apart,
+      c.self.invariant.2,
+      c.self.invariant.3,
+      c.self.invariant.4,
+    )
 
 pub invariant_of-self-in_default-note : goal.invariant_of-self-in_default-note
-invariant_of-self-in_default-note g c =
-    after_look _ _ c.self.inside.notes.items c.args.slot _ c.self.invariant.0 c.load_slot.ensures.told
+invariant_of-self-in_default-note g c = (
+      after_look _ _ c.self.inside.notes.items c.args.slot _ c.self.invariant.0 c.load_slot.ensures.told,
+      c.self.invariant.1,
+      c.self.invariant.2,
+      c.self.invariant.3,
+      c.self.invariant.4,
+    )
 
 pub returns-in-NotSent : goal.returns-in-NotSent
 returns-in-NotSent g c =

@@ -1,0 +1,153 @@
+-- Parties of files: their calls leave as many buckets as there are, and take buckets that are there.
+use Rattle.bb_memory_c.specs.Files.{HoldsPlace, JoinedFile}
+use Rattle.bb_memory_file.proofs.FileCaches.{last_cached}
+use Rattle.bb_memory_file.specs.FileCalls.{Gets, Makes}
+use Rattle.bb_memory_file.specs.FileLog.{FileLog}
+use Rattle.bb_memory_file.specs.FileNotes.{Allocates, AreCached, Attaches, Caches, Deallocates, Detaches, Flushes, GivesAllBack, IsDoneWith, JoinedParty, Joins, MissesFirst, Posts, Returns, Searches, Takes}
+use Rattle.bb_memory_file.specs.FileParties.{log_of}
+use Rattle.bb_memory_file.specs.declared.joined.Note.{Note}
+use Rattle.bb_memory_file.specs.declared.joined.Refusal.{Refusal}
+use Rattle.bb_memory_file.specs.declared.joined.Taken.{Taken}
+use Rattle.bb_memory_file.specs.declared.joined.Taken.TheVariants as taken
+use Rattle.bb_memory_file.specs.declared.party.FileParty.{FileParty}
+use Rattle.bb_memory_file_machine.specs.declared.steps.file.FileStep.{FileStep}
+use Rattle.bb_memory_pool_machine.specs.declared.hint.Hint.{Hint}
+use Rattle.bb_memory_traits.specs.Geometry.{IsPlaceOfBucket}
+use Rattle.std.proofs.Common.{Bool, Err, List, None, Ok, Option, Result, Some, [], ap, arith, false, inl, inr, length, refl, subst, sym, true, ℕ, ◌++◌, ◌<◌, ◌∙◌, ◌∷◌, ◌≡◌, ◌⊎◌}
+use Rattle.std.proofs.lemmas.Bool.{cases_lt}
+use Rattle.std.proofs.lemmas.Option.{slice_get_within}
+use Rattle.std.specs.Prelude.{IfNone, slice_get}
+
+abbrev Party : Type 0
+Party = JoinedParty FileParty
+
+-- how many buckets the party's file has
+abbrev pub buckets_of : Party → ℕ
+buckets_of party = (log_of party.words).scene.buckets
+
+-- the file has as many buckets by one log as by the other
+abbrev AreSame : FileLog → FileLog → Type 0
+AreSame old new = new.scene.buckets ≡ old.scene.buckets
+
+by_walk : {process : ℕ} {old new : FileLog} {taken : List FileStep} → Makes process old taken new → AreSame old new
+by_walk makes = ap (λ s. s.buckets) makes.scene
+
+-- a list is empty, or has a last number
+ends : (xs : List ℕ) → (xs ≡ []) ⊎ ((before : List ℕ) × (last : ℕ) × (xs ≡ before ++ last ∷ []))
+ends [] = inl refl
+ends (x ∷ xs) = inr (elim (ends xs) [
+  | inl none ↦ ([], x, ap (λ (ys : List ℕ). x ∷ ys) none)
+  | inr more ↦ (x ∷ more.0, more.1, ap (λ (ys : List ℕ). x ∷ ys) more.2)
+])
+
+-- SAME BUCKETS
+
+searched-same : (old : Party) (answer : Option ℕ) (new : Party) → Searches log_of old answer new → buckets_of new ≡ buckets_of old
+searched-same old None new did = ap (λ (l : FileLog). l.scene.buckets) did.0.1
+searched-same old (Some bucket) new did = ap (λ (l : FileLog). l.scene.buckets) did.0.1
+
+pub allocated-same : (old : Party) (answer : Option ℕ) (new : Party) → Allocates log_of old answer new →
+    buckets_of new ≡ buckets_of old
+allocated-same old answer new did = elim (ends old.cached) [
+  | inl none ↦ searched-same old answer new (did.searched none)
+  | inr last ↦ ap (λ (p : Party). buckets_of p) (did.cached last.0 last.1 last.2).1
+]
+
+-- a taken bucket is one of the file's
+pub allocated-below : (old : Party) (bucket : ℕ) (new : Party) → AreCached old.notes old.cached →
+    length old.notes ≡ buckets_of old → Allocates log_of old (Some bucket) new → bucket < buckets_of old
+allocated-below old bucket new are long did = elim (ends old.cached) [
+  | inl none ↦ let said = (did.searched none).0 in said.4
+  | inr last ↦
+      let its : Some bucket ≡ Some last.1 = (did.cached last.0 last.1 last.2).0 in
+      let noted = last_cached old.notes old.cached last.0 last.1 are last.2 in
+      let same : bucket ≡ last.1 = cc in
+      omega (arith, same, long, slice_get_within old.notes last.1 _ noted)
+]
+
+pub missed-same : (old new : Party) → MissesFirst log_of old new → buckets_of new ≡ buckets_of old
+missed-same old new did = ap (λ (l : FileLog). l.scene.buckets) did.begun
+
+pub returned-same : (old : Party) (bucket : ℕ) (new : Party) → Returns log_of old bucket new → buckets_of new ≡ buckets_of old
+returned-same old bucket new did = elim (cases_lt (length old.cached) old.most) [
+  | inl fewer ↦ ap (λ (p : Party). buckets_of p) (did.cached fewer)
+  | inr full ↦ ap (λ (l : FileLog). l.scene.buckets) ((did.returned full).0 0).1
+]
+
+pub deallocated-same : (old : Party) (bucket : ℕ) (told : Result (Unit {0}) Refusal) (new : Party) →
+    Deallocates log_of old bucket told new → buckets_of new ≡ buckets_of old
+deallocated-same old bucket (Ok done) new did = returned-same old bucket new did.1
+deallocated-same old bucket (Err refusal) new did = ap (λ (p : Party). buckets_of p) did.1
+
+pub flushed-same : (old new : Party) → Flushes log_of old new → buckets_of new ≡ buckets_of old
+flushed-same old new did = ap (λ (l : FileLog). l.scene.buckets) did.gets
+
+pub detached-same : (old : Party) (bucket : ℕ) (told : Result (Option ℕ) Refusal) (new : Party) → Detaches log_of old bucket told new →
+    buckets_of new ≡ buckets_of old
+detached-same old bucket (Ok None) new did = ap (λ (l : FileLog). l.scene.buckets) (did.1.0 0).1
+detached-same old bucket (Ok (Some slot)) new did = by_walk (did.1.1.0 0).0
+detached-same old bucket (Err refusal) new did = elim did.1 [
+  | inl other ↦ ap (λ (p : Party). buckets_of p) other.1
+  | inr undone ↦ elim undone.1 [
+    | inl entered ↦ by_walk (entered.0 0).0
+    | inr nowhere ↦ by_walk (nowhere.0 0).0
+  ]
+]
+
+pub attached-same : (old : Party) (bucket : ℕ) (told : Result Bool Refusal) (new : Party) → Attaches log_of old bucket told new →
+    buckets_of new ≡ buckets_of old
+attached-same old bucket (Ok true) new did = ap (λ (l : FileLog). l.scene.buckets) (did.1.0 0).2
+attached-same old bucket (Ok false) new did = elim did [
+  | inl tried ↦ by_walk (tried.1.0 0).0
+  | inr held ↦ ap (λ (p : Party). buckets_of p) held.1
+]
+attached-same old bucket (Err refusal) new did = ap (λ (p : Party). buckets_of p) did.2
+
+pub posted-same : (old : Party) (slot bucket len : ℕ) (told : Result Bool Refusal) (new : Party) →
+    Posts log_of old slot bucket len told new → buckets_of new ≡ buckets_of old
+posted-same old slot bucket len (Ok true) new did = by_walk (did.1.0 0).1
+posted-same old slot bucket len (Ok false) new did = elim (did.1.0 0).1 [
+  | inl full ↦ by_walk full.2
+  | inr lost ↦ by_walk lost.1
+]
+posted-same old slot bucket len (Err refusal) new did = ap (λ (p : Party). buckets_of p) did.1
+
+pub took-same : (old : Party) (slot size : ℕ) (told : Taken) (new : Party) → Takes log_of old slot size told new →
+    buckets_of new ≡ buckets_of old
+took-same old slot size taken.Empty new did = ap (λ (l : FileLog). l.scene.buckets) did.1
+took-same old slot size taken.Wrong new did = elim did.2 [
+  | inl past ↦ ap (λ (l : FileLog). l.scene.buckets) past.1
+  | inr wrong ↦ by_walk (wrong.1.0 0).2
+]
+took-same old slot size taken.NotSent new did = elim did.2 [
+  | inl held ↦ ap (λ (l : FileLog). l.scene.buckets) held.1
+  | inr lost ↦ by_walk (lost.1.0 0).0
+]
+took-same old slot size (taken.Message bucket len) new did = by_walk (did.2.0 0).1
+
+pub done-same : (old : Party) (slot : ℕ) (told : Bool) (new : Party) → IsDoneWith log_of old slot told new →
+    buckets_of new ≡ buckets_of old
+done-same old slot true new did = by_walk (did.3.0 0).0
+done-same old slot false new did = ap (λ (l : FileLog). l.scene.buckets) did.1
+
+pub given-same : (old : Party) (freed : ℕ) (new : Party) → GivesAllBack log_of old freed new → buckets_of new ≡ buckets_of old
+given-same old freed new did = ap (λ (l : FileLog). l.scene.buckets) (did.0 0).gets
+
+pub joined-same : (words : FileParty) (hint : Hint) (joined : Party) → Joins log_of words hint (Ok joined) →
+    buckets_of joined ≡ (log_of words).scene.buckets
+joined-same words hint joined did = let settled = (did.0 0).4 in ap (λ (l : FileLog). l.scene.buckets) settled.gets
+
+-- PLACES
+
+-- what follows if there is none
+pub none-so : (told : Option ℕ) (A B : Type 0) → (A → B) → IfNone told A → IfNone told B
+none-so None A B so is = so is
+none-so (Some number) A B so is = tt
+
+-- the party has no bucket in use where none begins
+pub holds-none : (file : JoinedFile) (place : ℕ) → length file.party.notes ≡ file.places.buckets →
+    ¬ IsPlaceOfBucket file.places place → ¬ HoldsPlace file place
+holds-none file place long away held = elim held [
+  | inl in_use ↦ away (in_use.0, omega (arith, long, slice_get_within file.party.notes in_use.0 _ in_use.1.0), in_use.1.1)
+  | inr undone ↦ away (undone.0, omega (arith, long, slice_get_within file.party.notes undone.0 _ undone.1.0), undone.1.1)
+]
