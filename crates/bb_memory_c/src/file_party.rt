@@ -73,7 +73,7 @@ impl JoinedFile {
     /// Returns the number of the bucket at this place. If no bucket begins there, the party has none in use there.
     #[inline(always)]
     fn numbered(&self, place: usize) -> Option<u32>
-        ensures below { IfSome result (λ number. number < self.now.places.buckets) }
+        ensures below { IfSome result (λ number. number < length self.now.party.notes) }
         ensures there { IfSome result (λ number. place ≡ bucket_place self.now.places number) }
         ensures one { IfSome result (λ number. (other : ℕ)
             → place ≡ bucket_place self.now.places other → other ≡ number) }
@@ -223,8 +223,9 @@ impl JoinedFile {
         match self.party.detach(number) {
             Ok(None) => DetachedNumber::detached(number),
             Ok(Some(slot)) => DetachedNumber::put_back(number, slot),
+            Err(Refusal::NotHeld) => DetachedNumber::refusal(code::NOT_HELD),
             Err(Refusal::NotDone) => DetachedNumber::refusal(code::NOT_A_BUCKET),
-            Err(_) => DetachedNumber::refusal(code::NOT_HELD),
+            Err(Refusal::NotABucket) => DetachedNumber::refusal(code::NOT_A_BUCKET),
         }
     }
 

@@ -10,7 +10,7 @@ neither : {X : Type 0} {one two : ℕ} (code third : ℕ) → (code ≢ one → 
     code ≡ third → X
 neither code third either not_one not_two is = absurd (not_two (sym is ∙ either (λ one. not_one (sym is ∙ one))))
 
-module _ {X : Type 0} {old new : Option X} {size align : ℕ} {cutting : Cutting X} {cut : Result Layout ℕ}
+module _ {X Y : Type 0} {old new : Option X} {size align : ℕ} {cutting : Cutting X} {cut : Result Y ℕ}
     (none : old ≡ None) (no_layout : (cut ≡ Err invalid_layout) ↔ (¬ IsLayout size align))
     (cannot : (cut ≡ Err invalid_argument) ↔ FailsOf size align cutting.may)
     (no_room : (cut ≡ Err no_bucket) ↔ LacksRoomOf size align cutting.may cutting.room) where
@@ -28,7 +28,7 @@ module _ {X : Type 0} {old new : Option X} {size align : ℕ} {cutting : Cutting
   }
 
   -- by the cut the pool is made, or memory for it ran out
-  pub tried : (bucket : Layout) → cut ≡ Ok bucket → IsOf size align bucket → cutting.may bucket → cutting.room bucket → (code : ℕ)
+  pub tried : (bucket : Layout) {told : Y} → cut ≡ Ok told → IsOf size align bucket → cutting.may bucket → cutting.room bucket → (code : ℕ)
       → (code ≡ ok → cutting.fresh bucket new) → (code ≢ ok → (code ≡ malloc_refused) × (new ≡ old))
       → AnswersPoolMake old new size align code cutting
   tried bucket is of may_be has code made refused = let either = λ (not : code ≢ ok). (refused not).0 in record {
