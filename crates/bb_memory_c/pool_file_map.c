@@ -1,6 +1,6 @@
-// Opens and closes a pool in a file (pool_file.h). Each process has its own mapping of the file, the
-// library's table of its words, and a list of all that are open, for forks. This file is outside
-// the proofs.
+// Opens and closes a pool in a file (pool_file.h). Each process has its own mapping of the file,
+// the library's table of its words, and a list of all that are open, for forks. This file is
+// outside the proofs.
 //
 // Each process maps all but the header, at any address, and makes a table of its own: the library
 // is lent memory of this process for the row of words (memory.h), and then the file is mapped at
@@ -32,8 +32,8 @@
 #endif
 
 enum {
-    // Of the requests for memory that `file_table_init` makes, the first is for a list of zeros, and
-    // the second for the row of words, which is a copy of that list.
+    // Of the requests for memory that `file_table_init` makes, the first is for a list of zeros,
+    // and the second for the row of words, which is a copy of that list.
     ZEROS_REQUEST = 1,
     WORDS_REQUESTS = 2,
     // If the words take more bytes than this, they are at first that many bytes or more, which are
@@ -180,8 +180,8 @@ static bool map_stand_ins(bb_pool_file *file) {
     return mprotect(file->mapped, mapped_for_words(file), PROT_READ | PROT_WRITE) == 0;
 }
 
-// Makes this process's table of the words, which so far are the stand-ins. The library uses them for
-// its list of zeros and for the copy of that list: it writes nothing but zeros to either.
+// Makes this process's table of the words, which so far are the stand-ins. The library uses them
+// for its list of zeros and for the copy of that list: it writes nothing but zeros to either.
 static uint32_t make_table(bb_pool_file *file) {
     const struct header *head = &file->head;
     const size_t size = BB_BYTES_FOR(head->bucket_size, head->bucket_align, head->buckets);

@@ -21,8 +21,8 @@ class Symbols(unittest.TestCase):
     def test_unnamed(self) -> None:
         symbols = "\na.o:\n                 U free\n                 U memory_lend\n"
         self.assertEqual(other_targets.unnamed(symbols, PAGE), [])
-        sent = f"{symbols}                 U party_forget_sent\n"
-        self.assertEqual(other_targets.unnamed(sent, PAGE), [])
+        posts = f"{symbols}                 U file_post\n"
+        self.assertEqual(other_targets.unnamed(posts, PAGE), [])
         helper = symbols + "                 U __aarch64_cas8_acq_rel\n                 w exit\n"
         self.assertEqual(other_targets.unnamed(helper, PAGE), ["__aarch64_cas8_acq_rel", "exit"])
 

@@ -230,10 +230,6 @@ typedef struct file_object {
     // The bytes that are the host's own.
     size_t user_bytes;
 
-    // The figures that say which numbers are slots.
-    uint32_t parties;
-    uint32_t slots;
-
     // How many views of the file's memory are alive, and how many calls run without the GIL.
     Py_ssize_t pins;
 
@@ -318,8 +314,6 @@ static uint32_t open_file(file_object *self, const char *path, int fd,
     if (code == BB_OK) {
         self->bucket_size = figures.options.bucket_size;
         self->user_bytes = figures.options.user_bytes;
-        self->parties = figures.options.parties;
-        self->slots = figures.options.slots;
     }
     return code;
 }
@@ -550,16 +544,17 @@ static PyObject *file_holder(file_object *self, PyObject *object) {
     const uint32_t code = bb_pool_file_holder(self->file, number, &holder);
     if (code != BB_OK)
         return raise_code(code, NULL);
-    const unsigned int party = holder.party;
+    // A party, or with BB_SENT a slot.
+    const unsigned int by = holder.party;
     PyObject *items = NULL;
     if (holder.state == BB_FREE)
         items = Py_BuildValue("(sOO)", "free", Py_None, Py_None);
     else if (holder.state == BB_HELD)
-        items = Py_BuildValue("(sIO)", "held", party, Py_None);
-    else if (party < self->parties || self->slots == 0)
-        items = Py_BuildValue("(sIO)", "detached", party, Py_None);
+        items = Py_BuildValue("(sIO)", "held", by, Py_None);
+    else if (holder.state == BB_DETACHED)
+        items = Py_BuildValue("(sIO)", "detached", by, Py_None);
     else
-        items = Py_BuildValue("(sOI)", "sent", Py_None, (party - self->parties) % self->slots);
+        items = Py_BuildValue("(sOI)", "sent", Py_None, by);
     return figures_of(&holder_type, items);
 }
 

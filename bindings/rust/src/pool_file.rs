@@ -439,7 +439,6 @@ impl PoolFile {
 
     /// Returns who holds the bucket with this number, or `None` if no bucket has the number.
     pub fn holder(&self, number: u32) -> Result<Option<FileHolder>, PoolFileError> {
-        let options = self.options()?;
         let mut found = ffi::Holder::default();
         // SAFETY: the file is open.
         let code = unsafe { bb_pool_file_holder(self.file.as_ptr(), number, &mut found) };
@@ -450,10 +449,8 @@ impl PoolFile {
         Ok(Some(match found.state {
             ffi::Holder::FREE => FileHolder::Free,
             ffi::Holder::HELD => FileHolder::HeldBy(found.party),
-            _ if found.party < options.parties || options.slots == 0 => {
-                FileHolder::DetachedBy(found.party)
-            }
-            _ => FileHolder::SentTo((found.party - options.parties) % options.slots),
+            ffi::Holder::DETACHED => FileHolder::DetachedBy(found.party),
+            _ => FileHolder::SentTo(found.party),
         }))
     }
 

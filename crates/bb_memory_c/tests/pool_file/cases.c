@@ -934,9 +934,10 @@ static off_t length_of(const bb_pool_file_options *options) {
     return stat_of.st_size;
 }
 
-// The row of words has 16 words, 2000 flags, 16 words for a life, 2000 entries, and 16 words for each
-// slot. After it come 128 bytes of events, and 128 more for each slot. So these take 32384 bytes, and
-// 256 more for each slot. The rest of the file is a page for the header, and 4 for the buckets.
+// The row of words has 16 words, 2000 flags, 16 words for a life, 2000 entries, and 16 words for
+// each slot. After it come 128 bytes of events, and 128 more for each slot. So these take 32384
+// bytes, and 256 more for each slot. The rest of the file is a page for the header, and 4 for the
+// buckets.
 static void lengths(void) {
     bb_pool_file_options options = {
         .bucket_size = 8, .bucket_align = 8, .buckets = 2000, .parties = 1, .slots = 0};
@@ -2935,7 +2936,7 @@ static void reaps(void) {
     end_killed(living);
     bb_file_party *next = join_it(file);  // it has the dead one's number, with nothing left
     EXPECT(number_of(next) == 1 && info_of(file).held == 1);
-    EXPECT(bb_file_party_holds(party, mine).number == 1);
+    EXPECT(holds(party, mine));
     close_it(file);
     remove_it();
     reapers();
@@ -3069,7 +3070,7 @@ static void forked(void) {
         _exit(0);
     }
     end(child);
-    EXPECT(bb_file_party_holds(party, place).number == 1);
+    EXPECT(holds(party, place) && info_of(file).held == 2);
     close_it(file);
     remove_it();
 }

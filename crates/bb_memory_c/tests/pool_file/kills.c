@@ -900,7 +900,8 @@ static bool pause_reap(bb_pool_file *ours, bb_file_party *party, uint32_t steps)
     return ended;
 }
 
-// Expects that the flag of the bucket with this number has this state, and names this party or slot.
+// Expects that the flag of the bucket with this number has this state, and names this party or
+// slot.
 static void expect_flag(bb_pool_file *ours, uint32_t number, uint32_t state, size_t by) {
     bb_holder flag;
     EXPECT(bb_pool_file_holder(ours, number, &flag) == BB_OK);

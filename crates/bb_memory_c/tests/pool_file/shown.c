@@ -10,11 +10,11 @@
 
 #include "bb_pool_file.h"
 
-// Seven numbers with four buckets each: those of the parties, and the one after them. Each party's
-// first request finds the first of its own buckets.
+// Six parties with four buckets each. Each party's first request finds the first of its own
+// buckets.
 static const bb_pool_file_options OPTIONS = {.bucket_size = 100,
                                              .bucket_align = 8,
-                                             .buckets = 28,
+                                             .buckets = 24,
                                              .parties = 6,
                                              .slots = 4,
                                              .user_bytes = 40};

@@ -51,8 +51,9 @@
 
 #include "bb_pool_file.h"
 
-// The pool, and where its words are in the file: after a page for the header come 16 words, then the
-// flags, the lives, the entries and the slots. Each of these parts begins at a multiple of 16 words.
+// The pool, and where its words are in the file: after a page for the header come 16 words, then
+// the flags, the lives, the entries and the slots. Each of these parts begins at a multiple of 16
+// words.
 enum {
     PARTIES = 4,
     SLOTS = 3,
