@@ -254,9 +254,6 @@ module _ (old new : FileLog) (hint buckets : ℕ) (all : buckets ≡ old.scene.b
   outside : nat_lt hint old.scene.buckets ≡ false
   outside = le-ltb hint old.scene.buckets (subst (λ (n : ℕ). n ≤ hint) all past)
 
-  pub none_first : new ≡ old → BeginsSearch old hint new
-  none_first is = rw outside is
-
   none_tried : BeginsSearch old hint new → new ≡ old
   none_tried begun = rw outside at begun
 

@@ -41,21 +41,3 @@ module _ {W : Type 0} (log : W → FileLog) (before old : JoinedParty W) (misses
       },
     );
   }
-
-  -- it took none
-  pub later_missed : (words : W) →
-      ((first : FileLog) → BeginsSearch first old.hint.bucket (log old.words) → AllocateSays first old.hint.bucket None (log words)) →
-      Allocates log before None (record old { words = words })
-  later_missed words says = record {
-    cached = λ rest last is. absurd (not_last before.cached rest last misses.none_cached is);
-    searched = λ none. (
-      subst (λ (h : Hint). AllocateSays (log before.words) h.bucket None (log words)) same_hint (says (log before.words) begun),
-      λ i. record {
-        words = words;
-        notes = (misses.unchanged i).notes;
-        hint = (misses.unchanged i).hint;
-        cached = (misses.unchanged i).cached;
-        most = (misses.unchanged i).most;
-      },
-    );
-  }
