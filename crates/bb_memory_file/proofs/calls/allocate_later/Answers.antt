@@ -1,7 +1,7 @@
 use Rattle.bb_memory_file.proofs.FileSearches.{found_anywhere, found_before, found_behind, search_takes, takes_on}
 use Rattle.bb_memory_file.proofs.calls.allocate_later.Goals as goal
 use Rattle.bb_memory_file.specs.FileCode.{FileLog}
-use Rattle.std.proofs.Common.{Some, ap, arith, sym, ◌∙◌, ◌≡◌, ◌≤◌}
+use Rattle.std.proofs.Common.{Some, ap, arith, ◌∙◌}
 
 pub returns-then-hint-buckets-clause-answer : goal.returns-then-hint-buckets-clause-answer
 returns-then-hint-buckets-clause-answer g c before begun =

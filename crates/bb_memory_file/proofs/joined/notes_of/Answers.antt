@@ -1,6 +1,6 @@
 use Rattle.bb_memory_file.proofs.joined.notes_of.Goals as goal
 use Rattle.bb_memory_file.specs.FileNotes.{Note, Unheld}
-use Rattle.std.proofs.Common.{List, ap, arith, refl, rules, take, ◌+◌, ◌∙◌, ◌≡◌}
+use Rattle.std.proofs.Common.{List, ap, arith, rules, take, ◌+◌, ◌∙◌, ◌≡◌}
 use Rattle.std.proofs.lemmas.List.{take-replicate}
 use Rattle.std.specs.Prelude.{replicate}
 

@@ -2,7 +2,7 @@ use Rattle.bb_memory_file.proofs.FileFlushes.{flushed_with, less_first, less_sec
 use Rattle.bb_memory_file.proofs.joined.Joined.cache.Goals.{else-most-buckets, then-most-buckets}
 use Rattle.bb_memory_file.proofs.joined.Joined.cache.Goals as goal
 use Rattle.bb_memory_file.specs.FileNotes.{Flushes, JoinedParty}
-use Rattle.std.proofs.Common.{ap, refl, subst, sym, ℕ, ◌∙◌, ◌≡◌}
+use Rattle.std.proofs.Common.{ap, subst, sym, ℕ, ◌∙◌, ◌≡◌}
 use Rattle.std.specs.Prelude.{if◌then◌else◌, nat_lt}
 
 pub returns : goal.returns
