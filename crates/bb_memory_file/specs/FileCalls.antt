@@ -3,8 +3,8 @@
 -- Each call takes some steps of the machine. A call that refuses says what it found: the events that
 -- its log gets are the operations that it made.
 use Rattle.bb_memory_file.specs.FileCode.{EmptySlot, Event, ExchangeFlag, ExchangeSlot, FileLog, Has, HasNot, Holds, IsWalk, Known, LoadEntry, LoadFlag, LoadLife, LoadSlot, MissFlag, MissSlot, Seen, StoreEntry, StoreFlag, StoreLife, Unknown, Unseen, known_of, life_by}
-use Rattle.bb_memory_file.specs.FileLog.{IsLap}
-use Rattle.bb_memory_file.specs.FileNames.{Allocate, AttachNumber, Count, Counting, Deallocate, DetachNumber, DetachedBy, Done, Empty, Entry, FileFlag, FileStep, Fill, Free, HeldBy, In, Leave, Message, Next, Nowhere, Outside, Place, Post, PutBack, Recover, SentTo, Settled, Take}
+use Rattle.bb_memory_file.specs.FileLog.{IsLap, seen_in}
+use Rattle.bb_memory_file.specs.FileNames.{Allocate, AttachNumber, Count, Counting, Deallocate, DetachNumber, DetachedBy, Done, Empty, Entry, FileFlag, FileStep, Fill, Free, HeldBy, In, Leave, Message, Next, Nowhere, Outside, Place, Post, PutBack, Recover, SentTo, Settled, Slot, Take}
 pub use Rattle.bb_memory_file.specs.declared.calls.Received.{Received}
 pub use Rattle.bb_memory_file.specs.declared.calls.Received.TheVariants as received
 pub use Rattle.bb_memory_file.specs.declared.calls.Whereabouts.{Whereabouts}
@@ -199,6 +199,16 @@ IsAt bucket whereabouts.Entered new =
     (slot : ℕ) × (size : ℕ) × (known_of new bucket ≡ Holds (Some (In slot size)) (HasNot slot))
 IsAt bucket whereabouts.Nowhere new = (seen : Seen) × (known_of new bucket ≡ Holds (Some Nowhere) seen)
 
+-- By these looks, and no others, the party found where the bucket is: it has loaded the bucket's entry, and if
+-- the entry names a slot, the slot.
+abbrev pub IsLookedUp : ℕ → Whereabouts → List Event → Type 0
+IsLookedUp bucket (whereabouts.In slot lap) looks =
+    (length : ℕ) × (looks ≡ LoadSlot slot (Message lap bucket) ∷ LoadEntry bucket (In slot length) ∷ [])
+IsLookedUp bucket whereabouts.Entered looks =
+    (slot : ℕ) × (length : ℕ) × (word : Slot) × (looks ≡ LoadSlot slot word ∷ LoadEntry bucket (In slot length) ∷ [])
+    × (seen_in bucket slot word ≡ HasNot slot)
+IsLookedUp bucket whereabouts.Nowhere looks = looks ≡ LoadEntry bucket Nowhere ∷ []
+
 -- the call only looks, and knows where the bucket is
 pub record IsFound (old : FileLog) (bucket : ℕ) (answer : Whereabouts) (new : FileLog) : Type 0 where
   pub events : List Event
@@ -207,17 +217,21 @@ pub record IsFound (old : FileLog) (bucket : ℕ) (answer : Whereabouts) (new : 
   pub quiet : on_life events ≡ []
   pub looks : (process : ℕ) (here : Place) → IsWalk process old here new [] here
   pub found : IsAt bucket answer new
+  pub by : IsLookedUp bucket answer events
   pub others : (other : ℕ) → other ≢ bucket → unseen (known_of new other) ≡ unseen (known_of old other)
 
--- the call has put back the bucket, which a slot has, or has found that none has it; of each other
--- bucket the party knows what it knew
+-- The call has found where the bucket is, and if a slot has it, has put it back there. Of each other bucket the
+-- party knows what it knew.
 abbrev pub IsPutBack : ℕ → FileLog → ℕ → Whereabouts → FileLog → Type 0
 IsPutBack process old bucket (whereabouts.In slot lap) new =
     Makes process old (PutBack process old.party slot bucket ∷ []) new × (known_of new bucket ≡ Unknown)
     × ((other : ℕ) → other ≢ bucket → unseen (known_of new other) ≡ unseen (known_of old other))
+    × ((looks : List Event) × IsLookedUp bucket (whereabouts.In slot lap) looks
+    × Gets old (StoreFlag bucket (SentTo slot lap) ∷ looks) new)
 IsPutBack process old bucket found new =
     Makes process old [] new × IsAt bucket found new
     × ((other : ℕ) → other ≢ bucket → unseen (known_of new other) ≡ unseen (known_of old other))
+    × ((looks : List Event) × IsLookedUp bucket found looks × Gets old looks new)
 
 -- SETTLERS
 
