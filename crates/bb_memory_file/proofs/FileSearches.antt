@@ -85,7 +85,7 @@ search_ends old log new from to bucket party search below mine is =
     let is' : new ≡ told log (ExchangeFlag bucket Free (HeldBy log.party)) =
     is ∙ ap (λ p. told log (ExchangeFlag bucket Free (HeldBy p))) (mine ∙ sym same) in (
       is ∙ ap (λ p. told log (ExchangeFlag bucket Free (HeldBy p))) mine
-      ∙ ap (λ (l : FileLog). told l (ExchangeFlag bucket Free (HeldBy old.party))) search.gets,
+          ∙ ap (λ (l : FileLog). told l (ExchangeFlag bucket Free (HeldBy old.party))) search.gets,
       (λ process. subst (λ (p : ℕ). Makes process old (Allocate process p bucket ∷ []) new) same
           (walk_on process old log new Outside Outside Outside [] (Allocate process log.party bucket ∷ []) (search.makes process)
           (walk_step process log new Outside (ExchangeFlag bucket Free (HeldBy log.party)) (Allocate process log.party bucket) Outside refl
