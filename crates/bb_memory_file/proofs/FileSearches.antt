@@ -6,9 +6,9 @@ use Rattle.bb_memory_file.specs.FileCalls.{AllocateSays, AllocatesFrom, BeginsSe
 use Rattle.bb_memory_file.specs.FileCode.{Event, ExchangeFlag, FileLog, MissFlag, known_of, told}
 use Rattle.bb_memory_file.specs.FileNames.{Allocate, Free, HeldBy, Outside}
 use Rattle.bb_memory_pool_machine.proofs.PoolSteps.{test_same}
-use Rattle.std.proofs.Common.{Bool, List, None, Option, Some, [], ap, arith, false, inl, inr, refl, subst, suc, sym, true, zero, ℕ, ◌++◌, ◌+◌, ◌-◌, ◌<◌, ◌∙◌, ◌∷◌, ◌≡◌, ◌≤◌, ◌⊎◌}
-use Rattle.std.proofs.lemmas.Bool.{le-ltb, lt-ltb, ltb-false, ltb-true, ne_eqb}
-use Rattle.std.specs.Prelude.{if◌then◌else◌, nat_lt, ◌==◌}
+use Rattle.std.proofs.Common.{List, None, Option, Some, [], ap, arith, false, refl, subst, suc, sym, true, zero, ℕ, ◌++◌, ◌+◌, ◌-◌, ◌<◌, ◌∙◌, ◌∷◌, ◌≡◌, ◌≤◌}
+use Rattle.std.proofs.lemmas.Bool.{le-ltb, lt-ltb, ne_eqb}
+use Rattle.std.specs.Prelude.{if◌then◌else◌, nat_lt}
 
 -- THE EVENTS OF A SEARCH
 

@@ -10,7 +10,7 @@ use Rattle.std.proofs.lemmas.List.{length_push}
 use Rattle.std.specs.Prelude.{slice_set}
 
 -- no empty list ends with a bucket
-not_last : (cached before : List ℕ) (last : ℕ) → cached ≡ [] → ¬ (cached ≡ before ++ last ∷ [])
+pub not_last : (cached before : List ℕ) (last : ℕ) → cached ≡ [] → ¬ (cached ≡ before ++ last ∷ [])
 not_last cached before last none is = let long = length_push before last in absurd (omega (arith, ap length (sym none ∙ is)))
 
 module _ {W : Type 0} (log : W → FileLog) (before old : JoinedParty W) (misses : MissesFirst log before old) where
