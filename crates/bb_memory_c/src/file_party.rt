@@ -421,7 +421,12 @@ impl OpenFile {
             return Err(code::NO_PARTY);
         };
         let geometry = self.table.geometry();
-        let hint = Hint::first(geometry.buckets, geometry.parties, self.bucket.size(), number);
+        let hint = Hint::first(
+            geometry.buckets,
+            geometry.parties,
+            self.bucket.size(),
+            number,
+        );
         let party = match Joined::join(words, alloc, hint) {
             Ok(Ok(party)) => party,
             Ok(Err(_)) => return Err(code::NO_PARTY),

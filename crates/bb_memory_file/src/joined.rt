@@ -134,11 +134,7 @@ impl<W: Words + Drop> Joined<W> {
     ///
     /// Fails if memory runs out. Then the number's life is counted, the words are given up, and nothing
     /// else is done to the file: the caller frees the lock right after.
-    pub fn join(
-        mut words: W,
-        alloc: Global,
-        hint: Hint,
-    ) -> Result<Result<Joined<W>, W>, AllocError>
+    pub fn join(mut words: W, alloc: Global, hint: Hint) -> Result<Result<Joined<W>, W>, AllocError>
         requires { (W.log words).events ≡ [] }
         ensures joined { IfOk result (λ joined. Joins W.log words hint joined) }
         ensures failed { IfErr result (λ _. JoinsNot W.unlocked (W.log words)) }

@@ -113,7 +113,9 @@ impl FileTable {
         requires { slot < self.now.geometry.slots }
         ensures { (word : ℕ) × HasLoaded self.now (slot_at self.now.geometry slot) word × (result ≡ slot_in word) }
     {
-        format::slot_in(self.load(self.geometry.first_slot + WORDS_FROM_SLOT_TO_SLOT * slot as usize))
+        format::slot_in(self.load(
+            self.geometry.first_slot + WORDS_FROM_SLOT_TO_SLOT * slot as usize,
+        ))
     }
 
     /// Returns the life of a party's number, by a load.

@@ -9,15 +9,18 @@ returns-in-Err c =
     let told = c.in-Err.ensures in
     record {
       held_one = λ some. absurd (some none);
-      joins = λ _. answers c.in-Some.ensures.value (c.made_mut.follows.holds _) (record {
-        joins = λ done.
-            let apart : c.in-Err.code ≢ no_party = λ same. omega (arith, done) in
-            absurd (omega (arith, done, told.no_other apart));
-        none_such = λ past. let same = told.none_such past in cc;
-        no_memory = λ same. told.no_memory (ap Err same);
-        no_other = λ _. told.no_other;
-        empty = λ _. c.is_made.ensures.unchanged ∙ none;
-      }, refl);
+      joins = λ _. answers c.in-Some.ensures.value (c.made_mut.follows.holds _) (
+        record {
+          joins = λ done.
+              let apart : c.in-Err.code ≢ no_party = λ same. omega (arith, done) in
+              absurd (omega (arith, done, told.no_other apart));
+          none_such = λ past. let same = told.none_such past in cc;
+          no_memory = λ same. told.no_memory (ap Err same);
+          no_other = λ _. told.no_other;
+          empty = λ _. c.is_made.ensures.unchanged ∙ none;
+        },
+        refl,
+      );
     }
 
 pub returns : goal.returns
@@ -26,11 +29,14 @@ returns c =
     let told = c.in-Ok.ensures in
     record {
       held_one = λ some. absurd (some none);
-      joins = λ _. answers c.in-Some.ensures.value (c.made_mut.follows.holds _) (record {
-        joins = λ _. (c.in-Ok.joined.value, c.put.ensures, told.joins);
-        none_such = λ past. let same = told.none_such past in absurd (cc);
-        no_memory = λ wrong. absurd (omega (arith, wrong));
-        no_other = λ not. absurd (not refl);
-        empty = λ not. absurd (not refl);
-      }, refl);
+      joins = λ _. answers c.in-Some.ensures.value (c.made_mut.follows.holds _) (
+        record {
+          joins = λ _. (c.in-Ok.joined.value, c.put.ensures, told.joins);
+          none_such = λ past. let same = told.none_such past in absurd (cc);
+          no_memory = λ wrong. absurd (omega (arith, wrong));
+          no_other = λ not. absurd (not refl);
+          empty = λ not. absurd (not refl);
+        },
+        refl,
+      );
     }

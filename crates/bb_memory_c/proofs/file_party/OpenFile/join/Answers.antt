@@ -22,9 +22,12 @@ returns-in-Ok-clause-joins c =
     let hint : c.first-hint.result
     ≡ first_hint geometry.buckets geometry.parties c.args.self.now.places.bucket.size c.args.number = search rules in
     let same : c.in-Ok-Ok.party ≡ c.in-Ok.joined.value.party = search rules in
-    let joins = subst (λ (p : JoinedParty FileParty). Joins log_of words c.first-hint.result (Ok p)) same did in
-    (words, c.in-Some.ensures.fresh, subst (λ (h : Hint). Joins log_of words h (Ok c.in-Ok.joined.value.party)) hint joins,
-    search rules)
+    let joins = subst (λ (p : JoinedParty FileParty). Joins log_of words c.first-hint.result (Ok p)) same did in (
+      words,
+      c.in-Some.ensures.fresh,
+      subst (λ (h : Hint). Joins log_of words h (Ok c.in-Ok.joined.value.party)) hint joins,
+      search rules,
+    )
 
 pub returns-in-Err-new-clause-no_memory : goal.returns-in-Err-new-clause-no_memory
 returns-in-Err-new-clause-no_memory c _ =

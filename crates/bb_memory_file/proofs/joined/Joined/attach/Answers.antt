@@ -9,7 +9,7 @@ pub invariant_of-self : goal.invariant_of-self
 invariant_of-self g c =
     let was : slice_get c.args.self.now.notes c.args.bucket ≡ Some Unheld = cc in (
       after_attach _ _ c.self.inside.notes.items c.self.invariant.0 c.args.bucket (rw (← c.self.view_is) at was)
-    c.if-is_attached.ensures,
+          c.if-is_attached.ensures,
       cached_while c.self.inside.notes.items c.self.inside.cached.items c.args.bucket Unheld InUse c.self.invariant.1 (rw (← c.self.view_is) at was) unheld_apart in_use_apart,
       c.self.invariant.2,
       c.self.invariant.3,
@@ -20,7 +20,7 @@ pub invariant_of-self-else-is_attached : goal.invariant_of-self-else-is_attached
 invariant_of-self-else-is_attached g c =
     let was : slice_get c.args.self.now.notes c.args.bucket ≡ Some Unheld = cc in (
       after_no_attach _ _ c.self.inside.notes.items c.self.invariant.0 c.args.bucket (rw (← c.self.view_is) at was)
-    c.if-is_attached.ensures,
+          c.if-is_attached.ensures,
       c.self.invariant.1,
       c.self.invariant.2,
       c.self.invariant.3,

@@ -10,30 +10,30 @@ use Rattle.std.specs.Prelude.{slice_get}
 
 pub invariant_of-self : goal.invariant_of-self
 invariant_of-self g c = (
-      after_look _ _ c.self.inside.notes.items c.args.slot _ c.self.invariant.0 c.load_slot.ensures.told,
-      c.self.invariant.1,
-      c.self.invariant.2,
-      c.self.invariant.3,
-      c.self.invariant.4,
-    )
+  after_look _ _ c.self.inside.notes.items c.args.slot _ c.self.invariant.0 c.load_slot.ensures.told,
+  c.self.invariant.1,
+  c.self.invariant.2,
+  c.self.invariant.3,
+  c.self.invariant.4,
+)
 
 pub invariant_of-self-2 : goal.invariant_of-self-2
 invariant_of-self-2 g c = (
-      after_look _ _ c.self.inside.notes.items c.args.slot _ c.self.invariant.0 c.load_slot.ensures.told,
-      c.self.invariant.1,
-      c.self.invariant.2,
-      c.self.invariant.3,
-      c.self.invariant.4,
-    )
+  after_look _ _ c.self.inside.notes.items c.args.slot _ c.self.invariant.0 c.load_slot.ensures.told,
+  c.self.invariant.1,
+  c.self.invariant.2,
+  c.self.invariant.3,
+  c.self.invariant.4,
+)
 
 pub invariant_of-self-in-None : goal.invariant_of-self-in-None
 invariant_of-self-in-None g c = (
-      after_look _ _ c.self.inside.notes.items c.args.slot _ c.self.invariant.0 c.load_slot.ensures.told,
-      c.self.invariant.1,
-      c.self.invariant.2,
-      c.self.invariant.3,
-      c.self.invariant.4,
-    )
+  after_look _ _ c.self.inside.notes.items c.args.slot _ c.self.invariant.0 c.load_slot.ensures.told,
+  c.self.invariant.1,
+  c.self.invariant.2,
+  c.self.invariant.3,
+  c.self.invariant.4,
+)
 
 pub receive-requires-clause-below : goal.receive-requires-clause-below
 receive-requires-clause-below g c =
@@ -45,8 +45,8 @@ pub invariant_of-self-in-NotSent : goal.invariant_of-self-in-NotSent
 invariant_of-self-in-NotSent g c =
     let was : slice_get c.self.inside.notes.items c.in-Message.bucket ≡ Some Unheld = cc in (
       after_not_sent _ _ c.self.inside.notes.items
-    (after_look _ _ c.self.inside.notes.items c.args.slot _ c.self.invariant.0 c.load_slot.ensures.told) c.in-Message.bucket
-    c.args.slot c.in-Message.lap c.args.size was c.in-NotSent.ensures,
+          (after_look _ _ c.self.inside.notes.items c.args.slot _ c.self.invariant.0 c.load_slot.ensures.told) c.in-Message.bucket
+          c.args.slot c.in-Message.lap c.args.size was c.in-NotSent.ensures,
       c.self.invariant.1,
       c.self.invariant.2,
       c.self.invariant.3,
@@ -57,8 +57,8 @@ pub invariant_of-self-in-Wrong : goal.invariant_of-self-in-Wrong
 invariant_of-self-in-Wrong g c =
     let was : slice_get c.self.inside.notes.items c.in-Message.bucket ≡ Some Unheld = cc in (
       after_wrong _ _ c.self.inside.notes.items
-    (after_look _ _ c.self.inside.notes.items c.args.slot _ c.self.invariant.0 c.load_slot.ensures.told) c.in-Message.bucket
-    c.args.slot c.in-Message.lap c.args.size was c.in-Wrong.ensures,
+          (after_look _ _ c.self.inside.notes.items c.args.slot _ c.self.invariant.0 c.load_slot.ensures.told) c.in-Message.bucket
+          c.args.slot c.in-Message.lap c.args.size was c.in-Wrong.ensures,
       c.self.invariant.1,
       c.self.invariant.2,
       c.self.invariant.3,
@@ -74,8 +74,8 @@ pub invariant_of-self-in-Message-receive : goal.invariant_of-self-in-Message-rec
 invariant_of-self-in-Message-receive g c =
     let was : slice_get c.self.inside.notes.items c.in-Message.bucket ≡ Some Unheld = cc in (
       after_message _ _ c.self.inside.notes.items
-    (after_look _ _ c.self.inside.notes.items c.args.slot _ c.self.invariant.0 c.load_slot.ensures.told) c.in-Message.bucket
-    c.args.slot c.in-Message.lap c.args.size was _ c.in-Message-receive.ensures,
+          (after_look _ _ c.self.inside.notes.items c.args.slot _ c.self.invariant.0 c.load_slot.ensures.told) c.in-Message.bucket
+          c.args.slot c.in-Message.lap c.args.size was _ c.in-Message-receive.ensures,
       cached_while c.self.inside.notes.items c.self.inside.cached.items c.in-Message.bucket Unheld Undone c.self.invariant.1 was unheld_apart undone_apart,
       c.self.invariant.2,
       c.self.invariant.3,
@@ -84,12 +84,12 @@ invariant_of-self-in-Message-receive g c =
 
 pub invariant_of-self-in_default-note : goal.invariant_of-self-in_default-note
 invariant_of-self-in_default-note g c = (
-      after_look _ _ c.self.inside.notes.items c.args.slot _ c.self.invariant.0 c.load_slot.ensures.told,
-      c.self.invariant.1,
-      c.self.invariant.2,
-      c.self.invariant.3,
-      c.self.invariant.4,
-    )
+  after_look _ _ c.self.inside.notes.items c.args.slot _ c.self.invariant.0 c.load_slot.ensures.told,
+  c.self.invariant.1,
+  c.self.invariant.2,
+  c.self.invariant.3,
+  c.self.invariant.4,
+)
 
 pub returns-in-NotSent : goal.returns-in-NotSent
 returns-in-NotSent g c =
