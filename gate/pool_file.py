@@ -14,8 +14,8 @@ refused by the program that its file names:
 Each such command first runs with the unmodified code, and has to pass (gate/verdicts.py). If the
 function isn't exported, a line `# call: FUNCTION` names each exported one that the change breaks.
 
-Last, gate/pool_traces.py compares the compiled code with the proved machine. A mutant that no program
-refuses is `refused by: machine`.
+Last, gate/pool_traces.py compares the compiled code with the proved machine. A mutant that no
+program refuses is `refused by: machine`.
 """
 
 import os
