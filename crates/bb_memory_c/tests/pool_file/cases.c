@@ -2209,6 +2209,41 @@ static void waits(void) {
     close_it(file);
 }
 
+// Any slot is full if one is, and empty if one is, whichever it is. So is it with buckets.
+static void any_of_them(void) {
+    bb_pool_file *file = open_it();
+    bb_file_party *party = join_it(file);
+    bb_place places[20];
+    for (uint32_t at = 0; at < 4; at++) {
+        EXPECT(bb_pool_file_wait_full(file, BB_ANY_SLOT, 0) == BB_FILE_TIMED_OUT);
+        const bb_place place = take_one(party);
+        EXPECT(bb_pool_file_post(file, party, at, place, 1) == BB_OK);
+        EXPECT(bb_pool_file_wait_full(file, BB_ANY_SLOT, 0) == BB_OK);
+        EXPECT(bb_pool_file_wait_empty(file, BB_ANY_SLOT, 0) == BB_OK);
+        EXPECT(bb_pool_file_take(file, party, at).place == place);
+        EXPECT(bb_pool_file_done(file, party, at) == BB_OK);
+        EXPECT(bb_file_party_deallocate(party, place) == BB_OK);
+    }
+    for (uint32_t slot = 0; slot < 4; slot++)
+        EXPECT(bb_pool_file_post(file, party, slot, take_one(party), 1) == BB_OK);
+    for (uint32_t at = 0; at < 4; at++) {
+        EXPECT(bb_pool_file_wait_empty(file, BB_ANY_SLOT, 0) == BB_FILE_TIMED_OUT);
+        const bb_place place = bb_pool_file_take(file, party, at).place;
+        EXPECT(bb_pool_file_done(file, party, at) == BB_OK);
+        EXPECT(bb_pool_file_wait_empty(file, BB_ANY_SLOT, 0) == BB_OK);
+        EXPECT(bb_pool_file_post(file, party, at, place, 1) == BB_OK);
+    }
+    EXPECT(bb_file_party_take_many(party, places, 20).number == 16);
+    for (int at = 0; at < 16; at++) {
+        EXPECT(bb_pool_file_wait_bucket(file, 0) == BB_FILE_TIMED_OUT);
+        EXPECT(bb_file_party_deallocate(party, places[at]) == BB_OK);
+        EXPECT(bb_pool_file_wait_bucket(file, 0) == BB_OK);
+        EXPECT(take_one(party) == places[at]);
+    }
+    close_it(file);
+    remove_it();
+}
+
 // A file without slots has no slot to wait for, not even any.
 static void waits_for_no_slot(void) {
     bb_pool_file_options none = OPTIONS;
@@ -3670,6 +3705,7 @@ int main(int argc, char **argv) {
         wrong_entries();
         by_number();
         one_wins();
+        any_of_them();
         waits();
         waits_for_no_slot();
         ping();
