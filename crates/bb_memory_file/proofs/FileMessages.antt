@@ -1,7 +1,7 @@
 -- The walks of calls on messages.
 use Rattle.bb_memory_file.proofs.FileSteps.{clears, empties, fills, gives_up, posts, puts_back, sends, takes}
 use Rattle.bb_memory_file.proofs.FileWalks.{walk_look, walk_on, walk_step}
-use Rattle.bb_memory_file.specs.FileCalls.{Gets, IsAt, IsFound, IsPost, IsPutBack, IsReceive, Makes, Whereabouts, is_fit, length_in, unseen}
+use Rattle.bb_memory_file.specs.FileCalls.{Gets, IsAt, IsFound, IsLookedUp, IsPost, IsPutBack, IsReceive, Makes, Whereabouts, is_fit, length_in, unseen}
 use Rattle.bb_memory_file.specs.FileCalls.received as received
 use Rattle.bb_memory_file.specs.FileCalls.whereabouts as whereabouts
 use Rattle.bb_memory_file.specs.FileCode.{EmptySlot, ExchangeFlag, ExchangeSlot, FileLog, Has, HasNot, Holds, Known, LoadEntry, LoadSlot, MissFlag, MissSlot, Path, Seen, StoreEntry, StoreFlag, Unknown, Unseen, begins, known_of, looks, steps, told}
@@ -226,6 +226,7 @@ module _ (old : FileLog) (bucket : ℕ) (held : is_held (known_of old bucket) �
         frees = refl;
         quiet = refl;
         looks = λ process here. record { path = looks old [] here (LoadEntry bucket Nowhere) begins tt; scene = refl; party = refl };
+        by = refl;
         found = (seen_of (known_of old bucket), rw (test_same bucket bucket refl) (held_entry (known_of old bucket) Nowhere held));
         others = λ other apart. rw (ne_eqb bucket other (λ same. apart (sym same))) refl;
       })
@@ -243,8 +244,9 @@ module _ (old : FileLog) (bucket : ℕ) (held : is_held (known_of old bucket) �
         (held_entry (known_of old bucket) (In slot size) held))
 
     pub found_in : (answer : Whereabouts) (one new : FileLog) → one ≡ entry_read → new ≡ told one (LoadSlot slot word) →
-        IsAt bucket answer slot_read → IsFound old bucket answer new
-    found_in answer one new e1 e2 at = subst (λ log. IsFound old bucket answer log)
+        IsAt bucket answer slot_read → IsLookedUp bucket answer (LoadSlot slot word ∷ LoadEntry bucket (In slot size) ∷ []) →
+        IsFound old bucket answer new
+    found_in answer one new e1 e2 at by = subst (λ log. IsFound old bucket answer log)
         (sym (e2 ∙ ap (λ log. told log (LoadSlot slot word)) e1))
         (record {
           events = LoadSlot slot word ∷ LoadEntry bucket (In slot size) ∷ [];
@@ -257,6 +259,7 @@ module _ (old : FileLog) (bucket : ℕ) (held : is_held (known_of old bucket) �
             party = refl;
           };
           found = at;
+          by = by;
           others = λ other apart. rw (ne_eqb bucket other (λ same. apart (sym same)))
               (seen_away (known_of old other) (seen_in other slot word));
         })
@@ -282,4 +285,5 @@ module _ (process : ℕ) (old : FileLog) (bucket : ℕ) where
         subst (λ log. known_of log bucket ≡ Unknown) (sym is) (rw (test_same bucket bucket refl) refl),
         (λ other apart. subst (λ log. unseen (known_of log other) ≡ unseen (known_of old other)) (sym is)
             (rw (ne_eqb bucket other (λ same. apart (sym same))) (found.others other apart))),
+        (found.events, found.by, is ∙ ap (λ (log : FileLog). told log (StoreFlag bucket (SentTo slot lap))) found.gets),
       )

@@ -4,7 +4,7 @@ use Rattle.bb_memory_file.proofs.FileWalks.{path_on, walk_look, walk_nowhere}
 use Rattle.bb_memory_file.specs.FileCalls.{BeginsSearch, Gets, IsAttach, IsDeallocate, IsDetach, IsDone, IsJoin, IsPost, IsPutBack, IsReceive, IsSettled, TakesOne, unseen}
 use Rattle.bb_memory_file.specs.FileCalls.received as received
 use Rattle.bb_memory_file.specs.FileCalls.whereabouts as whereabouts
-use Rattle.bb_memory_file.specs.FileCode.{Event, FileLog, Has, HasNot, Holds, IsWalk, Known, LoadSlot, MissFlag, Path, Seen, Unknown, begins, known_of, looks, told}
+use Rattle.bb_memory_file.specs.FileCode.{FileLog, Has, HasNot, Holds, IsWalk, Known, LoadSlot, MissFlag, Path, Seen, Unknown, begins, known_of, looks, told}
 use Rattle.bb_memory_file.specs.FileLog.{IsKnownIn, fresh_log, held_still, is_clear, is_held, seen_in, with_entry, with_seen}
 use Rattle.bb_memory_file.specs.FileNames.{Counting, Entry, FileStep, Free, HeldBy, In, Message, Nowhere, Outside, Place, Settled, Slot}
 use Rattle.bb_memory_file.specs.FileNotes.{Cached, InUse, IsHome, IsJoined, IsNoted, Note, Undone, Unheld, looked}

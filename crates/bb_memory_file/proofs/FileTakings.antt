@@ -1,11 +1,11 @@
 -- What a party notes after a search.
 use Rattle.bb_memory_file.specs.FileCalls.{AllocateSays, BeginsSearch}
 use Rattle.bb_memory_file.specs.FileCode.{FileLog}
-use Rattle.bb_memory_file.specs.FileNotes.{Allocates, InUse, JoinedParty, MissesFirst, Returns, Unheld}
+use Rattle.bb_memory_file.specs.FileNotes.{Allocates, InUse, JoinedParty, MissesFirst}
 use Rattle.bb_memory_pool_machine.specs.PoolHints.{hint_after}
 use Rattle.bb_memory_pool_machine.specs.declared.hint.Hint.{Hint}
 use Rattle.bb_memory_pool_machine.specs.declared.steps.pool.PoolOutcome.TheVariants as outcome
-use Rattle.std.proofs.Common.{List, None, Option, Some, [], ap, arith, length, refl, subst, sym, ℕ, ◌++◌, ◌∙◌, ◌∷◌, ◌≡◌}
+use Rattle.std.proofs.Common.{List, Some, [], ap, arith, length, subst, sym, ℕ, ◌++◌, ◌∙◌, ◌∷◌, ◌≡◌}
 use Rattle.std.proofs.lemmas.List.{length_push}
 use Rattle.std.specs.Prelude.{slice_set}
 
@@ -36,24 +36,6 @@ module _ {W : Type 0} (log : W → FileLog) (before old : JoinedParty W) (misses
         words = words;
         notes = slice_set ((misses.unchanged i).notes) bucket InUse;
         hint = (moved ∙ ap (λ (h : Hint). hint_after h (outcome.Takes bucket)) same_hint) i;
-        cached = (misses.unchanged i).cached;
-        most = (misses.unchanged i).most;
-      },
-    );
-  }
-
-  -- it took none
-  pub later_missed : (words : W) →
-      ((first : FileLog) → BeginsSearch first old.hint.bucket (log old.words) → AllocateSays first old.hint.bucket None (log words)) →
-      Allocates log before None (record old { words = words })
-  later_missed words says = record {
-    cached = λ rest last is. absurd (not_last before.cached rest last misses.none_cached is);
-    searched = λ none. (
-      subst (λ (h : Hint). AllocateSays (log before.words) h.bucket None (log words)) same_hint (says (log before.words) begun),
-      λ i. record {
-        words = words;
-        notes = (misses.unchanged i).notes;
-        hint = (misses.unchanged i).hint;
         cached = (misses.unchanged i).cached;
         most = (misses.unchanged i).most;
       },

@@ -4,7 +4,7 @@ use Rattle.bb_memory_file.proofs.joined.Joined.join.Goals as goal
 use Rattle.bb_memory_file.specs.FileCode.{FileLog}
 use Rattle.bb_memory_file.specs.FileNames.{Flags}
 use Rattle.bb_memory_file.specs.FileNotes.{AreCached, IsJoined, Note, Unheld}
-use Rattle.std.proofs.Common.{List, [], ap, arith, inr, refl, rules, subst, sym, ◌∙◌, ◌≡◌}
+use Rattle.std.proofs.Common.{List, [], ap, arith, inr, refl, subst, sym, ◌∙◌, ◌≡◌}
 use Rattle.std.proofs.lemmas.Grind.{common_steps}
 use Rattle.std.specs.Prelude.{replicate}
 

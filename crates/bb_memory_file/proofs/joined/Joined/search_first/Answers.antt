@@ -2,8 +2,8 @@ use Rattle.bb_memory_file.proofs.FileCaches.{cached_still_none, in_use_apart}
 use Rattle.bb_memory_file.proofs.FileNotes.{after_allocate, after_no_first}
 use Rattle.bb_memory_file.proofs.FileSearches.{allocate_takes}
 use Rattle.bb_memory_file.proofs.joined.Joined.search_first.Goals as goal
-use Rattle.bb_memory_file.specs.FileNotes.{InUse, JoinedParty}
-use Rattle.std.proofs.Common.{Some, [], ap, arith, length, ◌∙◌, ◌≡◌}
+use Rattle.bb_memory_file.specs.FileNotes.{InUse}
+use Rattle.std.proofs.Common.{Some, [], ◌≡◌}
 
 pub invariant_of-self : goal.invariant_of-self
 invariant_of-self g c = (
