@@ -70,6 +70,9 @@ static void expect(bool holds, const char *what, int line) {
 static size_t requested;
 static size_t most = MOST_BYTES;
 
+// How many of the next requests for pages are ended by signals.
+static uint32_t interruptions;
+
 // False if the file system only says that it allocates pages.
 static bool allocates = true;
 
@@ -93,6 +96,10 @@ int fstatvfs(int fd, struct statvfs *to) {
 int posix_fallocate(int fd, off_t at, off_t length) {
     if (!allocates)
         return 0;
+    if (interruptions > 0) {
+        interruptions--;
+        return EINTR;
+    }
     requested += (size_t)length;
     if (requested > most)
         return ENOSPC;
@@ -788,6 +795,9 @@ static void signals(void) {
     EXPECT(setitimer(ITIMER_PROF, &often, NULL) == 0);
     EXPECT(code_of(path, &large) == BB_OK);
     EXPECT(setitimer(ITIMER_PROF, &never, NULL) == 0);
+    remove_it();
+    interruptions = 3;
+    EXPECT(code_of(path, &OPTIONS) == BB_OK && interruptions == 0);
     remove_it();
 }
 
@@ -2980,6 +2990,8 @@ static void reapers(void) {
 static void reaps(void) {
     bb_pool_file *file = open_it();
     bb_file_party *party = join_it(file);
+    // The life of this party is another one than those of the others.
+    EXPECT(bb_pool_file_leave(file, party) == BB_OK && join_it(file) == party);
     const bb_place mine = take_one(party);
     const pid_t living = holder(2);
     const pid_t dying = holder(3);
