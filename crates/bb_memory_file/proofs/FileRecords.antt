@@ -68,7 +68,8 @@ made_last geometry party hand operation operations true test made = made.0
 made_last geometry party hand operation operations false test made = let same = test_same hand hand refl in absurd (cc)
 
 -- the acts of a hand with one more operation
-operated : (geometry : FileGeometry) (parties : ℕ → ℕ) (hand by : ℕ) (operation : WordEvent) (operations : List WordEvent) (acts : List Act)
+operated : (geometry : FileGeometry) (parties : ℕ → ℕ) (hand by : ℕ) (operation : WordEvent) (operations : List WordEvent)
+    (acts : List Act)
     (own' : Bool) → (by == hand) ≡ own' →
     operations_in acts ≡ acts_of hand (log_by geometry (parties hand) operations) →
     operations_in (if own' then Operates by (parties by) (event_of geometry operation) ∷ acts else acts)

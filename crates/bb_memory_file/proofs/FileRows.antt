@@ -179,7 +179,8 @@ module _ (geometry : FileGeometry) (row : List ℕ) (words : FileWords) (is : Is
         IsEvent geometry party row words (Exchange (flag_at geometry bucket) (flag_word from) to found)
     flag_exchanged bucket from to found true test below has is' =
         is_event (Exchange (flag_at geometry bucket) (flag_word from) to found)
-        (ExchangeFlag bucket (flag_in (flag_word from)) (flag_in to)) (rw (flag_part geometry (length row) is bucket below, test) refl)
+        (ExchangeFlag bucket (flag_in (flag_word from)) (flag_in to))
+        (rw (flag_part geometry (length row) is bucket below, test) refl)
         (says.flags bucket below ∙ ap (λ (w : ℕ). Some (flag_in w)) (is' ∙ eqb-true found (flag_word from) test))
         (rw test (flag_written bucket to below))
     flag_exchanged bucket from to found false test below has is' =
@@ -190,7 +191,8 @@ module _ (geometry : FileGeometry) (row : List ℕ) (words : FileWords) (is : Is
         (rw test says)
 
     slot_exchanged : (slot from to found : ℕ) (hit : Bool) → (found == from) ≡ hit → slot < geometry.slots →
-        slice_index row (slot_at geometry slot) ≡ found → IsEvent geometry party row words (Exchange (slot_at geometry slot) from to found)
+        slice_index row (slot_at geometry slot) ≡ found →
+        IsEvent geometry party row words (Exchange (slot_at geometry slot) from to found)
     slot_exchanged slot from to found true test below is' =
         is_event (Exchange (slot_at geometry slot) from to found) (ExchangeSlot slot (slot_in from) (slot_in to))
         (rw (slot_part geometry (length row) is slot, test) refl)
@@ -224,7 +226,8 @@ module _ (geometry : FileGeometry) (row : List ℕ) (words : FileWords) (is : Is
         slot_exchanged slot from to found (found == from) refl below is'
     events_are operation (empties_slot slot lap below) is' =
         is_event operation (EmptySlot slot (lap_at (slot_word (Empty lap)))) (rw (slot_part geometry (length row) is slot) refl) tt
-        (subst (λ (word : Slot). Says geometry (slice_set row (slot_at geometry slot) (slot_word (Empty lap))) (with_slot words slot word))
+        (subst (λ (word : Slot). Says geometry (slice_set row (slot_at geometry slot) (slot_word (Empty lap)))
+        (with_slot words slot word))
         (empty_said lap) (slot_written slot (slot_word (Empty lap)) below))
     events_are operation (loads_life found) is' =
         is_event operation (LoadLife found) (rw (life_part geometry (length row) is party its) refl)

@@ -46,7 +46,8 @@ AreKept scene (act ∷ acts) = (actor act < scene.processes) × IsKept (words_af
 
 -- The words of a file began as those of a new file, and this run of recorded operations changed them.
 -- These acts tell of the run. The operations of each hand are those that a party of its number makes.
-pub record IsRecord (geometry : FileGeometry) (scene : FileScene) (parties : ℕ → ℕ) (start : List ℕ) (run : Run) (acts : List Act) : Type 0 where
+pub record IsRecord (geometry : FileGeometry) (scene : FileScene) (parties : ℕ → ℕ) (start : List ℕ) (run : Run)
+    (acts : List Act) : Type 0 where
   pub geometry_is : IsGeometry geometry (length start)
   pub start_is : Says geometry start (opening_state scene).words
   pub found : AllFound start run
@@ -57,7 +58,8 @@ pub record IsRecord (geometry : FileGeometry) (scene : FileScene) (parties : ℕ
 
 -- Each act was true when it was done, and the row says the words that the acts leave. The operations
 -- of each process are those that the log of its party tells.
-pub record IsTold (geometry : FileGeometry) (scene : FileScene) (parties : ℕ → ℕ) (start : List ℕ) (run : Run) (acts : List Act) : Type 0 where
+pub record IsTold (geometry : FileGeometry) (scene : FileScene) (parties : ℕ → ℕ) (start : List ℕ) (run : Run)
+    (acts : List Act) : Type 0 where
   pub true : AreTrue scene acts
   pub says : Says geometry (row.words_after start run) (words_after scene acts)
   pub logs : (hand : ℕ) → operations_in (own hand acts) ≡ acts_of hand (log_by geometry (parties hand) (of_hand hand run))

@@ -3,7 +3,8 @@ ghost use Rattle.bb_memory_file.specs.FileFormat.{IsGeometry, entry_at, entry_in
 ghost use Rattle.bb_memory_file.specs.FileLog.{fresh_log};
 ghost use Rattle.bb_memory_file.specs.FileParties.{log_of, scene_of};
 ghost use Rattle.bb_memory_file.specs.FileTables.{HasLoaded};
-ghost use Rattle.std.specs.Prelude.{IfOk, IfSome, length, ℕ, ◌<◌, ◌≡◌};
+ghost use Rattle.bb_memory_file.specs.Recorded.{beginning_of};
+ghost use Rattle.std.specs.Prelude.{IfOk, IfSome, length, replicate, ℕ, ◌<◌, ◌≡◌};
 
 use crate::format;
 use crate::geometry::{FileGeometry, WORDS_FROM_SLOT_TO_SLOT};
@@ -34,20 +35,19 @@ impl Model for FileTable {
 }
 
 impl FileTable {
-    /// Makes the words of a file of this geometry, which begin as these. Fails if memory runs out.
+    /// Makes the words of a file of this geometry, which begin as these. Fails if memory runs out. The first
+    /// request for memory is for a copy of the words, which is freed, and the second is for the row.
     pub fn new(
         alloc: Global,
         words: &[u64],
         geometry: FileGeometry,
     ) -> Result<FileTable, AllocError>
         requires { IsGeometry geometry (length words.now) }
-        ensures { IfOk result (λ table. table.geometry ≡ geometry) }
+        ensures geometry { IfOk result (λ table. table.geometry ≡ geometry) }
+        ensures beginning { IfOk result (λ table. beginning_of table.words ≡ words.now) }
     {
-        let words = RecordedWords::new(alloc, words)?;
-        let Ok(words) = Arc::new(alloc, words) else {
-            return Err(AllocError);
-        };
-        Ok(FileTable { words, geometry })
+        let words = Vec::from_slice(alloc, words)?;
+        FileTable::of(alloc, &words, geometry)
     }
 
     /// Makes the words of a new file of this geometry, which are all 0. Fails if memory runs out. The
@@ -58,10 +58,24 @@ impl FileTable {
         geometry: FileGeometry,
     ) -> Result<FileTable, AllocError>
         requires { IsGeometry geometry words }
-        ensures { IfOk result (λ table. table.geometry ≡ geometry) }
+        ensures geometry { IfOk result (λ table. table.geometry ≡ geometry) }
+        ensures beginning { IfOk result (λ table. beginning_of table.words ≡ replicate words 0) }
     {
         let zeros = Vec::from_elem(alloc, 0, words)?;
-        FileTable::new(alloc, zeros.as_slice(), geometry)
+        FileTable::of(alloc, &zeros, geometry)
+    }
+
+    /// Makes the words of a file, which begin as these. Fails if memory runs out.
+    fn of(alloc: Global, words: &Vec<u64>, geometry: FileGeometry) -> Result<FileTable, AllocError>
+        requires { IsGeometry geometry (length words.now.items) }
+        ensures geometry { IfOk result (λ table. table.geometry ≡ geometry) }
+        ensures beginning { IfOk result (λ table. beginning_of table.words ≡ words.now.items) }
+    {
+        let words = RecordedWords::new(alloc, words)?;
+        let Ok(words) = Arc::new(alloc, words) else {
+            return Err(AllocError);
+        };
+        Ok(FileTable { words, geometry })
     }
 
     /// Returns the geometry of the file.
