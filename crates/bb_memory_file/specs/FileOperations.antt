@@ -27,3 +27,15 @@ pub data IsMade (geometry : FileGeometry) (party : ℕ) : WordEvent → Type 0 w
 abbrev pub AreMade : FileGeometry → ℕ → List WordEvent → Type 0
 AreMade geometry party [] = Unit {0}
 AreMade geometry party (operation ∷ operations) = IsMade geometry party operation × AreMade geometry party operations
+
+-- A load of a word of the file, which anybody may make: the one who looks has no lock.
+pub data IsLook (geometry : FileGeometry) : WordEvent → Type 0 where
+  looks_at_flag : (bucket found : ℕ) → bucket < geometry.buckets → IsLook geometry (Load (flag_at geometry bucket) found)
+  looks_at_entry : (bucket found : ℕ) → bucket < geometry.buckets → IsLook geometry (Load (entry_at geometry bucket) found)
+  looks_at_slot : (slot found : ℕ) → slot < geometry.slots → IsLook geometry (Load (slot_at geometry slot) found)
+  looks_at_life : (party found : ℕ) → party < geometry.parties → IsLook geometry (Load (life_at geometry party) found)
+
+-- all of these operations are looks
+abbrev pub AreLooks : FileGeometry → List WordEvent → Type 0
+AreLooks geometry [] = Unit {0}
+AreLooks geometry (operation ∷ operations) = IsLook geometry operation × AreLooks geometry operations
