@@ -1,9 +1,9 @@
 -- Parties of files: their calls leave as many buckets as there are, and take buckets that are there.
 use Rattle.bb_memory_c.specs.Files.{HoldsPlace, JoinedFile}
 use Rattle.bb_memory_file.proofs.FileCaches.{last_cached}
-use Rattle.bb_memory_file.specs.FileCalls.{Gets, Makes}
+use Rattle.bb_memory_file.specs.FileCalls.{Makes}
 use Rattle.bb_memory_file.specs.FileLog.{FileLog}
-use Rattle.bb_memory_file.specs.FileNotes.{Allocates, AreCached, Attaches, Caches, Deallocates, Detaches, Flushes, GivesAllBack, IsDoneWith, JoinedParty, Joins, MissesFirst, Posts, Returns, Searches, Takes}
+use Rattle.bb_memory_file.specs.FileNotes.{Allocates, AreCached, Attaches, Deallocates, Detaches, GivesAllBack, IsDoneWith, JoinedParty, Posts, Returns, Searches, Takes}
 use Rattle.bb_memory_file.specs.FileParties.{log_of}
 use Rattle.bb_memory_file.specs.declared.joined.Note.{Note}
 use Rattle.bb_memory_file.specs.declared.joined.Refusal.{Refusal}
@@ -11,7 +11,6 @@ use Rattle.bb_memory_file.specs.declared.joined.Taken.{Taken}
 use Rattle.bb_memory_file.specs.declared.joined.Taken.TheVariants as taken
 use Rattle.bb_memory_file.specs.declared.party.FileParty.{FileParty}
 use Rattle.bb_memory_file_machine.specs.declared.steps.file.FileStep.{FileStep}
-use Rattle.bb_memory_pool_machine.specs.declared.hint.Hint.{Hint}
 use Rattle.bb_memory_traits.specs.Geometry.{IsPlaceOfBucket}
 use Rattle.std.proofs.Common.{Bool, Err, List, None, Ok, Option, Result, Some, [], ap, arith, false, inl, inr, length, refl, subst, sym, true, ℕ, ◌++◌, ◌<◌, ◌∙◌, ◌∷◌, ◌≡◌, ◌⊎◌}
 use Rattle.std.proofs.lemmas.Bool.{cases_lt}
@@ -65,9 +64,6 @@ allocated-below old bucket new are long did = elim (ends old.cached) [
       omega (arith, same, long, slice_get_within old.notes last.1 _ noted)
 ]
 
-pub missed-same : (old new : Party) → MissesFirst log_of old new → buckets_of new ≡ buckets_of old
-missed-same old new did = ap (λ (l : FileLog). l.scene.buckets) did.begun
-
 pub returned-same : (old : Party) (bucket : ℕ) (new : Party) → Returns log_of old bucket new → buckets_of new ≡ buckets_of old
 returned-same old bucket new did = elim (cases_lt (length old.cached) old.most) [
   | inl fewer ↦ ap (λ (p : Party). buckets_of p) (did.cached fewer)
@@ -78,9 +74,6 @@ pub deallocated-same : (old : Party) (bucket : ℕ) (told : Result (Unit {0}) Re
     Deallocates log_of old bucket told new → buckets_of new ≡ buckets_of old
 deallocated-same old bucket (Ok done) new did = returned-same old bucket new did.1
 deallocated-same old bucket (Err refusal) new did = ap (λ (p : Party). buckets_of p) did.1
-
-pub flushed-same : (old new : Party) → Flushes log_of old new → buckets_of new ≡ buckets_of old
-flushed-same old new did = ap (λ (l : FileLog). l.scene.buckets) did.gets
 
 pub detached-same : (old : Party) (bucket : ℕ) (told : Result (Option ℕ) Refusal) (new : Party) → Detaches log_of old bucket told new →
     buckets_of new ≡ buckets_of old
@@ -132,10 +125,6 @@ done-same old slot false new did = ap (λ (l : FileLog). l.scene.buckets) did.1
 
 pub given-same : (old : Party) (freed : ℕ) (new : Party) → GivesAllBack log_of old freed new → buckets_of new ≡ buckets_of old
 given-same old freed new did = ap (λ (l : FileLog). l.scene.buckets) (did.0 0).gets
-
-pub joined-same : (words : FileParty) (hint : Hint) (joined : Party) → Joins log_of words hint (Ok joined) →
-    buckets_of joined ≡ (log_of words).scene.buckets
-joined-same words hint joined did = let settled = (did.0 0).4 in ap (λ (l : FileLog). l.scene.buckets) settled.gets
 
 -- PLACES
 

@@ -10,8 +10,8 @@ use Rattle.bb_memory_c_calls.specs.Calls.{Answers, Cutting, HasRoom, IsThere, Ma
 use Rattle.bb_memory_c_calls.specs.declared.answer.Answer.{Answer}
 use Rattle.bb_memory_c_calls.specs.declared.answer.Figure.{Figure}
 use Rattle.bb_memory_c_calls.specs.declared.answer.SharedPoolInfo.{SharedPoolInfo}
-use Rattle.bb_memory_c_calls.specs.declared.code.TheConstants.{ALREADY_INITIALIZED as already_initialized, DETACHED_EMPTY as detached_empty, DETACHED_FULL as detached_full, FILE_NOT_DONE as file_not_done, INVALID_ARGUMENT as invalid_argument, MALLOC_REFUSED as malloc_refused, NOT_A_BUCKET as not_a_bucket, NOT_HELD as not_held, NO_PARTY as no_party, OK as ok, SIZE_TOO_LARGE as size_too_large, UNINITIALIZED as uninitialized}
-use Rattle.bb_memory_file.specs.FileCalls.{IsJoin, IsLeave}
+use Rattle.bb_memory_c_calls.specs.declared.code.TheConstants.{ALREADY_INITIALIZED as already_initialized, DETACHED_EMPTY as detached_empty, DETACHED_FULL as detached_full, FILE_NOT_DONE as file_not_done, INVALID_ARGUMENT as invalid_argument, MALLOC_REFUSED as malloc_refused, NOT_A_BUCKET as not_a_bucket, NOT_HELD as not_held, NO_PARTY as no_party, OK as ok, PARTIES_JOINED as parties_joined, SIZE_TOO_LARGE as size_too_large, UNINITIALIZED as uninitialized}
+use Rattle.bb_memory_file.specs.FileCalls.{IsJoin, IsLeave, IsOver}
 use Rattle.bb_memory_file.specs.FileFormat.{entry_at, entry_in, flag_at, flag_in, geometry_of, life_at, slot_at, slot_in, words_of}
 use Rattle.bb_memory_file.specs.FileLog.{FileLog, fresh_log}
 use Rattle.bb_memory_file.specs.FileNotes.{Allocates, Attaches, Caches, Detaches, Flushes, GivesAllBack, IsDoneWith, JoinedParty, Joins, JoinsNot, MissesFirst, Posts, Reaps, Returns, Takes, used_in}
@@ -51,7 +51,7 @@ pub record OpenFile : Type 0 where
   pub table : FileTable
   pub places : PoolGeometry
 
--- this process has as many buckets as the file
+-- the geometry has as many buckets as the party's file
 abbrev pub IsPlaced : JoinedParty FileParty → PoolGeometry → Type 0
 IsPlaced party places = places.buckets ≡ (log_of party.words).scene.buckets
 
@@ -113,13 +113,20 @@ abbrev pub GivesUp : FileLog → Type 0
 GivesUp log = JoinsNot IsUnlocked log ⊎ ((joined : FileLog) × ((process : ℕ) → IsJoin process log true joined)
     × ((freed : ℕ) × LeavesFrom joined freed))
 
--- A party joins as this number, whose lock the caller has just taken. Its handle holds `party` then. If
--- there is no such number, C gets BB_NO_PARTY.
+-- nobody can join as this number: the file has no such party, or the number's life was just found to be
+-- over
+abbrev pub HasNoParty : OpenFile → ℕ → Type 0
+HasNoParty file number =
+    (file.table.geometry.parties ≤ number) ⊎ ((after : FileLog) × IsOver (fresh_of file number) after)
+
+-- A party joins as this number, whose lock the caller has just taken. Its handle holds `party` then. C
+-- gets BB_PARTIES_JOINED if no more parties can be counted: nothing was done to the file.
 pub record TellsJoin (file : OpenFile) (party : Option JoinedFile) (number code : ℕ) : Type 0 where
   pub joins : code ≡ ok → IsThere (JoinsAt file number) party
   pub none_such : file.table.geometry.parties ≤ number → code ≡ no_party
+  pub over : code ≡ no_party → HasNoParty file number
   pub no_memory : code ≡ malloc_refused → GivesUp (fresh_of file number)
-  pub no_other : code ≢ ok → code ≢ no_party → code ≡ malloc_refused
+  pub no_other : code ≢ ok → code ≢ no_party → code ≢ malloc_refused → code ≡ parties_joined
   pub empty : code ≢ ok → party ≡ None
 
 -- a party joins; its handle has to be empty
@@ -135,13 +142,15 @@ pub record AnswersLeave (old new : Option JoinedFile) (told : Figure) : Type 0 w
   pub was_empty : old ≡ None → told ≡ no_figure uninitialized
   pub empty : new ≡ None
 
--- A number is settled, whose lock the caller has just taken, and C gets how many buckets were freed. If
--- there is no such number, C gets BB_NO_PARTY.
+-- A number is settled, whose lock the caller has just taken, and C gets how many buckets were freed. C
+-- gets BB_PARTIES_JOINED if no more parties can be counted: nothing was done to the file.
 pub record TellsReap (file : OpenFile) (number : ℕ) (dead left : Bool) (told : Figure) : Type 0 where
-  pub reaped : told.code ≡ ok → (told ≡ figure_of told.number) × ((words : FileParty)
-      × (log_of words ≡ fresh_of file number) × Reaps log_of IsUnlocked words dead left (Ok told.number))
-  pub none_such : file.table.geometry.parties ≤ number → told ≡ no_figure no_party
-  pub no_other : told.code ≢ ok → told ≡ no_figure no_party
+  pub reaped : told.code ≡ ok → (words : FileParty)
+      × (log_of words ≡ fresh_of file number) × Reaps log_of IsUnlocked words dead left (Ok told.number)
+  pub none_such : file.table.geometry.parties ≤ number → told.code ≡ no_party
+  pub over : told.code ≡ no_party → HasNoParty file number
+  pub no_other : told.code ≢ ok → told.code ≢ no_party → told.code ≡ parties_joined
+  pub frees_none : told.code ≢ ok → told.number ≡ 0
 
 -- LOOKS
 

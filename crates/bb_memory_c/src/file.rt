@@ -53,7 +53,15 @@ pub extern "C" fn file_table_init(
     if call::is_made(handle) {
         return code::ALREADY_INITIALIZED;
     }
-    let cut = cut_file(bucket_size, bucket_align, start, size, buckets, slots, parties);
+    let cut = cut_file(
+        bucket_size,
+        bucket_align,
+        start,
+        size,
+        buckets,
+        slots,
+        parties,
+    );
     let (bucket, geometry) = match cut {
         Ok(cut) => cut,
         Err(code) => return code,

@@ -2,7 +2,7 @@ use Rattle.bb_memory_file.proofs.FileCaches.{cached_while, in_use_apart, unheld_
 use Rattle.bb_memory_file.proofs.FileNotes.{after_attach, after_no_attach}
 use Rattle.bb_memory_file.proofs.joined.Joined.attach.Goals as goal
 use Rattle.bb_memory_file.specs.FileNotes.{InUse, Unheld}
-use Rattle.std.proofs.Common.{Some, inl, refl, ◌≡◌}
+use Rattle.std.proofs.Common.{Some, inl, inr, refl, rules, ◌≡◌}
 use Rattle.std.specs.Prelude.{slice_get}
 
 pub invariant_of-self : goal.invariant_of-self
@@ -42,3 +42,6 @@ returns-else-is_attached g c =
       (rw (← c.self.view_is) at was),
       (c.if-is_attached.ensures, refl),
     ))
+
+pub returns-in_default : goal.returns-in_default
+returns-in_default g c = inr ((search rules), (search rules))

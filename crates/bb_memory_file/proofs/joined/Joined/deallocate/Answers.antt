@@ -61,3 +61,7 @@ returns-else-len-self g c = rw (← c.self.view_is) (
     );
   },
 )
+
+pub push_reserved-requires : goal.push_reserved-requires
+push_reserved-requires g c =
+    let less = c.if-len-self.true in let is = c.len.ensures in let room = c.self.invariant.3 in omega (arith, less, is, room)

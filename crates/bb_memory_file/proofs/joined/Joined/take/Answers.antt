@@ -4,8 +4,8 @@ use Rattle.bb_memory_file.proofs.joined.Joined.take.Goals as goal
 use Rattle.bb_memory_file.specs.FileCalls.{IsReceive}
 use Rattle.bb_memory_file.specs.FileCalls.received as received
 use Rattle.bb_memory_file.specs.FileCode.{FileLog}
-use Rattle.bb_memory_file.specs.FileNotes.{Undone, Unheld}
-use Rattle.std.proofs.Common.{Some, inr, refl, subst, ◌≡◌}
+use Rattle.bb_memory_file.specs.FileNotes.{IsHeldNote, Undone, Unheld}
+use Rattle.std.proofs.Common.{None, Some, inl, inr, refl, rules, subst, ◌≡◌}
 use Rattle.std.specs.Prelude.{slice_get}
 
 pub invariant_of-self : goal.invariant_of-self
@@ -135,4 +135,25 @@ returns-in-Message-receive g c =
             (c.in-Message-receive.ensures process)),
         refl,
       ),
+    )
+
+pub returns-in_default : goal.returns-in_default
+returns-in_default g c = rw (← c.self.view_is) (c.in_default.field-0, c.in_default.ensures.told, refl)
+
+pub returns-in-None : goal.returns-in-None
+returns-in-None g c =
+    let none : slice_get c.self.inside.notes.items c.in-Message.bucket ≡ None = cc in
+    rw (← c.self.view_is) (
+      c.in-Message.lap,
+      c.in-Message.bucket,
+      inl (none, c.in-Message.ensures.told, refl),
+    )
+
+pub returns-in_default-note : goal.returns-in_default-note
+returns-in_default-note g c =
+    let held : IsHeldNote (slice_get c.self.inside.notes.items c.in-Message.bucket) = search rules in
+    rw (← c.self.view_is) (
+      c.in-Message.lap,
+      c.in-Message.bucket,
+      inl (held, c.in-Message.ensures.told, refl),
     )
