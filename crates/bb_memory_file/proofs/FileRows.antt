@@ -1,15 +1,16 @@
 -- Operations on a file's row of words are events on the words of the machine.
 use Rattle.bb_memory_file.proofs.FileFlagWords.{flag_of_word, word_of_flag}
+use Rattle.bb_memory_file.proofs.FileSlotWords.{slot_of_word, word_of_slot}
 use Rattle.bb_memory_file.specs.FileCode.{Finds, left_by}
-use Rattle.bb_memory_file.specs.FileFormat.{EntryOf, FlagOf, HasFlagWord, IsGeometry, LifeOf, SlotOf, entry_at, entry_in, event_of, flag_at, flag_in, flag_word, lap_at, life_at, part_at, slot_at, slot_in, slot_word}
-use Rattle.bb_memory_file.specs.FileLog.{EmptySlot, Event, ExchangeFlag, ExchangeSlot, LoadEntry, LoadFlag, LoadLife, LoadSlot, MissFlag, MissSlot, StoreEntry, StoreFlag, StoreLife}
+use Rattle.bb_memory_file.specs.FileFormat.{EntryOf, FlagOf, HasFlagWord, HasSlotWord, IsGeometry, LifeOf, SlotOf, entry_at, entry_in, event_of, flag_at, flag_in, flag_word, lap_at, life_at, part_at, slot_at, slot_in, slot_word}
+use Rattle.bb_memory_file.specs.FileLog.{EmptySlot, Event, ExchangeFlag, ExchangeSlot, IsLap, LoadEntry, LoadFlag, LoadLife, LoadSlot, MissFlag, MissSlot, StoreEntry, StoreFlag, StoreLife}
 use Rattle.bb_memory_file.specs.FileNames.{Empty, FileFlag, Slot}
 use Rattle.bb_memory_file.specs.FileOperations.{IsMade, empties_slot, exchanges_flag, exchanges_slot, loads_entry, loads_flag, loads_life, loads_slot, stores_entry, stores_flag, stores_life}
 use Rattle.bb_memory_file.specs.FileRows.{IsEvent, Says}
 use Rattle.bb_memory_file.specs.Recorded.{Exchange, IsFoundIn, WordEvent, written}
 use Rattle.bb_memory_file.specs.declared.geometry.FileGeometry.{FileGeometry}
 use Rattle.bb_memory_file_machine.proofs.FileTests.{flag_there}
-use Rattle.bb_memory_file_machine.specs.FileLaws.{IsFlag}
+use Rattle.bb_memory_file_machine.specs.FileLaws.{IsFlag, IsSlot}
 use Rattle.bb_memory_file_machine.specs.FileMachine.{FileWords, is_flag, with_entry, with_flag, with_life, with_slot}
 use Rattle.bb_memory_lists.proofs.SliceGets.{slice_get-set_apart, slice_get-set_at}
 use Rattle.bb_memory_pool_machine.proofs.PoolSteps.{test_same}
@@ -58,8 +59,8 @@ module _ (geometry : FileGeometry) (words : ℕ) (is : IsGeometry geometry words
 -- READS OF A WRITTEN ROW
 
 -- the word of an empty slot says an empty slot
-empty_said : (lap : ℕ) → slot_in (slot_word (Empty lap)) ≡ Empty (lap_at (slot_word (Empty lap)))
-empty_said lap = rw (test_same (lap * 2 ^ 32 % 2 ^ 32) 0 (omega arith)) refl
+empty_said : (lap : ℕ) → IsLap lap → slot_in (slot_word (Empty lap)) ≡ Empty (lap_at (slot_word (Empty lap)))
+empty_said lap is = slot_of_word (Empty lap) is ∙ ap Empty (omega arith)
 
 -- another word says what it said
 still : {X : Type 0} (said : ℕ → X) (xs : List X) (number : ℕ) (row : List ℕ) (at word to : ℕ) →
@@ -189,16 +190,26 @@ module _ (geometry : FileGeometry) (row : List ℕ) (words : FileWords) (is : Is
         (says.flags bucket below ∙ ap (λ (w : ℕ). Some (flag_in w)) is') test refl)
         (rw test says)
 
-    slot_exchanged : (slot from to found : ℕ) (hit : Bool) → (found == from) ≡ hit → slot < geometry.slots →
-        slice_index row (slot_at geometry slot) ≡ found → IsEvent geometry party row words (Exchange (slot_at geometry slot) from to found)
-    slot_exchanged slot from to found true test below is' =
-        is_event (Exchange (slot_at geometry slot) from to found) (ExchangeSlot slot (slot_in from) (slot_in to))
-        (rw (slot_part geometry (length row) is slot, test) refl)
-        (says.slots slot below ∙ ap (λ (w : ℕ). Some (slot_in w)) (is' ∙ eqb-true found from test))
+    -- no other word says the slot from which the exchange was to be
+    slot_missed : (slot found : ℕ) (from : Slot) → HasSlotWord from → IsSlot words slot (slot_in found) →
+        (found == slot_word from) ≡ false → ¬ IsSlot words slot (slot_in (slot_word from))
+    slot_missed slot found from has there apart other =
+        let same = sym there ∙ other in
+        let said : slot_in found ≡ slot_in (slot_word from) = cc in
+        let hit = test_same found (slot_word from) (word_of_slot found from has (said ∙ slot_of_word from has)) in absurd (cc)
+
+    slot_exchanged : (slot : ℕ) (from : Slot) (to found : ℕ) (hit : Bool) → (found == slot_word from) ≡ hit → slot < geometry.slots →
+        HasSlotWord from → slice_index row (slot_at geometry slot) ≡ found →
+        IsEvent geometry party row words (Exchange (slot_at geometry slot) (slot_word from) to found)
+    slot_exchanged slot from to found true test below has is' =
+        is_event (Exchange (slot_at geometry slot) (slot_word from) to found)
+        (ExchangeSlot slot (slot_in (slot_word from)) (slot_in to)) (rw (slot_part geometry (length row) is slot, test) refl)
+        (says.slots slot below ∙ ap (λ (w : ℕ). Some (slot_in w)) (is' ∙ eqb-true found (slot_word from) test))
         (rw test (slot_written slot to below))
-    slot_exchanged slot from to found false test below is' =
-        is_event (Exchange (slot_at geometry slot) from to found) (MissSlot slot (slot_in from))
-        (rw (slot_part geometry (length row) is slot, test) refl) tt (rw test says)
+    slot_exchanged slot from to found false test below has is' =
+        is_event (Exchange (slot_at geometry slot) (slot_word from) to found) (MissSlot slot (slot_in (slot_word from)))
+        (rw (slot_part geometry (length row) is slot, test) refl)
+        (slot_missed slot found from has (says.slots slot below ∙ ap (λ (w : ℕ). Some (slot_in w)) is') test) (rw test says)
 
     pub events_are : (operation : WordEvent) → IsMade geometry party operation → IsFoundIn row operation →
         IsEvent geometry party row words operation
@@ -220,12 +231,12 @@ module _ (geometry : FileGeometry) (row : List ℕ) (words : FileWords) (is : Is
     events_are operation (loads_slot slot found below) is' =
         is_event operation (LoadSlot slot (slot_in found)) (rw (slot_part geometry (length row) is slot) refl)
         (says.slots slot below ∙ ap (λ (w : ℕ). Some (slot_in w)) is') says
-    events_are operation (exchanges_slot slot from to found below) is' =
-        slot_exchanged slot from to found (found == from) refl below is'
-    events_are operation (empties_slot slot lap below) is' =
+    events_are operation (exchanges_slot slot from to found below has) is' =
+        slot_exchanged slot from to found (found == slot_word from) refl below has is'
+    events_are operation (empties_slot slot lap below its_lap) is' =
         is_event operation (EmptySlot slot (lap_at (slot_word (Empty lap)))) (rw (slot_part geometry (length row) is slot) refl) tt
         (subst (λ (word : Slot). Says geometry (slice_set row (slot_at geometry slot) (slot_word (Empty lap))) (with_slot words slot word))
-        (empty_said lap) (slot_written slot (slot_word (Empty lap)) below))
+        (empty_said lap its_lap) (slot_written slot (slot_word (Empty lap)) below))
     events_are operation (loads_life found) is' =
         is_event operation (LoadLife found) (rw (life_part geometry (length row) is party its) refl)
         (says.lives party its ∙ ap (λ (w : ℕ). Some w) is') says
