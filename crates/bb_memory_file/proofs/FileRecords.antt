@@ -14,7 +14,7 @@ use Rattle.bb_memory_file.specs.Recorded as row
 use Rattle.bb_memory_file.specs.declared.geometry.FileGeometry.{FileGeometry}
 use Rattle.bb_memory_file_machine.specs.FileMachine.{FileScene, FileWords, opening_state}
 use Rattle.bb_memory_pool_machine.proofs.PoolSteps.{test_same}
-use Rattle.std.proofs.Common.{Bool, List, None, Option, Some, [], ap, false, length, refl, subst, sym, true, ℕ, ◌<◌, ◌∙◌, ◌∷◌, ◌≡◌}
+use Rattle.std.proofs.Common.{Bool, List, None, Option, Some, [], ap, false, length, refl, subst, sym, true, ℕ, ◌∙◌, ◌∷◌, ◌≡◌}
 use Rattle.std.proofs.lemmas.Bool.{eqb-true}
 use Rattle.std.proofs.lemmas.List.{length-set}
 use Rattle.std.specs.Prelude.{if◌then◌else◌, slice_set, ◌==◌}
