@@ -81,8 +81,8 @@ CanUnlock log = (process : ℕ) → (taken : List FileStep) × (here : Place)
     × Path process (fresh_log log.scene log.party) (Counting log.party) log taken here × MayUnlock log.party here
 
 -- Whatever a process does, by these acts it has come to this place of the machine. All that it does
--- with the lock is a path of steps, broken off anywhere. A process that looks at words before it has
--- taken a lock takes no step by that.
+-- with the lock is a path of steps, broken off anywhere. A process that takes no lock only looks at
+-- words, and takes no step by that.
 pub data Life (scene : FileScene) (process : ℕ) : List Act → List FileStep → Place → Type 0 where
   sleeps : Life scene process [] [] Outside
   looks : (party : ℕ) (event : Event) (acts : List Act) → Life scene process acts [] Outside → ChangesNone event →
