@@ -5,17 +5,16 @@ use Rattle.bb_memory_file.specs.FileCalls.{Makes}
 use Rattle.bb_memory_file.specs.FileLog.{FileLog}
 use Rattle.bb_memory_file.specs.FileNotes.{Allocates, AreCached, Attaches, Deallocates, Detaches, GivesAllBack, IsDoneWith, JoinedParty, Posts, Returns, Searches, Takes}
 use Rattle.bb_memory_file.specs.FileParties.{log_of}
-use Rattle.bb_memory_file.specs.declared.joined.Note.{Note}
 use Rattle.bb_memory_file.specs.declared.joined.Refusal.{Refusal}
 use Rattle.bb_memory_file.specs.declared.joined.Taken.{Taken}
 use Rattle.bb_memory_file.specs.declared.joined.Taken.TheVariants as taken
 use Rattle.bb_memory_file.specs.declared.party.FileParty.{FileParty}
 use Rattle.bb_memory_file_machine.specs.declared.steps.file.FileStep.{FileStep}
 use Rattle.bb_memory_traits.specs.Geometry.{IsPlaceOfBucket}
-use Rattle.std.proofs.Common.{Bool, Err, List, None, Ok, Option, Result, Some, [], ap, arith, false, inl, inr, length, refl, subst, sym, true, ℕ, ◌++◌, ◌<◌, ◌∙◌, ◌∷◌, ◌≡◌, ◌⊎◌}
+use Rattle.std.proofs.Common.{Bool, Err, List, None, Ok, Option, Result, Some, [], ap, arith, false, inl, inr, length, refl, true, ℕ, ◌++◌, ◌<◌, ◌∷◌, ◌≡◌, ◌⊎◌}
 use Rattle.std.proofs.lemmas.Bool.{cases_lt}
 use Rattle.std.proofs.lemmas.Option.{slice_get_within}
-use Rattle.std.specs.Prelude.{IfNone, slice_get}
+use Rattle.std.specs.Prelude.{IfNone}
 
 abbrev Party : Type 0
 Party = JoinedParty FileParty

@@ -87,8 +87,8 @@ pub extern "C" fn file_table_abandon(alloc: Global, handle: &mut FileTableHandle
 }
 
 /// Joins as this number, whose lock the caller has just taken, in a handle that has to be empty. If memory runs out, it returns
-/// `BB_MALLOC_REFUSED`, and the caller frees the lock right after. It returns `BB_NO_PARTY` if there is no such number, if the
-/// number's life can't become greater, or if no more parties can be counted: then the caller keeps the lock.
+/// `BB_MALLOC_REFUSED`, and the caller frees the lock right after. It returns `BB_NO_PARTY` if there is no such number or if the
+/// number's life can't become greater, and `BB_PARTIES_JOINED` if no more parties can be counted: then the caller keeps the lock.
 #[unsafe(no_mangle)]
 pub extern "C" fn file_party_join(
     alloc: Global,
@@ -126,7 +126,7 @@ pub extern "C" fn file_party_leave(alloc: Global, handle: &mut FilePartyHandle) 
 
 /// Settles this number, whose lock the caller has just taken and frees right after. If whoever had the number was killed and `dead`
 /// is true, or has left and `left` is true, the call also frees what it has detached. Returns how many buckets were freed. It
-/// returns `BB_NO_PARTY` as `file_party_join` does: then the caller keeps the lock.
+/// returns `BB_NO_PARTY` and `BB_PARTIES_JOINED` as `file_party_join` does: then the caller keeps the lock.
 #[unsafe(no_mangle)]
 pub extern "C" fn file_reap(
     handle: &mut FileTableHandle,

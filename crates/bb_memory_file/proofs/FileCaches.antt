@@ -87,7 +87,8 @@ cached_less notes cached before last note are is apart =
       ];
     }
   where
-    end_of : (other : ℕ) (note' : Note) → last ≡ other → Some Cached ≡ slice_get (slice_set notes last note) other → note ≢ Cached → ⊥
+    end_of : (other : ℕ) (note' : Note) → last ≡ other → Some Cached ≡ slice_get (slice_set notes last note) other →
+        note ≢ Cached → ⊥
     end_of other note' same there apart' = apart' (same_some note Cached
         (sym (slice_get-set_same notes last note Cached (last_cached notes cached before last are is))
         ∙ ap (slice_get (slice_set notes last note)) same ∙ sym there))

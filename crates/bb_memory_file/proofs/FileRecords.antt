@@ -65,15 +65,16 @@ made_before geometry None operation operations true made = made.1
 made_before geometry party operation operations false made = made
 
 -- the last operation of the run is one that its hand has made
-made_last : (geometry : FileGeometry) (party : Option ℕ) (hand : ℕ) (operation : WordEvent) (operations : List WordEvent) (own' : Bool) →
-    (hand == hand) ≡ own' → AreBy geometry party (if own' then operation ∷ operations else operations) →
+made_last : (geometry : FileGeometry) (party : Option ℕ) (hand : ℕ) (operation : WordEvent) (operations : List WordEvent)
+    (own' : Bool) → (hand == hand) ≡ own' → AreBy geometry party (if own' then operation ∷ operations else operations) →
     AreBy geometry party (operation ∷ operations)
 made_last geometry party hand operation operations true test made = made
 made_last geometry party hand operation operations false test made = let same = test_same hand hand refl in absurd (cc)
 
 -- a hand's acts with one more operation
 acts_more : (geometry : FileGeometry) (hand : ℕ) (party : Option ℕ) (operation : WordEvent) (operations : List WordEvent) →
-    acts_by geometry hand party (operation ∷ operations) ≡ act_by geometry hand party operation ∷ acts_by geometry hand party operations
+    acts_by geometry hand party (operation ∷ operations)
+    ≡ act_by geometry hand party operation ∷ acts_by geometry hand party operations
 acts_more geometry hand (Some party) operation operations = refl
 acts_more geometry hand None operation operations = refl
 
@@ -100,19 +101,21 @@ no_acts geometry hand (Some party) = refl
 no_acts geometry hand None = refl
 
 -- an operation is the event that it is, whether by a party or a look
-event_by : (geometry : FileGeometry) (now : List ℕ) (words : FileWords) → IsGeometry geometry (length now) → Says geometry now words →
-    (party : Option ℕ) (operation : WordEvent) (operations : List WordEvent) → AreBy geometry party (operation ∷ operations) →
+event_by : (geometry : FileGeometry) (now : List ℕ) (words : FileWords) → IsGeometry geometry (length now) →
+    Says geometry now words → (party : Option ℕ) (operation : WordEvent) (operations : List WordEvent) → AreBy geometry party (operation ∷ operations) →
     IsFoundIn now operation → IsEvent geometry (party_by geometry party operation) now words operation
 event_by geometry now words is says (Some party) operation operations made found =
     events_are geometry now words is says party made.0 operation made.1.0 found
-event_by geometry now words is says None operation operations made found = looks_are geometry now words is says operation made.0 found
+event_by geometry now words is says None operation operations made found =
+    looks_are geometry now words is says operation made.0 found
 
 module _ (geometry : FileGeometry) (scene : FileScene) (parties : ℕ → Option ℕ) (start : List ℕ)
     (is : IsGeometry geometry (length start)) (first : Says geometry start (opening_state scene).words) where
   told_by : (run : Run) (acts : List Act) → Tells geometry parties run acts → AllFound start run →
       ((hand : ℕ) → AreBy geometry (parties hand) (of_hand hand run)) → AreKept scene acts →
       IsTold geometry scene parties start run acts
-  told_by all every nothing found made kept = record { true = tt; says = first; logs = λ hand. no_acts geometry hand (parties hand) }
+  told_by all every nothing found made kept =
+      record { true = tt; says = first; logs = λ hand. no_acts geometry hand (parties hand) }
   told_by all every (operates run acts hand operation tells) found made kept =
       let before = told_by run acts tells found.1 (λ other. made_before geometry (parties other) operation (of_hand other run)
       (hand == other) (made other)) kept.2 in
@@ -133,8 +136,8 @@ module _ (geometry : FileGeometry) (scene : FileScene) (parties : ℕ → Option
         logs = λ hand. locked act (own hand acts) (actor act == hand) on ∙ before.logs hand;
       }
 
-pub is_told : (geometry : FileGeometry) (scene : FileScene) (parties : ℕ → Option ℕ) (start : List ℕ) (run : Run) (acts : List Act) →
-    IsRecord geometry scene parties start run acts → IsTold geometry scene parties start run acts
+pub is_told : (geometry : FileGeometry) (scene : FileScene) (parties : ℕ → Option ℕ) (start : List ℕ) (run : Run)
+    (acts : List Act) → IsRecord geometry scene parties start run acts → IsTold geometry scene parties start run acts
 is_told geometry scene parties start run acts record' =
     told_by geometry scene parties start record'.geometry_is record'.start_is run acts record'.tells record'.found record'.made
     record'.kept
@@ -148,7 +151,8 @@ none_loaded slots (LifeOf party) word found = tt
 none_loaded slots (EntryOf bucket) word found = tt
 none_loaded slots (SlotOf slot) word found = tt
 
-none_looked : (geometry : FileGeometry) (operation : WordEvent) → IsLook geometry operation → ChangesNone (event_of geometry operation)
+none_looked : (geometry : FileGeometry) (operation : WordEvent) → IsLook geometry operation →
+    ChangesNone (event_of geometry operation)
 none_looked geometry operation (looks_at_flag bucket found below) =
     none_loaded geometry.slots (part_at geometry (flag_at geometry bucket)) (flag_at geometry bucket) found
 none_looked geometry operation (looks_at_entry bucket found below) =
@@ -171,8 +175,8 @@ module _ (geometry : FileGeometry) (scene : FileScene) (parties : ℕ → Option
   look_on by operation operations acts false test looks before = before looks
 
   -- one more act on a lock, which isn't this hand's
-  lock_on : (act : Act) (party : ℕ) (acts : List Act) (own' : Bool) → (actor act == hand) ≡ own' → parties (actor act) ≡ Some party →
-      Life scene hand acts [] Outside → Life scene hand (if own' then act ∷ acts else acts) [] Outside
+  lock_on : (act : Act) (party : ℕ) (acts : List Act) (own' : Bool) → (actor act == hand) ≡ own' →
+      parties (actor act) ≡ Some party → Life scene hand acts [] Outside → Life scene hand (if own' then act ∷ acts else acts) [] Outside
   lock_on act party acts true test its before =
       let same : parties (actor act) ≡ parties hand = ap parties (eqb-true (actor act) hand test) in absurd (cc)
   lock_on act party acts false test its before = before
@@ -190,7 +194,8 @@ module _ (geometry : FileGeometry) (scene : FileScene) (parties : ℕ → Option
     (taken : ℕ → List FileStep) (places : ℕ → Place) (record' : IsRecord geometry scene parties start run acts)
     (lives : AreLives scene parties acts taken places) where
   -- each process has a life
-  life_of : (process : ℕ) (party : Option ℕ) → parties process ≡ party → Life scene process (own process acts) (taken process) (places process)
+  life_of : (process : ℕ) (party : Option ℕ) → parties process ≡ party →
+      Life scene process (own process acts) (taken process) (places process)
   life_of process (Some party) its = lives.lives process party its
   life_of process None its =
       let at = lives.looks process its in

@@ -182,7 +182,8 @@ module _ (geometry : FileGeometry) (row : List ℕ) (words : FileWords) (is : Is
         IsEvent geometry party row words (Exchange (flag_at geometry bucket) (flag_word from) to found)
     flag_exchanged bucket from to found true test below has is' =
         is_event party (Exchange (flag_at geometry bucket) (flag_word from) to found)
-        (ExchangeFlag bucket (flag_in (flag_word from)) (flag_in to)) (rw (flag_part geometry (length row) is bucket below, test) refl)
+        (ExchangeFlag bucket (flag_in (flag_word from)) (flag_in to))
+        (rw (flag_part geometry (length row) is bucket below, test) refl)
         (says.flags bucket below ∙ ap (λ (w : ℕ). Some (flag_in w)) (is' ∙ eqb-true found (flag_word from) test))
         (rw test (flag_written bucket to below))
     flag_exchanged bucket from to found false test below has is' =
@@ -200,8 +201,8 @@ module _ (geometry : FileGeometry) (row : List ℕ) (words : FileWords) (is : Is
         let said : slot_in found ≡ slot_in (slot_word from) = cc in
         let hit = test_same found (slot_word from) (word_of_slot found from has (said ∙ slot_of_word from has)) in absurd (cc)
 
-    slot_exchanged : (slot : ℕ) (from : Slot) (to found : ℕ) (hit : Bool) → (found == slot_word from) ≡ hit → slot < geometry.slots →
-        HasSlotWord from → slice_index row (slot_at geometry slot) ≡ found →
+    slot_exchanged : (slot : ℕ) (from : Slot) (to found : ℕ) (hit : Bool) → (found == slot_word from) ≡ hit →
+        slot < geometry.slots → HasSlotWord from → slice_index row (slot_at geometry slot) ≡ found →
         IsEvent geometry party row words (Exchange (slot_at geometry slot) (slot_word from) to found)
     slot_exchanged slot from to found true test below has is' =
         is_event party (Exchange (slot_at geometry slot) (slot_word from) to found)
@@ -236,20 +237,23 @@ module _ (geometry : FileGeometry) (row : List ℕ) (words : FileWords) (is : Is
     events_are operation (exchanges_slot slot from to found below has) is' =
         slot_exchanged slot from to found (found == slot_word from) refl below has is'
     events_are operation (empties_slot slot lap below its_lap) is' =
-        is_event party operation (EmptySlot slot (lap_at (slot_word (Empty lap)))) (rw (slot_part geometry (length row) is slot) refl) tt
-        (subst (λ (word : Slot). Says geometry (slice_set row (slot_at geometry slot) (slot_word (Empty lap))) (with_slot words slot word))
+        is_event party operation (EmptySlot slot (lap_at (slot_word (Empty lap))))
+        (rw (slot_part geometry (length row) is slot) refl) tt
+        (subst (λ (word : Slot). Says geometry (slice_set row (slot_at geometry slot) (slot_word (Empty lap)))
+        (with_slot words slot word))
         (empty_said lap its_lap) (slot_written slot (slot_word (Empty lap)) below))
     events_are operation (loads_life found) is' =
         is_event party operation (LoadLife found) (rw (life_part geometry (length row) is party its) refl)
         (says.lives party its ∙ ap (λ (w : ℕ). Some w) is') says
     events_are operation (stores_life to) is' =
-        is_event party operation (StoreLife to) (rw (life_part geometry (length row) is party its) refl) tt (life_written party to its)
+        is_event party operation (StoreLife to) (rw (life_part geometry (length row) is party its) refl) tt
+        (life_written party to its)
 
   -- LOOKS
 
   -- a look at a life is by the party whose life it is
-  looks_as : (operation : WordEvent) (party : ℕ) → party_by geometry None operation ≡ party → IsEvent geometry party row words operation →
-      IsEvent geometry (party_by geometry None operation) row words operation
+  looks_as : (operation : WordEvent) (party : ℕ) → party_by geometry None operation ≡ party →
+      IsEvent geometry party row words operation → IsEvent geometry (party_by geometry None operation) row words operation
   looks_as operation party same event = subst (λ (p : ℕ). IsEvent geometry p row words operation) (sym same) event
 
   pub looks_are : (operation : WordEvent) → IsLook geometry operation → IsFoundIn row operation →

@@ -6,9 +6,9 @@ use Rattle.bb_memory_file.specs.FileCalls.{AllocateSays, AllocatesFrom, BeginsSe
 use Rattle.bb_memory_file.specs.FileCode.{Event, ExchangeFlag, FileLog, MissFlag, known_of, told}
 use Rattle.bb_memory_file.specs.FileNames.{Allocate, Free, HeldBy, Outside}
 use Rattle.bb_memory_pool_machine.proofs.PoolSteps.{test_same}
-use Rattle.std.proofs.Common.{Bool, List, None, Option, Some, [], ap, arith, false, inl, inr, refl, subst, suc, sym, true, zero, ℕ, ◌++◌, ◌+◌, ◌-◌, ◌<◌, ◌∙◌, ◌∷◌, ◌≡◌, ◌≤◌, ◌⊎◌}
-use Rattle.std.proofs.lemmas.Bool.{le-ltb, lt-ltb, ltb-false, ltb-true, ne_eqb}
-use Rattle.std.specs.Prelude.{if◌then◌else◌, nat_lt, ◌==◌}
+use Rattle.std.proofs.Common.{List, None, Option, Some, [], ap, arith, false, refl, subst, suc, sym, true, zero, ℕ, ◌++◌, ◌+◌, ◌-◌, ◌<◌, ◌∙◌, ◌∷◌, ◌≡◌, ◌≤◌}
+use Rattle.std.proofs.lemmas.Bool.{le-ltb, lt-ltb, ne_eqb}
+use Rattle.std.specs.Prelude.{if◌then◌else◌, nat_lt}
 
 -- THE EVENTS OF A SEARCH
 
@@ -85,10 +85,11 @@ search_ends old log new from to bucket party search below mine is =
     let is' : new ≡ told log (ExchangeFlag bucket Free (HeldBy log.party)) =
     is ∙ ap (λ p. told log (ExchangeFlag bucket Free (HeldBy p))) (mine ∙ sym same) in (
       is ∙ ap (λ p. told log (ExchangeFlag bucket Free (HeldBy p))) mine
-      ∙ ap (λ (l : FileLog). told l (ExchangeFlag bucket Free (HeldBy old.party))) search.gets,
+          ∙ ap (λ (l : FileLog). told l (ExchangeFlag bucket Free (HeldBy old.party))) search.gets,
       (λ process. subst (λ (p : ℕ). Makes process old (Allocate process p bucket ∷ []) new) same
           (walk_on process old log new Outside Outside Outside [] (Allocate process log.party bucket ∷ []) (search.makes process)
-          (walk_step process log new Outside (ExchangeFlag bucket Free (HeldBy log.party)) (Allocate process log.party bucket) Outside refl
+          (walk_step process log new Outside (ExchangeFlag bucket Free (HeldBy log.party))
+          (Allocate process log.party bucket) Outside refl
           (allocates log process bucket) is'))),
       search.order,
       below,
@@ -138,10 +139,12 @@ module _ (old new : FileLog) (hint first buckets : ℕ) (all : buckets ≡ old.s
         ≡ misses_before old.scene.buckets first bucket
     around bucket less = rw (lt-ltb bucket first less) refl
 
-    pub found_second : (bucket : ℕ) → first ≤ buckets → SearchSays middle 0 first (Some bucket) new → AllocateSays old hint (Some bucket) new
+    pub found_second : (bucket : ℕ) → first ≤ buckets → SearchSays middle 0 first (Some bucket) new →
+        AllocateSays old hint (Some bucket) new
     found_second bucket order two =
         let less = two.3 in begins_there (Some bucket) (
-          gets_as old new _ _ (ap (λ (events : List Event). ExchangeFlag bucket Free (HeldBy old.party) ∷ events) (around bucket two.3))
+          gets_as old new _ _ (ap (λ (events : List Event). ExchangeFlag bucket Free (HeldBy old.party) ∷ events)
+              (around bucket two.3))
               (gets_on old middle new (misses_from first (old.scene.buckets - first))
               (ExchangeFlag bucket Free (HeldBy old.party) ∷ misses_from 0 bucket) first_part
               (subst (λ (p : ℕ). Gets middle (ExchangeFlag bucket Free (HeldBy p) ∷ misses_from 0 bucket) new) middle_party
@@ -238,7 +241,8 @@ module _ (old new : FileLog) (hint buckets : ℕ) (all : buckets ≡ old.scene.b
   first_searched begun = searched_on old old new hint hint (searched_none old hint) (rw inside at begun)
 
   -- its later part
-  pub found_behind : (last : FileLog) (bucket : ℕ) → BeginsSearch old hint new → SearchSays new (hint + 1) buckets (Some bucket) last →
+  pub found_behind : (last : FileLog) (bucket : ℕ) → BeginsSearch old hint new →
+      SearchSays new (hint + 1) buckets (Some bucket) last →
       AllocateSays old hint (Some bucket) last
   found_behind last bucket begun says = found_first old last hint hint buckets all starts bucket
       (search_goes_on old new last hint (hint + 1) buckets (Some bucket) (omega (arith, below)) (first_searched begun) says)

@@ -34,6 +34,7 @@ slot_of_word (Empty lap) has = grind (arith, has)
 slot_of_word (Message lap bucket) has = grind (arith, has)
 
 -- a slot of a file with this many buckets has a word
-pub has_word : (buckets : ℕ) (slot : Slot) → buckets < 2 ^ 32 - 1 → IsLap (lap_in slot) → NamesBucket buckets slot → HasSlotWord slot
+pub has_word : (buckets : ℕ) (slot : Slot) → buckets < 2 ^ 32 - 1 → IsLap (lap_in slot) → NamesBucket buckets slot →
+    HasSlotWord slot
 has_word buckets (Empty lap) few is names = is
 has_word buckets (Message lap bucket) few is names = (is, omega (arith, few, names))

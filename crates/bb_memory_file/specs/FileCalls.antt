@@ -267,7 +267,8 @@ IsRecovered old false events taken = has_some recovers taken ≡ false
 
 -- The call walks from one place to another, and gives back so many buckets. If it is to, it also takes
 -- back each bucket that the party has detached.
-pub record IsSettled (process : ℕ) (old : FileLog) (detached : Bool) (from : Place) (freed : ℕ) (lives : List Event) (new : FileLog) (there : Place) : Type 0 where
+pub record IsSettled (process : ℕ) (old : FileLog) (detached : Bool) (from : Place) (freed : ℕ) (lives : List Event)
+    (new : FileLog) (there : Place) : Type 0 where
   pub events : List Event
   pub gets : Gets old events new
   pub taken : List FileStep

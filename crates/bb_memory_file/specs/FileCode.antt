@@ -109,7 +109,8 @@ pub data Path (process : ℕ) (before : FileLog) (from : Place) : FileLog → Li
 
 -- The events that the log gets are these steps of the process, from one place to another. The log stays
 -- that of this party of this file.
-pub record IsWalk (process : ℕ) (old : FileLog) (from : Place) (new : FileLog) (taken : List FileStep) (there : Place) : Type 0 where
+pub record IsWalk (process : ℕ) (old : FileLog) (from : Place) (new : FileLog) (taken : List FileStep)
+    (there : Place) : Type 0 where
   pub path : Path process old from new taken there
   pub scene : new.scene ≡ old.scene
   pub party : new.party ≡ old.party

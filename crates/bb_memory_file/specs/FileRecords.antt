@@ -74,7 +74,8 @@ AreKept scene (act ∷ acts) = (actor act < scene.processes) × IsKept (words_af
 -- The words of a file began as those of a new file, and this run of recorded operations changed them.
 -- These acts tell of the run. The operations of each hand are those that a party of its number makes, or
 -- looks.
-pub record IsRecord (geometry : FileGeometry) (scene : FileScene) (parties : ℕ → Option ℕ) (start : List ℕ) (run : Run) (acts : List Act) : Type 0 where
+pub record IsRecord (geometry : FileGeometry) (scene : FileScene) (parties : ℕ → Option ℕ) (start : List ℕ) (run : Run)
+    (acts : List Act) : Type 0 where
   pub geometry_is : IsGeometry geometry (length start)
   pub start_is : Says geometry start (opening_state scene).words
   pub found : AllFound start run
@@ -84,7 +85,8 @@ pub record IsRecord (geometry : FileGeometry) (scene : FileScene) (parties : ℕ
 
 -- Each act was true when it was done, and the row says the words that the acts leave. The operations
 -- of each process are those that the log of its party tells, or looks.
-pub record IsTold (geometry : FileGeometry) (scene : FileScene) (parties : ℕ → Option ℕ) (start : List ℕ) (run : Run) (acts : List Act) : Type 0 where
+pub record IsTold (geometry : FileGeometry) (scene : FileScene) (parties : ℕ → Option ℕ) (start : List ℕ) (run : Run)
+    (acts : List Act) : Type 0 where
   pub true : AreTrue scene acts
   pub says : Says geometry (row.words_after start run) (words_after scene acts)
   pub logs : (hand : ℕ) → operations_in (own hand acts) ≡ acts_by geometry hand (parties hand) (of_hand hand run)
@@ -93,7 +95,8 @@ pub record IsTold (geometry : FileGeometry) (scene : FileScene) (parties : ℕ �
 -- steps. A process that only looks has taken no step, and is at no place of the machine.
 pub record AreLives (scene : FileScene) (parties : ℕ → Option ℕ) (acts : List Act) (taken : ℕ → List FileStep) (places : ℕ → Place)
     : Type 0 where
-  pub lives : (process party : ℕ) → parties process ≡ Some party → Life scene process (own process acts) (taken process) (places process)
+  pub lives : (process party : ℕ) → parties process ≡ Some party →
+      Life scene process (own process acts) (taken process) (places process)
   pub looks : (process : ℕ) → parties process ≡ None → (taken process ≡ []) × (places process ≡ Outside)
 
 -- Some steps of the machine are what the run did to the file: the row says the words that they leave.

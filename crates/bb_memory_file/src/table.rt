@@ -3,7 +3,8 @@ ghost use Rattle.bb_memory_file.specs.FileFormat.{IsGeometry, entry_at, entry_in
 ghost use Rattle.bb_memory_file.specs.FileLog.{fresh_log};
 ghost use Rattle.bb_memory_file.specs.FileParties.{log_of, scene_of};
 ghost use Rattle.bb_memory_file.specs.FileTables.{HasLoaded};
-ghost use Rattle.std.specs.Prelude.{IfOk, IfSome, [], length, ℕ, ◌<◌, ◌≡◌};
+ghost use Rattle.bb_memory_file.specs.Recorded.{beginning_of};
+ghost use Rattle.std.specs.Prelude.{IfOk, IfSome, [], length, replicate, ℕ, ◌<◌, ◌≡◌};
 
 use crate::format;
 use crate::geometry::{FileGeometry, WORDS_FROM_SLOT_TO_SLOT};
@@ -38,7 +39,8 @@ impl Model for FileTable {
 }
 
 impl FileTable {
-    /// Makes the words of a file of this geometry, which begin as these. Fails if memory runs out.
+    /// Makes the words of a file of this geometry, which begin as these. Fails if memory runs out. The first
+    /// request for memory is for a copy of the words, which is freed, and the second is for the row.
     pub fn new(
         alloc: Global,
         words: &[u64],
@@ -46,6 +48,34 @@ impl FileTable {
     ) -> Result<FileTable, AllocError>
         requires { IsGeometry geometry (length words.now) }
         ensures geometry { IfOk result (λ table. table.geometry ≡ geometry) }
+        ensures beginning { IfOk result (λ table. beginning_of table.words ≡ words.now) }
+        ensures empty { IfOk result (λ table. table.looks ≡ []) }
+    {
+        let words = Vec::from_slice(alloc, words)?;
+        FileTable::of(alloc, &words, geometry)
+    }
+
+    /// Makes the words of a new file of this geometry, which are all 0. Fails if memory runs out. The
+    /// first request for memory is for a list of zeros, which is freed, and the second is for the row.
+    pub fn of_zeros(
+        alloc: Global,
+        words: usize,
+        geometry: FileGeometry,
+    ) -> Result<FileTable, AllocError>
+        requires { IsGeometry geometry words }
+        ensures geometry { IfOk result (λ table. table.geometry ≡ geometry) }
+        ensures beginning { IfOk result (λ table. beginning_of table.words ≡ replicate words 0) }
+        ensures empty { IfOk result (λ table. table.looks ≡ []) }
+    {
+        let zeros = Vec::from_elem(alloc, 0, words)?;
+        FileTable::of(alloc, &zeros, geometry)
+    }
+
+    /// Makes the words of a file, which begin as these. Fails if memory runs out.
+    fn of(alloc: Global, words: &Vec<u64>, geometry: FileGeometry) -> Result<FileTable, AllocError>
+        requires { IsGeometry geometry (length words.now.items) }
+        ensures geometry { IfOk result (λ table. table.geometry ≡ geometry) }
+        ensures beginning { IfOk result (λ table. beginning_of table.words ≡ words.now.items) }
         ensures empty { IfOk result (λ table. table.looks ≡ []) }
     {
         let words = RecordedWords::new(alloc, words)?;
@@ -58,21 +88,6 @@ impl FileTable {
             looks,
             geometry,
         })
-    }
-
-    /// Makes the words of a new file of this geometry, which are all 0. Fails if memory runs out. The
-    /// first request for memory is for a list of zeros, which is freed, and the second is for the row.
-    pub fn of_zeros(
-        alloc: Global,
-        words: usize,
-        geometry: FileGeometry,
-    ) -> Result<FileTable, AllocError>
-        requires { IsGeometry geometry words }
-        ensures geometry { IfOk result (λ table. table.geometry ≡ geometry) }
-        ensures empty { IfOk result (λ table. table.looks ≡ []) }
-    {
-        let zeros = Vec::from_elem(alloc, 0, words)?;
-        FileTable::new(alloc, zeros.as_slice(), geometry)
     }
 
     /// Returns the geometry of the file.

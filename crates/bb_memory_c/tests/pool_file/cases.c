@@ -70,6 +70,9 @@ static void expect(bool holds, const char *what, int line) {
 static size_t requested;
 static size_t most = MOST_BYTES;
 
+// How many of the next requests for pages are ended by signals.
+static uint32_t interruptions;
+
 // False if the file system only says that it allocates pages.
 static bool allocates = true;
 
@@ -93,6 +96,10 @@ int fstatvfs(int fd, struct statvfs *to) {
 int posix_fallocate(int fd, off_t at, off_t length) {
     if (!allocates)
         return 0;
+    if (interruptions > 0) {
+        interruptions--;
+        return EINTR;
+    }
     requested += (size_t)length;
     if (requested > most)
         return ENOSPC;
@@ -788,6 +795,9 @@ static void signals(void) {
     EXPECT(setitimer(ITIMER_PROF, &often, NULL) == 0);
     EXPECT(code_of(path, &large) == BB_OK);
     EXPECT(setitimer(ITIMER_PROF, &never, NULL) == 0);
+    remove_it();
+    interruptions = 3;
+    EXPECT(code_of(path, &OPTIONS) == BB_OK && interruptions == 0);
     remove_it();
 }
 
@@ -2209,6 +2219,41 @@ static void waits(void) {
     close_it(file);
 }
 
+// Any slot is full if one is, and empty if one is, whichever it is. So is it with buckets.
+static void any_of_them(void) {
+    bb_pool_file *file = open_it();
+    bb_file_party *party = join_it(file);
+    bb_place places[20];
+    for (uint32_t at = 0; at < 4; at++) {
+        EXPECT(bb_pool_file_wait_full(file, BB_ANY_SLOT, 0) == BB_FILE_TIMED_OUT);
+        const bb_place place = take_one(party);
+        EXPECT(bb_pool_file_post(file, party, at, place, 1) == BB_OK);
+        EXPECT(bb_pool_file_wait_full(file, BB_ANY_SLOT, 0) == BB_OK);
+        EXPECT(bb_pool_file_wait_empty(file, BB_ANY_SLOT, 0) == BB_OK);
+        EXPECT(bb_pool_file_take(file, party, at).place == place);
+        EXPECT(bb_pool_file_done(file, party, at) == BB_OK);
+        EXPECT(bb_file_party_deallocate(party, place) == BB_OK);
+    }
+    for (uint32_t slot = 0; slot < 4; slot++)
+        EXPECT(bb_pool_file_post(file, party, slot, take_one(party), 1) == BB_OK);
+    for (uint32_t at = 0; at < 4; at++) {
+        EXPECT(bb_pool_file_wait_empty(file, BB_ANY_SLOT, 0) == BB_FILE_TIMED_OUT);
+        const bb_place place = bb_pool_file_take(file, party, at).place;
+        EXPECT(bb_pool_file_done(file, party, at) == BB_OK);
+        EXPECT(bb_pool_file_wait_empty(file, BB_ANY_SLOT, 0) == BB_OK);
+        EXPECT(bb_pool_file_post(file, party, at, place, 1) == BB_OK);
+    }
+    EXPECT(bb_file_party_take_many(party, places, 20).number == 16);
+    for (int at = 0; at < 16; at++) {
+        EXPECT(bb_pool_file_wait_bucket(file, 0) == BB_FILE_TIMED_OUT);
+        EXPECT(bb_file_party_deallocate(party, places[at]) == BB_OK);
+        EXPECT(bb_pool_file_wait_bucket(file, 0) == BB_OK);
+        EXPECT(take_one(party) == places[at]);
+    }
+    close_it(file);
+    remove_it();
+}
+
 // A file without slots has no slot to wait for, not even any.
 static void waits_for_no_slot(void) {
     bb_pool_file_options none = OPTIONS;
@@ -2945,6 +2990,8 @@ static void reapers(void) {
 static void reaps(void) {
     bb_pool_file *file = open_it();
     bb_file_party *party = join_it(file);
+    // The life of this party is another one than those of the others.
+    EXPECT(bb_pool_file_leave(file, party) == BB_OK && join_it(file) == party);
     const bb_place mine = take_one(party);
     const pid_t living = holder(2);
     const pid_t dying = holder(3);
@@ -3670,6 +3717,7 @@ int main(int argc, char **argv) {
         wrong_entries();
         by_number();
         one_wins();
+        any_of_them();
         waits();
         waits_for_no_slot();
         ping();

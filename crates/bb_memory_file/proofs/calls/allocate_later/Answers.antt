@@ -23,7 +23,8 @@ returns-in-Some-clause-answer g c before begun =
 pub returns-in-Some-clause-takes : goal.returns-in-Some-clause-takes
 returns-in-Some-clause-takes g c =
     let all = c.buckets-buckets.ensures in
-    search_takes (g.W.Words.log c.args.words.now) _ _ c.buckets-buckets.result (Some c.in-Some.bucket) (omega (arith, all)) c.in-Some.ensures
+    search_takes (g.W.Words.log c.args.words.now) _ _ c.buckets-buckets.result (Some c.in-Some.bucket)
+    (omega (arith, all)) c.in-Some.ensures
 
 pub returns-clause-answer : goal.returns-clause-answer
 returns-clause-answer g c before begun =

@@ -27,9 +27,11 @@ returns-then-other-bucket g c =
     found_in old c.args.bucket c.requires.held c.in-In.slot c.in-In.length word
     (whereabouts.In c.in-In.slot c.in-Message.lap) _ _ c.in-In.ensures.told c.in-Message.ensures.told
     (is_in old c.args.bucket c.requires.held c.in-In.slot c.in-In.length word c.in-Message.lap
-    (rw (test_same c.in-Message.other c.args.bucket c.if-other-bucket.true) refl) c.in-Message.ensures.lap)
-    (c.in-In.length, ap (λ b. LoadSlot c.in-In.slot (Message c.in-Message.lap b)
-    ∷ LoadEntry c.args.bucket (In c.in-In.slot c.in-In.length) ∷ []) c.if-other-bucket.true)
+    (rw (test_same c.in-Message.other c.args.bucket c.if-other-bucket.true) refl) c.in-Message.ensures.lap) (
+      c.in-In.length,
+      ap (λ b. LoadSlot c.in-In.slot (Message c.in-Message.lap b)
+          ∷ LoadEntry c.args.bucket (In c.in-In.slot c.in-In.length) ∷ []) c.if-other-bucket.true,
+    )
 
 pub returns-else-other-bucket : goal.returns-else-other-bucket
 returns-else-other-bucket g c =

@@ -1,5 +1,4 @@
 use Rattle.bb_memory_c.proofs.file_party.OpenFile.join.Goals as goal
-use Rattle.bb_memory_c.specs.Files.{LeavesFrom, fresh_of}
 use Rattle.bb_memory_file.specs.FileCalls.{IsJoin, IsOver}
 use Rattle.bb_memory_file.specs.FileLog.{FileLog}
 use Rattle.bb_memory_file.specs.FileNotes.{JoinedParty, Joins, JoinsNot}
@@ -7,7 +6,7 @@ use Rattle.bb_memory_file.specs.FileParties.{IsUnlocked, log_of}
 use Rattle.bb_memory_file.specs.declared.party.FileParty.{FileParty}
 use Rattle.bb_memory_pool_machine.specs.PoolHints.{first_hint}
 use Rattle.bb_memory_pool_machine.specs.declared.hint.Hint.{Hint}
-use Rattle.std.proofs.Common.{Err, Ok, inl, inr, rules, subst, true, ℕ, ◌≡◌}
+use Rattle.std.proofs.Common.{Err, Ok, inl, inr, rules, subst, true, ◌≡◌}
 
 pub returns-in-Ok-Err-clause-over : goal.returns-in-Ok-Err-clause-over
 returns-in-Ok-Err-clause-over c _ =

@@ -5,7 +5,7 @@ use Rattle.bb_memory_c_calls.specs.declared.code.TheConstants.{NO_PARTY as no_pa
 use Rattle.bb_memory_file.specs.FileCalls.{IsOver}
 use Rattle.bb_memory_file.specs.FileLog.{FileLog}
 use Rattle.bb_memory_file.specs.FileParties.{log_of}
-use Rattle.std.proofs.Common.{Err, arith, inl, inr, refl, rules, subst, ◌≡◌, ◌≢◌}
+use Rattle.std.proofs.Common.{arith, inl, inr, refl, rules, subst, ◌≡◌}
 
 pub returns-in-Err : goal.returns-in-Err
 returns-in-Err c =

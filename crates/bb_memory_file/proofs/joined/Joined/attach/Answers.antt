@@ -10,7 +10,8 @@ invariant_of-self g c =
     let was : slice_get c.args.self.now.notes c.args.bucket ≡ Some Unheld = cc in (
       after_attach _ _ c.self.inside.notes.items c.self.invariant.0 c.args.bucket (rw (← c.self.view_is) at was)
           c.if-is_attached.ensures,
-      cached_while c.self.inside.notes.items c.self.inside.cached.items c.args.bucket Unheld InUse c.self.invariant.1 (rw (← c.self.view_is) at was) unheld_apart in_use_apart,
+      cached_while c.self.inside.notes.items c.self.inside.cached.items c.args.bucket Unheld InUse c.self.invariant.1
+          (rw (← c.self.view_is) at was) unheld_apart in_use_apart,
       c.self.invariant.2,
       c.self.invariant.3,
       c.self.invariant.4,

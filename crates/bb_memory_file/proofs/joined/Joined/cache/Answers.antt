@@ -35,7 +35,8 @@ returns g c =
 pub invariant_of-self : goal.invariant_of-self
 invariant_of-self g c =
     let none : c.self-2.inside.cached.items ≡ c.in_ok-room.room.items =
-    ap (λ (p : JoinedParty g.row.W.Denot). p.cached) (c.self-2.view_is ∙ c.flush.ensures.party) ∙ sym c.in_ok-room.ensures.items in (
+    ap (λ (p : JoinedParty g.row.W.Denot). p.cached) (c.self-2.view_is ∙ c.flush.ensures.party)
+    ∙ sym c.in_ok-room.ensures.items in (
       c.self-2.invariant.0,
       subst (λ (cached : List ℕ). AreCached c.self-2.inside.notes.items cached) none c.self-2.invariant.1,
       rw c.in_ok-room.ensures.items (omega arith),

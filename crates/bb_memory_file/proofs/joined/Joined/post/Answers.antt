@@ -18,7 +18,8 @@ pub invariant_of-self : goal.invariant_of-self
 invariant_of-self g c = (
   after_post _ _ c.self.inside.notes.items c.self.invariant.0 c.args.bucket c.args.slot c.args.length
       (rw (← c.self.view_is) at c.in_ok-check.ensures.held) c.if-is_posted.ensures,
-  cached_while c.self.inside.notes.items c.self.inside.cached.items c.args.bucket InUse Unheld c.self.invariant.1 (rw (← c.self.view_is) at c.in_ok-check.ensures.held) in_use_apart unheld_apart,
+  cached_while c.self.inside.notes.items c.self.inside.cached.items c.args.bucket InUse Unheld c.self.invariant.1
+      (rw (← c.self.view_is) at c.in_ok-check.ensures.held) in_use_apart unheld_apart,
   c.self.invariant.2,
   c.self.invariant.3,
   c.self.invariant.4,

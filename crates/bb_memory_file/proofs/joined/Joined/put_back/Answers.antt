@@ -16,7 +16,8 @@ pub invariant_of-self : goal.invariant_of-self
 invariant_of-self g c = (
   after_put_back _ _ c.self.inside.notes.items c.self.invariant.0 c.args.bucket c.in-In.slot c.in-In.lap
       (rw (← c.self.view_is) at c.requires) c.in-In.ensures,
-  cached_while c.self.inside.notes.items c.self.inside.cached.items c.args.bucket Undone Unheld c.self.invariant.1 (rw (← c.self.view_is) at c.requires) undone_apart unheld_apart,
+  cached_while c.self.inside.notes.items c.self.inside.cached.items c.args.bucket Undone Unheld c.self.invariant.1
+      (rw (← c.self.view_is) at c.requires) undone_apart unheld_apart,
   c.self.invariant.2,
   c.self.invariant.3,
   c.self.invariant.4,
@@ -40,7 +41,8 @@ pub invariant_of-self-in-Nowhere : goal.invariant_of-self-in-Nowhere
 invariant_of-self-in-Nowhere g c = (
   after_nowhere _ _ c.self.inside.notes.items c.self.invariant.0 c.args.bucket (rw (← c.self.view_is) at c.requires)
       c.in-Nowhere.ensures,
-  cached_while c.self.inside.notes.items c.self.inside.cached.items c.args.bucket Undone InUse c.self.invariant.1 (rw (← c.self.view_is) at c.requires) undone_apart in_use_apart,
+  cached_while c.self.inside.notes.items c.self.inside.cached.items c.args.bucket Undone InUse c.self.invariant.1
+      (rw (← c.self.view_is) at c.requires) undone_apart in_use_apart,
   c.self.invariant.2,
   c.self.invariant.3,
   c.self.invariant.4,

@@ -39,7 +39,8 @@ pub receive-requires-clause-below : goal.receive-requires-clause-below
 receive-requires-clause-below g c =
     let was : slice_get c.self.inside.notes.items c.in-Message.bucket ≡ Some Unheld = cc in
     below_by _ c.self.inside.notes.items
-    (after_look _ _ c.self.inside.notes.items c.args.slot _ c.self.invariant.0 c.load_slot.ensures.told) c.in-Message.bucket Unheld was
+    (after_look _ _ c.self.inside.notes.items c.args.slot _ c.self.invariant.0 c.load_slot.ensures.told) c.in-Message.bucket
+    Unheld was
 
 pub invariant_of-self-in-NotSent : goal.invariant_of-self-in-NotSent
 invariant_of-self-in-NotSent g c =
@@ -76,7 +77,8 @@ invariant_of-self-in-Message-receive g c =
       after_message _ _ c.self.inside.notes.items
           (after_look _ _ c.self.inside.notes.items c.args.slot _ c.self.invariant.0 c.load_slot.ensures.told) c.in-Message.bucket
           c.args.slot c.in-Message.lap c.args.size was _ c.in-Message-receive.ensures,
-      cached_while c.self.inside.notes.items c.self.inside.cached.items c.in-Message.bucket Unheld Undone c.self.invariant.1 was unheld_apart undone_apart,
+      cached_while c.self.inside.notes.items c.self.inside.cached.items c.in-Message.bucket Unheld Undone c.self.invariant.1
+          was unheld_apart undone_apart,
       c.self.invariant.2,
       c.self.invariant.3,
       c.self.invariant.4,

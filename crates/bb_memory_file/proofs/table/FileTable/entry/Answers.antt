@@ -11,8 +11,8 @@ pub invariant_of-self : goal.invariant_of-self
 invariant_of-self c = (
   c.self.invariant.0,
   subst (λ (words : RecordedWords). IsHand words c.load.new.hand) c.deref.ensures c.load.ensures.hand,
-  looked_on c.self.inside.geometry (Load (entry_at c.self.inside.geometry c.args.bucket) c.load.result) (recorded c.self.inside.looks)
-      (recorded c.load.new.hand) c.self.invariant.2 c.load.ensures.recorded
+  looked_on c.self.inside.geometry (Load (entry_at c.self.inside.geometry c.args.bucket) c.load.result)
+      (recorded c.self.inside.looks) (recorded c.load.new.hand) c.self.invariant.2 c.load.ensures.recorded
       (looks_at_entry c.args.bucket c.load.result
       (subst (λ (table : FileTable). c.args.bucket < table.geometry.buckets) (sym c.self.view_is) c.requires)),
 )

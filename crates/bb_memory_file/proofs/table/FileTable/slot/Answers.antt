@@ -11,8 +11,8 @@ pub invariant_of-self : goal.invariant_of-self
 invariant_of-self c = (
   c.self.invariant.0,
   subst (λ (words : RecordedWords). IsHand words c.load.new.hand) c.deref.ensures c.load.ensures.hand,
-  looked_on c.self.inside.geometry (Load (slot_at c.self.inside.geometry c.args.slot) c.load.result) (recorded c.self.inside.looks)
-      (recorded c.load.new.hand) c.self.invariant.2 c.load.ensures.recorded
+  looked_on c.self.inside.geometry (Load (slot_at c.self.inside.geometry c.args.slot) c.load.result)
+      (recorded c.self.inside.looks) (recorded c.load.new.hand) c.self.invariant.2 c.load.ensures.recorded
       (looks_at_slot c.args.slot c.load.result
       (subst (λ (table : FileTable). c.args.slot < table.geometry.slots) (sym c.self.view_is) c.requires)),
 )
