@@ -151,7 +151,7 @@ PLACES = (
                 "store": 1,
             },
             FILE + "party_words": {"load": 4, "exchange": 2, "store": 4},
-            FILE + "table": {"load": 5},
+            FILE + "table": {"load": 4},
             C + "shared_pool": {"swap": 1},
         },
     ),

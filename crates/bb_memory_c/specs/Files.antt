@@ -38,7 +38,7 @@ use Rattle.bb_memory_traits.specs.PoolObject.{HasBucket, IsWithin, PoolGeometry,
 use Rattle.bb_memory_traits.specs.declared.allocator.AllocationError.{AllocationError}
 use Rattle.bb_memory_traits.specs.declared.allocator.AllocationError.TheVariants.{AlignmentFailure, OutOfMemory, SizeTooLarge}
 use Rattle.bb_memory_traits.specs.declared.layout.Layout.{Layout}
-use Rattle.std.specs.Prelude.{Bool, Err, IfSome, None, Ok, Option, Result, Some, false, if◌then◌else◌, min, replicate, slice_get, true, ℕ, ◌-◌, ◌<◌, ◌^◌, ◌↔◌, ◌≡◌, ◌≢◌, ◌≤◌, ◌⊎◌}
+use Rattle.std.specs.Prelude.{Bool, Err, IfSome, None, Ok, Option, Result, Some, [], false, if◌then◌else◌, min, replicate, slice_get, true, ℕ, ◌-◌, ◌<◌, ◌^◌, ◌↔◌, ◌≡◌, ◌≢◌, ◌≤◌, ◌⊎◌}
 
 -- VALUES
 
@@ -79,6 +79,7 @@ pub record TellsWords (buckets slots parties : ℕ) (told : Figure) : Type 0 whe
 -- the words of a file with these numbers, which begin as zeros, and whose buckets are in the region
 pub record IsFileOver (region : Region) (buckets slots parties : ℕ) (bucket : Layout) (file : OpenFile) : Type 0 where
   pub geometry : file.table.geometry ≡ geometry_of buckets slots parties
+  pub looks : file.table.looks ≡ []
   pub places : file.places ≡ pool_geometry region bucket buckets
   pub beginning : beginning_of file.table.words ≡ replicate (words_of file.table.geometry) 0
 
@@ -156,9 +157,11 @@ pub record TellsReap (file : OpenFile) (number : ℕ) (dead left : Bool) (told :
 
 -- LOOKS
 
--- a look at the words of a file, which don't change
-abbrev pub AnswersLook : Option OpenFile → Option OpenFile → Type 0 → (OpenFile → Type 0) → Type 0
-AnswersLook old new refused_so tells = Answers old new refused_so (λ file after. tells file × (after ≡ file))
+-- A load of this word of the file has found this. The handle's file has one more look than before, and
+-- is otherwise what it was.
+abbrev pub HasLooked : OpenFile → ℕ → ℕ → OpenFile → Type 0
+HasLooked file word found after =
+    HasLoaded file.table word found after.table × (after ≡ record file { table = after.table })
 
 -- a bucket's flag in the form that C gets it
 abbrev pub shown_flag : FileFlag → ShownFlag
@@ -178,29 +181,29 @@ shown_entry Nowhere = record { is_in_slot = false; slot = 0; length = 0 }
 shown_entry (In slot length) = record { is_in_slot = true; slot = slot; length = length }
 
 -- C gets the flag of the bucket of this number, as a load found it, or that it is free if there is none.
-pub record TellsFlag (file : OpenFile) (bucket : ℕ) (told : ShownFlag) : Type 0 where
+pub record TellsFlag (file : OpenFile) (bucket : ℕ) (told : ShownFlag) (after : OpenFile) : Type 0 where
   pub there : bucket < file.table.geometry.buckets → (word : ℕ)
-      × HasLoaded file.table (flag_at file.table.geometry bucket) word × (told ≡ shown_flag (flag_in word))
-  pub past : file.table.geometry.buckets ≤ bucket → told ≡ shown_flag Free
+      × HasLooked file (flag_at file.table.geometry bucket) word after × (told ≡ shown_flag (flag_in word))
+  pub past : file.table.geometry.buckets ≤ bucket → (told ≡ shown_flag Free) × (after ≡ file)
 
 -- C gets the word of this slot, as a load found it, or that it is empty if there is none.
-pub record TellsSlot (file : OpenFile) (slot : ℕ) (told : ShownSlot) : Type 0 where
+pub record TellsSlot (file : OpenFile) (slot : ℕ) (told : ShownSlot) (after : OpenFile) : Type 0 where
   pub there : slot < file.table.geometry.slots → (word : ℕ)
-      × HasLoaded file.table (slot_at file.table.geometry slot) word × (told ≡ shown_slot (slot_in word))
-  pub past : file.table.geometry.slots ≤ slot → told ≡ shown_slot (slots.Empty 0)
+      × HasLooked file (slot_at file.table.geometry slot) word after × (told ≡ shown_slot (slot_in word))
+  pub past : file.table.geometry.slots ≤ slot → (told ≡ shown_slot (slots.Empty 0)) × (after ≡ file)
 
 -- C gets the entry of the bucket of this number, as a load found it, or that it is in no slot if there
 -- is none.
-pub record TellsEntry (file : OpenFile) (bucket : ℕ) (told : ShownEntry) : Type 0 where
+pub record TellsEntry (file : OpenFile) (bucket : ℕ) (told : ShownEntry) (after : OpenFile) : Type 0 where
   pub there : bucket < file.table.geometry.buckets → (word : ℕ)
-      × HasLoaded file.table (entry_at file.table.geometry bucket) word
+      × HasLooked file (entry_at file.table.geometry bucket) word after
       × (told ≡ shown_entry (entry_in file.table.geometry.slots word))
-  pub past : file.table.geometry.buckets ≤ bucket → told ≡ shown_entry Nowhere
+  pub past : file.table.geometry.buckets ≤ bucket → (told ≡ shown_entry Nowhere) × (after ≡ file)
 
 -- C gets the life of the party of this number, as a load found it, or 0 if there is none.
-pub record TellsLife (file : OpenFile) (party told : ℕ) : Type 0 where
-  pub there : party < file.table.geometry.parties → HasLoaded file.table (life_at file.table.geometry party) told
-  pub past : file.table.geometry.parties ≤ party → told ≡ 0
+pub record TellsLife (file : OpenFile) (party told : ℕ) (after : OpenFile) : Type 0 where
+  pub there : party < file.table.geometry.parties → HasLooked file (life_at file.table.geometry party) told after
+  pub past : file.table.geometry.parties ≤ party → (told ≡ 0) × (after ≡ file)
 
 -- BUCKETS OF A PARTY
 

@@ -1,6 +1,6 @@
 //! Pools in files: the exported functions of a party of a file, and of the words that the parties share. Those whose names begin
 //! with `file_` are hidden, and `bb_pool_file.c` calls them, which keeps the file, its locks and those who wait.
-ghost use Rattle.bb_memory_c.specs.Files.{AnswersJoin, AnswersLeave, AnswersLook, GivesBack, GivesChunk, HoldsPlace, MayFree, ShowsParty, TellsAttach, TellsCache, TellsDeallocate, TellsDetach, TellsDone, TellsEntry, TellsFlag, TellsFlush, TellsFreed, TellsLife, TellsMessage, TellsPost, TellsReap, TellsSlot, TellsWords, cutting_file, no_message, none_detached, number_of, shown_entry, shown_flag, shown_slot};
+ghost use Rattle.bb_memory_c.specs.Files.{AnswersJoin, AnswersLeave, GivesBack, GivesChunk, HoldsPlace, MayFree, ShowsParty, TellsAttach, TellsCache, TellsDeallocate, TellsDetach, TellsDone, TellsEntry, TellsFlag, TellsFlush, TellsFreed, TellsLife, TellsMessage, TellsPost, TellsReap, TellsSlot, TellsWords, cutting_file, no_message, none_detached, number_of, shown_entry, shown_flag, shown_slot};
 ghost use Rattle.bb_memory_c_calls.specs.Answers.{figure_of, no_figure, refused};
 ghost use Rattle.bb_memory_c_calls.specs.Calls.{Answers, AnswersFree, AnswersInfo, AnswersNumber, AnswersPlace, AnswersPoolMake, AnswersRequest, AnswersReturns, AnswersTake, AnswersTakings, AnswersWhether};
 ghost use Rattle.bb_memory_c_calls.specs.declared.code.TheConstants.{UNINITIALIZED as uninitialized};
@@ -134,8 +134,8 @@ pub extern "C" fn file_reap(
     dead: bool,
     left: bool,
 ) -> Figure
-    ensures { AnswersLook handle.old.value handle.new.value (result ≡ no_figure uninitialized)
-        (λ file. TellsReap file number dead left result) }
+    ensures { Answers handle.old.value handle.new.value (result ≡ no_figure uninitialized)
+        (λ file after. TellsReap file number dead left result × (after ≡ file)) }
 {
     match handle.made_mut() {
         Some(file) => file.reap(number, dead, left),
@@ -259,8 +259,8 @@ pub extern "C" fn file_attach(handle: &mut FilePartyHandle, number: u32) -> Answ
 /// meanwhile.
 #[unsafe(no_mangle)]
 pub extern "C" fn file_flag(handle: &mut FileTableHandle, bucket: u32) -> ShownFlag
-    ensures { AnswersLook handle.old.value handle.new.value (result ≡ shown_flag Free)
-        (λ file. TellsFlag file bucket result) }
+    ensures { Answers handle.old.value handle.new.value (result ≡ shown_flag Free)
+        (λ file after. TellsFlag file bucket result after) }
 {
     match handle.made_mut() {
         Some(file) => file.flag(bucket),
@@ -271,8 +271,8 @@ pub extern "C" fn file_flag(handle: &mut FileTableHandle, bucket: u32) -> ShownF
 /// Returns the word of this slot, as one load found it. If there is no such slot, it is empty. Others may call meanwhile.
 #[unsafe(no_mangle)]
 pub extern "C" fn file_slot(handle: &mut FileTableHandle, slot: u32) -> ShownSlot
-    ensures { AnswersLook handle.old.value handle.new.value (result ≡ shown_slot (Empty 0))
-        (λ file. TellsSlot file slot result) }
+    ensures { Answers handle.old.value handle.new.value (result ≡ shown_slot (Empty 0))
+        (λ file after. TellsSlot file slot result after) }
 {
     match handle.made_mut() {
         Some(file) => file.slot(slot),
@@ -284,8 +284,8 @@ pub extern "C" fn file_slot(handle: &mut FileTableHandle, slot: u32) -> ShownSlo
 /// call meanwhile.
 #[unsafe(no_mangle)]
 pub extern "C" fn file_entry(handle: &mut FileTableHandle, bucket: u32) -> ShownEntry
-    ensures { AnswersLook handle.old.value handle.new.value (result ≡ shown_entry Nowhere)
-        (λ file. TellsEntry file bucket result) }
+    ensures { Answers handle.old.value handle.new.value (result ≡ shown_entry Nowhere)
+        (λ file after. TellsEntry file bucket result after) }
 {
     match handle.made_mut() {
         Some(file) => file.entry(bucket),
@@ -297,8 +297,8 @@ pub extern "C" fn file_entry(handle: &mut FileTableHandle, bucket: u32) -> Shown
 /// meanwhile.
 #[unsafe(no_mangle)]
 pub extern "C" fn file_life(handle: &mut FileTableHandle, party: u32) -> u64
-    ensures { AnswersLook handle.old.value handle.new.value (result ≡ 0)
-        (λ file. TellsLife file party result) }
+    ensures { Answers handle.old.value handle.new.value (result ≡ 0)
+        (λ file after. TellsLife file party result after) }
 {
     match handle.made_mut() {
         Some(file) => file.life(party),

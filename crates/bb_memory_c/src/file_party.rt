@@ -468,8 +468,8 @@ impl OpenFile {
     }
 
     /// Loads the flag of the bucket of this number. If there is none, it is free.
-    pub(crate) fn flag(&self, bucket: u32) -> ShownFlag
-        ensures { TellsFlag self.now bucket result }
+    pub(crate) fn flag(&mut self, bucket: u32) -> ShownFlag
+        ensures { TellsFlag self.old bucket result self.new }
     {
         if bucket >= self.table.geometry().buckets {
             return ShownFlag::of(FileFlag::Free);
@@ -478,8 +478,8 @@ impl OpenFile {
     }
 
     /// Loads the word of this slot. If there is none, it is empty.
-    pub(crate) fn slot(&self, slot: u32) -> ShownSlot
-        ensures { TellsSlot self.now slot result }
+    pub(crate) fn slot(&mut self, slot: u32) -> ShownSlot
+        ensures { TellsSlot self.old slot result self.new }
     {
         if slot >= self.table.geometry().slots {
             return ShownSlot::of(Slot::Empty { lap: 0 });
@@ -488,8 +488,8 @@ impl OpenFile {
     }
 
     /// Loads the entry of the bucket of this number. If there is none, it is in no slot.
-    pub(crate) fn entry(&self, bucket: u32) -> ShownEntry
-        ensures { TellsEntry self.now bucket result }
+    pub(crate) fn entry(&mut self, bucket: u32) -> ShownEntry
+        ensures { TellsEntry self.old bucket result self.new }
     {
         if bucket >= self.table.geometry().buckets {
             return ShownEntry::of(Entry::Nowhere);
@@ -498,8 +498,8 @@ impl OpenFile {
     }
 
     /// Loads the life of the party of this number. If there is none, it is 0.
-    pub(crate) fn life(&self, party: u32) -> u64
-        ensures { TellsLife self.now party result }
+    pub(crate) fn life(&mut self, party: u32) -> u64
+        ensures { TellsLife self.old party result self.new }
     {
         if party >= self.table.geometry().parties {
             return 0;

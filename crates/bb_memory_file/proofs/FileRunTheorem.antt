@@ -146,6 +146,12 @@ module _ (scene : FileScene) (act : Act) (acts : List Act) (is : IsTrue (words_a
   on : (all : List Act) (mine : List FileStep) (here : Place) → Life scene me all mine here → all ≡ act ∷ own me acts →
       Now act mine here
   on all mine here runs.sleeps e = absurd (cc)
+  on all mine here (runs.looks party event did life none) e =
+      let this : Operates me party event ≡ act = cc in
+      let now : At scene acts me [] Outside taken places = came did [] Outside life (cc) in
+      subst (λ (a : Act). Now a [] Outside) this
+      (on_look scene (Operates me party event) acts [] Outside taken places now (true_as (Operates me party event) this)
+      (left_same (left_by scene now.steps).words party event none))
   on all mine here (runs.works party log done at path) e = on_path party log done at path e
   on all mine here (runs.leaves party did done at life may) e =
       let this : Unlocks me party ≡ act = cc in
@@ -179,6 +185,7 @@ asleep : (scene : FileScene) (process : ℕ) (all : List Act) (mine : List FileS
     Life scene process all mine here →
     [] ≡ all → (mine ≡ []) × (here ≡ Outside)
 asleep scene process all mine here runs.sleeps e = (refl, refl)
+asleep scene process all mine here (runs.looks party event did life none) e = absurd (cc)
 asleep scene process all mine here (runs.works party log done at path) e =
     absurd (no_session process party log.events
     (e ∙ acts_same scene process party log done at path))

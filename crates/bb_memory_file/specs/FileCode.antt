@@ -16,6 +16,7 @@ Finds words party (MissFlag bucket from) = is_flag words bucket from ≡ false
 Finds words party (LoadEntry bucket found) = IsEntry words bucket found
 Finds words party (LoadSlot slot found) = IsSlot words slot found
 Finds words party (ExchangeSlot slot from to) = IsSlot words slot from
+Finds words party (MissSlot slot from) = ¬ IsSlot words slot from
 Finds words party (LoadLife found) = IsLife words party found
 Finds words party event = Unit {0}
 
