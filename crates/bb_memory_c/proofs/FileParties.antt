@@ -41,8 +41,8 @@ ends (x ∷ xs) = inr (elim (ends xs) [
 -- SAME BUCKETS
 
 searched-same : (old : Party) (answer : Option ℕ) (new : Party) → Searches log_of old answer new → buckets_of new ≡ buckets_of old
-searched-same old None new did = ap (λ (l : FileLog). l.scene.buckets) did.0.1
-searched-same old (Some bucket) new did = ap (λ (l : FileLog). l.scene.buckets) did.0.1
+searched-same old None new did = ap (λ (l : FileLog). l.scene.buckets) did.0.0
+searched-same old (Some bucket) new did = ap (λ (l : FileLog). l.scene.buckets) did.0.0
 
 pub allocated-same : (old : Party) (answer : Option ℕ) (new : Party) → Allocates log_of old answer new →
     buckets_of new ≡ buckets_of old
@@ -55,7 +55,7 @@ allocated-same old answer new did = elim (ends old.cached) [
 pub allocated-below : (old : Party) (bucket : ℕ) (new : Party) → AreCached old.notes old.cached →
     length old.notes ≡ buckets_of old → Allocates log_of old (Some bucket) new → bucket < buckets_of old
 allocated-below old bucket new are long did = elim (ends old.cached) [
-  | inl none ↦ let said = (did.searched none).0 in said.4
+  | inl none ↦ let said = (did.searched none).0 in said.2
   | inr last ↦
       let its : Some bucket ≡ Some last.1 = (did.cached last.0 last.1 last.2).0 in
       let noted = last_cached old.notes old.cached last.0 last.1 are last.2 in

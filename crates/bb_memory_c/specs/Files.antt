@@ -17,6 +17,7 @@ use Rattle.bb_memory_file.specs.FileLog.{FileLog, fresh_log}
 use Rattle.bb_memory_file.specs.FileNotes.{Allocates, Attaches, Caches, Detaches, Flushes, GivesAllBack, IsDoneWith, JoinedParty, Joins, JoinsNot, MissesFirst, Posts, Reaps, Returns, Takes, used_in}
 use Rattle.bb_memory_file.specs.FileParties.{IsUnlocked, log_of, scene_of}
 use Rattle.bb_memory_file.specs.FileTables.{FileTable, HasLoaded}
+use Rattle.bb_memory_file.specs.Recorded.{beginning_of}
 use Rattle.bb_memory_file.specs.declared.joined.Note.{Note}
 use Rattle.bb_memory_file.specs.declared.joined.Note.TheVariants.{InUse, Undone}
 use Rattle.bb_memory_file.specs.declared.joined.Refusal.{Refusal}
@@ -37,7 +38,7 @@ use Rattle.bb_memory_traits.specs.PoolObject.{HasBucket, IsWithin, PoolGeometry,
 use Rattle.bb_memory_traits.specs.declared.allocator.AllocationError.{AllocationError}
 use Rattle.bb_memory_traits.specs.declared.allocator.AllocationError.TheVariants.{AlignmentFailure, OutOfMemory, SizeTooLarge}
 use Rattle.bb_memory_traits.specs.declared.layout.Layout.{Layout}
-use Rattle.std.specs.Prelude.{Bool, Err, IfSome, None, Ok, Option, Result, Some, false, if◌then◌else◌, min, slice_get, true, ℕ, ◌-◌, ◌<◌, ◌^◌, ◌↔◌, ◌≡◌, ◌≢◌, ◌≤◌, ◌⊎◌}
+use Rattle.std.specs.Prelude.{Bool, Err, IfSome, None, Ok, Option, Result, Some, false, if◌then◌else◌, min, replicate, slice_get, true, ℕ, ◌-◌, ◌<◌, ◌^◌, ◌↔◌, ◌≡◌, ◌≢◌, ◌≤◌, ◌⊎◌}
 
 -- VALUES
 
@@ -75,10 +76,11 @@ pub record TellsWords (buckets slots parties : ℕ) (told : Figure) : Type 0 whe
   pub there : MayHave buckets slots → told ≡ figure_of (words_of (geometry_of buckets slots parties))
   pub none : ¬ MayHave buckets slots → told ≡ no_figure invalid_argument
 
--- the words of a file with these numbers, whose buckets are in the region
+-- the words of a file with these numbers, which begin as zeros, and whose buckets are in the region
 pub record IsFileOver (region : Region) (buckets slots parties : ℕ) (bucket : Layout) (file : OpenFile) : Type 0 where
   pub geometry : file.table.geometry ≡ geometry_of buckets slots parties
   pub places : file.places ≡ pool_geometry region bucket buckets
+  pub beginning : beginning_of file.table.words ≡ replicate (words_of file.table.geometry) 0
 
 -- how the words of a file with these numbers, whose buckets are in the region, describe their
 -- initialization
