@@ -249,7 +249,7 @@ class PoolFile:
             for name in ("producer", "consumer"):
                 source: list[str | Path] = ["-x", "c++", examples / f"{name}.c", "-x", "none"]
                 output = self.work / f"{name}.c++"
-                self.compile(["-std=c++11", *FLAGS, "-o", output, *source, library], "c++")
+                self.compile(["-std=c++20", *FLAGS, "-o", output, *source, library], "c++")
             programs.append(Program([self.work / "producer.c++"], [self.work / "consumer.c++"]))
             output = self.work / "messages.c++"
             self.compile(
