@@ -71,7 +71,8 @@ pub record IsOpen (table : FileTable) (region : Region) (bucket : Layout) : Type
 abbrev pub MayHave : ℕ → ℕ → Type 0
 MayHave buckets slots = (buckets < 2 ^ 32 - 1) × (slots < 2 ^ 32 - 1)
 
--- C gets how many words the row of a file has, or BB_INVALID_ARGUMENT if no file has these numbers.
+-- C gets how many words the row of a file has, or BB_INVALID_ARGUMENT if no file has that many buckets
+-- or slots.
 pub record TellsWords (buckets slots parties : ℕ) (told : Figure) : Type 0 where
   pub there : MayHave buckets slots → told ≡ figure_of (words_of (geometry_of buckets slots parties))
   pub none : ¬ MayHave buckets slots → told ≡ no_figure invalid_argument

@@ -20,8 +20,8 @@ use bb_memory_file::table::FileTable;
 use bb_memory_file_machine::steps::{Entry, FileFlag, Slot};
 use std::alloc::Global;
 
-/// Returns how many words the row of a file with these numbers of buckets, slots and parties has. If no file has such numbers, it
-/// returns `BB_INVALID_ARGUMENT`.
+/// Returns how many words the row of a file with these numbers of buckets, slots and parties has. If no file has that many buckets or
+/// slots, it returns `BB_INVALID_ARGUMENT`.
 #[unsafe(no_mangle)]
 pub extern "C" fn file_words(buckets: u32, slots: u32, parties: u32) -> Figure
     ensures { TellsWords buckets slots parties result }
