@@ -2,5 +2,6 @@ pub mod FileLaws
 pub mod FileMachine
 pub mod FileMoves
 pub mod FilePool
+pub mod FileQueues
 pub mod FileVariants
 pub mod FileWorld
