@@ -10,3 +10,8 @@ pub mod FileSteps
 pub mod FileTakers
 pub mod FileTests
 pub mod FileTheorem
+pub mod QueueLaps
+pub mod QueueHistories
+pub mod QueueCounts
+pub mod QueueInvariant
+pub mod QueueSteps

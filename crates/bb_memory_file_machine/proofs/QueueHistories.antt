@@ -1,0 +1,219 @@
+-- Histories of the machine: their moments, and what a step changes.
+use Rattle.bb_memory_file_machine.proofs.FileEffects.{one_value, set_cases, stays_apart}
+use Rattle.bb_memory_file_machine.proofs.FileInvariant.{Holds}
+use Rattle.bb_memory_file_machine.proofs.FileKinds.{Kind, allocates, attaches, detaches, empties, fills, gives, kind_of, puts_back, receives, recovers, sends, settles, settles_sent}
+use Rattle.bb_memory_file_machine.proofs.FileSteps.{holds_at_opening, holds_step}
+use Rattle.bb_memory_file_machine.proofs.FileTheorem.{effect_in, received_at}
+use Rattle.bb_memory_file_machine.specs.FileLaws.{Effect, HasReceived, IsFlag, IsHolder, IsSlot}
+use Rattle.bb_memory_file_machine.specs.FileLaws as laws
+use Rattle.bb_memory_file_machine.specs.FileMachine.{DetachedBy, Done, Empty, FileFlag, FileMove, FileOutcome, FileScene, FileState, FileStep, FileWords, Fill, Free, HeldBy, Message, OnSlot, Outside, Place, Posting, Receives, Refused, Sending, Sends, SentTo, Slot, Take, change_at, file_after, file_step, left_by, move_at, opening_state, process_of, with_flag, with_slot}
+use Rattle.bb_memory_file_machine.specs.FileQueues.{FileQueue, HasHappened, History, IsMoment, Obey, Rules, earlier, now, outcome_after, state_after}
+use Rattle.bb_memory_lists.proofs.SliceGets.{slice_get-set_apart, slice_get-set_same}
+use Rattle.std.proofs.Common.{List, None, Option, Some, [], ap, append-nil, append_assoc, arith, inl, inr, refl, reverse, sym, ℕ, ◌++◌, ◌<◌, ◌∙◌, ◌∷◌, ◌≡◌, ◌≢◌, ◌≤◌}
+use Rattle.std.proofs.lemmas.Bool.{cases_eq}
+use Rattle.std.proofs.lemmas.List.{reverse-append}
+use Rattle.std.specs.Prelude.{slice_get, slice_set, ◌⊎◌}
+
+-- HISTORIES
+
+turned : (scene : FileScene) (history : History) (steps : List FileStep) →
+    file_after (state_after scene history) steps ≡ state_after scene (reverse steps ++ history)
+turned scene history [] = refl
+turned scene history (step ∷ steps) =
+    turned scene (step ∷ history) steps
+    ∙ ap (state_after scene) (sym (ap (λ (l : History). l ++ history) (reverse-append (step ∷ []) steps)
+    ∙ append_assoc (reverse steps) (step ∷ []) history))
+
+pub history_of : (scene : FileScene) (steps : List FileStep) → left_by scene steps ≡ state_after scene (reverse steps)
+history_of scene steps = turned scene [] steps ∙ ap (state_after scene) (append-nil (reverse steps))
+
+pub holds_after : (scene : FileScene) (history : History) → Holds (state_after scene history)
+holds_after scene [] = holds_at_opening scene
+holds_after scene (step ∷ history) = holds_step (state_after scene history) step (holds_after scene history)
+
+-- MOMENTS
+
+pub moment_of : (first second third : History) → IsMoment first second → IsMoment second third → IsMoment first third
+moment_of first second _ one now = one
+moment_of first second _ one (earlier step history two) = earlier step history (moment_of first second history one two)
+
+pub moment_before : (step : FileStep) (first second : History) → IsMoment (step ∷ first) second → IsMoment first second
+moment_before step first second later = moment_of first (step ∷ first) second (earlier step first now) later
+
+-- of two moments of a history, one is a moment of the other
+pub cases_moment : (first second history : History) → IsMoment first history → IsMoment second history →
+    IsMoment first second ⊎ IsMoment second first
+cases_moment first second _ now two = inr two
+cases_moment first second _ (earlier step history one) now = inl (earlier step history one)
+cases_moment first second _ (earlier step history one) (earlier same other two) = cases_moment first second history one two
+
+pub obeyed : (rules : Rules) (queue : FileQueue) (moment history : History) → IsMoment moment history →
+    Obey rules queue history → Obey rules queue moment
+obeyed rules queue moment _ now obey = obey
+obeyed rules queue moment _ (earlier step history before) (last, obey) = obeyed rules queue moment history before obey
+
+-- between two moments, what has happened between two others that are nearer to each other
+pub happened : (scene : FileScene) (first second third fourth : History) (outcome : FileOutcome) → IsMoment first second →
+    HasHappened scene second third outcome → IsMoment third fourth → HasHappened scene first fourth outcome
+happened scene first second third fourth outcome before has after = record {
+  before = has.before;
+  step = has.step;
+  since = moment_of first second has.before before has.since;
+  until = moment_of (has.step ∷ has.before) third fourth has.until after;
+  happens = has.happens;
+}
+
+-- SLOTS
+
+-- what a step with this outcome does to the words of the slots
+pub data SlotChange (words : FileWords) (step : FileStep) (outcome : FileOutcome) (slots : List Slot) : Type 0 where
+  keeps : slots ≡ words.slots → ((slot : ℕ) → ¬ (outcome ≡ OnSlot slot)) → SlotChange words step outcome slots
+  fills_one : (process slot bucket lap : ℕ) → step ≡ Fill process lap → outcome ≡ OnSlot slot →
+      IsSlot words slot (Empty lap) → slots ≡ slice_set words.slots slot (Message lap bucket) →
+      SlotChange words step outcome slots
+  empties_one : (process party slot bucket lap next : ℕ) → step ≡ Done process party slot bucket next →
+      outcome ≡ OnSlot slot → IsSlot words slot (Message lap bucket) → IsHolder words bucket party →
+      slots ≡ slice_set words.slots slot (Empty next) → SlotChange words step outcome slots
+
+change_of_kind : (words : FileWords) (place : Place) (step : FileStep) (move : FileMove) → Kind words place step move →
+    SlotChange words step move.outcome move.words.slots
+change_of_kind words place step move (fills process party slot bucket lap empty) =
+    fills_one process slot bucket lap refl refl empty refl
+change_of_kind words place step move (empties process party slot bucket lap next own held is) =
+    empties_one process party slot bucket lap next refl refl is held refl
+change_of_kind words place step move _ = keeps refl (λ slot e. absurd (cc))
+
+change_there : (state : FileState) (step : FileStep) (found : Option Place) →
+    SlotChange state.words step (change_at state step found).outcome (change_at state step found).state.words.slots
+change_there state step None = keeps refl (λ slot e. absurd (cc))
+change_there state step (Some place) =
+    change_of_kind state.words place step (move_at state.words place step) (kind_of state.words place step)
+
+pub change_after : (scene : FileScene) (history : History) (step : FileStep) →
+    SlotChange (state_after scene history).words step (outcome_after scene history step)
+    (state_after scene (step ∷ history)).words.slots
+change_after scene history step =
+    let state : FileState = state_after scene history in
+    change_there state step (slice_get state.places (process_of step))
+
+-- FLAGS
+
+-- a bucket that was sent before an effect still is, or the effect is that a party receives its message
+sent_kept : (words later : FileWords) (process : ℕ) (outcome : FileOutcome) (bucket slot lap : ℕ) →
+    Effect words process outcome later → IsFlag words bucket (SentTo slot lap) →
+    IsFlag later bucket (SentTo slot lap) ⊎ ((party : ℕ) × (outcome ≡ Receives slot bucket party))
+sent_kept words later process outcome bucket slot lap (laws.takes party other own free) is =
+    inl (stays_apart words.flags other bucket (HeldBy party) Free (SentTo slot lap) free is (λ same. absurd (cc)))
+sent_kept words later process outcome bucket slot lap (laws.gives_back party other own held nowhere) is =
+    inl (stays_apart words.flags other bucket Free (HeldBy party) (SentTo slot lap) held is (λ same. absurd (cc)))
+sent_kept words later process outcome bucket slot lap (laws.detaches party other own held nowhere) is =
+    inl (stays_apart words.flags other bucket (DetachedBy party) (HeldBy party) (SentTo slot lap) held is
+    (λ same. absurd (cc)))
+sent_kept words later process outcome bucket slot lap (laws.attaches party other from own there) is =
+    inl (stays_apart words.flags other bucket (HeldBy party) (DetachedBy from) (SentTo slot lap) there is
+    (λ same. absurd (cc)))
+sent_kept words later process outcome bucket slot lap (laws.sends party other at found own held there) is =
+    inl (stays_apart words.flags other bucket (SentTo at found) (HeldBy party) (SentTo slot lap) held is
+    (λ same. absurd (cc)))
+sent_kept words later process outcome bucket slot lap (laws.receives party other at found own there) is =
+    elim (cases_eq other bucket) [
+      | inl same ↦
+          let flags = one_value words.flags bucket (SentTo at found) (SentTo slot lap)
+          (ap (slice_get words.flags) (sym same) ∙ there) is in
+          let slots : at ≡ slot = cc in
+          inr (party, ap (λ (s : ℕ). Receives s other party) slots ∙ ap (λ (b : ℕ). Receives slot b party) same)
+      | inr apart ↦ inl (slice_get-set_apart words.flags other bucket (HeldBy party) apart ∙ is)
+    ]
+sent_kept words later process outcome bucket slot lap _ is = inl is
+
+-- a bucket that is sent after an effect was sent before, or the effect is that a party sends it
+sent_before : (words later : FileWords) (process : ℕ) (outcome : FileOutcome) (bucket slot lap : ℕ) →
+    Effect words process outcome later → IsFlag later bucket (SentTo slot lap) →
+    IsFlag words bucket (SentTo slot lap) ⊎ ((party : ℕ) × (outcome ≡ Sends bucket party))
+sent_before words later process outcome bucket slot lap (laws.takes party other own free) is =
+    elim (set_cases words.flags other bucket (HeldBy party) Free (SentTo slot lap) free is) [
+      | inl before ↦ inl before.1
+      | inr this ↦ let flags = this.1 in absurd (cc)
+    ]
+sent_before words later process outcome bucket slot lap (laws.gives_back party other own held nowhere) is =
+    elim (set_cases words.flags other bucket Free (HeldBy party) (SentTo slot lap) held is) [
+      | inl before ↦ inl before.1
+      | inr this ↦ let flags = this.1 in absurd (cc)
+    ]
+sent_before words later process outcome bucket slot lap (laws.detaches party other own held nowhere) is =
+    elim (set_cases words.flags other bucket (DetachedBy party) (HeldBy party) (SentTo slot lap) held is) [
+      | inl before ↦ inl before.1
+      | inr this ↦ let flags = this.1 in absurd (cc)
+    ]
+sent_before words later process outcome bucket slot lap (laws.attaches party other from own there) is =
+    elim (set_cases words.flags other bucket (HeldBy party) (DetachedBy from) (SentTo slot lap) there is) [
+      | inl before ↦ inl before.1
+      | inr this ↦ let flags = this.1 in absurd (cc)
+    ]
+sent_before words later process outcome bucket slot lap (laws.receives party other at found own there) is =
+    elim (set_cases words.flags other bucket (HeldBy party) (SentTo at found) (SentTo slot lap) there is) [
+      | inl before ↦ inl before.1
+      | inr this ↦ let flags = this.1 in absurd (cc)
+    ]
+sent_before words later process outcome bucket slot lap (laws.sends party other at found own held there) is =
+    elim (set_cases words.flags other bucket (SentTo at found) (HeldBy party) (SentTo slot lap) held is) [
+      | inl before ↦ inl before.1
+      | inr this ↦ inr (party, ap (λ (b : ℕ). Sends b party) this.0)
+    ]
+sent_before words later process outcome bucket slot lap _ is = inl is
+
+module _ (scene : FileScene) where
+  effect_after : (history : History) (step : FileStep) →
+      Effect (state_after scene history).words (process_of step) (outcome_after scene history step)
+      (state_after scene (step ∷ history)).words
+  effect_after history step = effect_in (state_after scene history) step (holds_after scene history)
+
+  pub received_after : (history : History) (step : FileStep) (slot bucket party : ℕ) →
+      outcome_after scene history step ≡ Receives slot bucket party →
+      HasReceived (state_after scene history) step slot bucket party
+  received_after history step slot bucket party said =
+      let state : FileState = state_after scene history in
+      received_at state step slot bucket party (slice_get state.places (process_of step)) refl (holds_after scene history) said
+
+  -- the bucket of a message that is sent is in its slot
+  pub sent_in : (history : History) (bucket slot lap : ℕ) → IsFlag (state_after scene history).words bucket (SentTo slot lap) →
+      IsSlot (state_after scene history).words slot (Message lap bucket)
+  sent_in history bucket slot lap is = (holds_after scene history).sound.sent bucket slot lap is
+
+  pub sent_or_received : (history : History) (step : FileStep) (bucket slot lap : ℕ) →
+      IsFlag (state_after scene history).words bucket (SentTo slot lap) →
+      IsFlag (state_after scene (step ∷ history)).words bucket (SentTo slot lap)
+      ⊎ ((party : ℕ) × (outcome_after scene history step ≡ Receives slot bucket party))
+  sent_or_received history step bucket slot lap is =
+      sent_kept (state_after scene history).words (state_after scene (step ∷ history)).words (process_of step)
+      (outcome_after scene history step) bucket slot lap (effect_after history step) is
+
+  -- a bucket that is sent, and wasn't at a moment before, was sent in between
+  pub sent_since : (moment history : History) (bucket slot lap : ℕ) → IsMoment moment history →
+      ¬ IsFlag (state_after scene moment).words bucket (SentTo slot lap) →
+      IsFlag (state_after scene history).words bucket (SentTo slot lap) →
+      (party : ℕ) × HasHappened scene moment history (Sends bucket party)
+  sent_since moment _ bucket slot lap now unsent is = absurd (unsent is)
+  sent_since moment _ bucket slot lap (earlier step history past) unsent is =
+      elim (sent_before (state_after scene history).words (state_after scene (step ∷ history)).words (process_of step)
+      (outcome_after scene history step) bucket slot lap (effect_after history step) is) [
+        | inl before ↦
+            let found = sent_since moment history bucket slot lap past unsent before in
+            (found.0, happened scene moment moment history (step ∷ history) (Sends bucket found.0) now found.1
+                (earlier step history now))
+        | inr said ↦ (
+            said.0,
+            record { before = history; step = step; since = past; until = now; happens = said.1 },
+          )
+      ]
+
+  pub again_sent : (history moment : History) (step : FileStep) (slot bucket party other lap : ℕ) →
+      outcome_after scene moment step ≡ Receives slot bucket party → IsMoment (step ∷ moment) history →
+      IsFlag (state_after scene history).words bucket (SentTo other lap) →
+      (by : ℕ) × HasHappened scene moment history (Sends bucket by)
+  again_sent history moment step slot bucket party other lap said past is =
+      let received = received_after moment step slot bucket party said in
+      let found = sent_since (step ∷ moment) history bucket other lap past
+      (λ sent. let flags = one_value (state_after scene (step ∷ moment)).words.flags bucket (HeldBy party) (SentTo other lap)
+      received.holder sent in absurd (cc)) is in
+      (found.0, happened scene moment (step ∷ moment) history history (Sends bucket found.0) (earlier step moment now) found.1 now)
