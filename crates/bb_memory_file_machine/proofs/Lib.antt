@@ -15,3 +15,5 @@ pub mod QueueHistories
 pub mod QueueCounts
 pub mod QueueInvariant
 pub mod QueueSteps
+pub mod QueueAlways
+pub mod QueueOrder

@@ -60,7 +60,7 @@ module _ (queue : FileQueue) (positive : 0 < queue.depth) where
     pub listed : (slot lap bucket : ℕ) → IsSlotOf queue slot →
         IsSlot (state_after queue.scene history).words slot (Message lap bucket) → IsListed history slot bucket
 
-  at_opening : IsQueue []
+  pub at_opening : IsQueue []
   at_opening = record {
     most = λ slot its. omega arith;
     least = λ slot its. let below = mod_below slot queue.depth positive in omega (arith, below);

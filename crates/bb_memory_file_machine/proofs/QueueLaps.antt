@@ -78,7 +78,7 @@ module _ (lap due count now : ℕ) (b : Bounds lap due count now) where
 abbrev pub due_at : ℕ → ℕ → ℕ → ℕ
 due_at before slot other = if nat_lt other slot then before + 1 else before
 
-follows_below : (before : ℕ) → (before % 2 ^ 30 + 1) % 2 ^ 30 ≡ (before + 1) % 2 ^ 30
+pub follows_below : (before : ℕ) → (before % 2 ^ 30 + 1) % 2 ^ 30 ≡ (before + 1) % 2 ^ 30
 follows_below before = omega arith
 
 follows_above : (before : ℕ) → ((before % 2 ^ 30 + (2 ^ 30 - 1)) % 2 ^ 30 + 1) % 2 ^ 30 ≡ before % 2 ^ 30

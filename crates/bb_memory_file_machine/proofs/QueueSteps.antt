@@ -147,7 +147,7 @@ module _ (queue : FileQueue) where
         subst (StepObeys queue_rules queue history) step_is obeys slot its
         (sym (ap (outcome_after queue.scene history) step_is) ∙ said)
 
-    may_empty : (process party slot bucket next : ℕ) → step ≡ Done process party slot bucket next → outcome ≡ OnSlot slot →
+    pub may_empty : (process party slot bucket next : ℕ) → step ≡ Done process party slot bucket next → outcome ≡ OnSlot slot →
         StepObeys queue_rules queue history step → IsSlotOf queue slot → MayEmpty queue history slot next
     may_empty process party slot bucket next step_is said obeys its =
         subst (StepObeys queue_rules queue history) step_is obeys its
