@@ -1,7 +1,7 @@
 -- What holds for a queue after each history in which the steps on its slots obey its rules.
 use Rattle.bb_memory_file_machine.proofs.FileEffects.{one_value}
 use Rattle.bb_memory_file_machine.proofs.QueueCounts.{contained_filter, order_filter, order_push}
-use Rattle.bb_memory_file_machine.proofs.QueueInvariant.{IsListed, IsPlaced, IsQueue, at_opening, next_ticket, same_slot, slot_in_queue, slot_parts, turn}
+use Rattle.bb_memory_file_machine.proofs.QueueInvariant.{IsListed, IsPlaced, IsQueue, at_opening, next_ticket, same_slot, slot_in_queue, slot_of_turn, turn}
 use Rattle.bb_memory_file_machine.proofs.QueueLaps.{Fits, follows_below, round_after}
 use Rattle.bb_memory_file_machine.proofs.QueueSteps.{Leaves, QueueChange, ends_one, may_empty, may_fill, posts_one, queue_change, rests, without}
 use Rattle.bb_memory_file_machine.specs.FileLaws.{IsSlot}
@@ -11,7 +11,7 @@ use Rattle.bb_memory_lists.proofs.ListEntries.{contains-filter}
 use Rattle.std.proofs.Common.{Bool, Contains, List, Some, [], ap, arith, inl, inr, not, refl, subst, sym, true, ℕ, ◌%◌, ◌*◌, ◌++◌, ◌+◌, ◌/◌, ◌<◌, ◌∙◌, ◌∷◌, ◌≡◌, ◌≢◌, ◌≤◌}
 use Rattle.std.proofs.lemmas.Bool.{cases_eq, eq-eqb, eqb-true, ne_eqb}
 use Rattle.std.proofs.lemmas.List.Elements.{Contains-append_left, Contains-push, Contains-push_cases}
-use Rattle.std.proofs.lemmas.Nat.{div-mul-add, mod-mul-add, mod_below, same_from_place}
+use Rattle.std.proofs.lemmas.Nat.{mod_below, same_from_place}
 use Rattle.std.specs.Prelude.{slice_get, ◌==◌, ◌^◌, ◌⊎◌}
 
 -- a test that fails for one slot alone
@@ -80,13 +80,10 @@ module _ (queue : FileQueue) (positive : 0 < queue.depth) (history : History) (h
       below = mod_below slot queue.depth positive
 
       slot_is : slot_of queue (posts queue history) ≡ slot
-      slot_is =
-          ap (λ (n : ℕ). queue.number * queue.depth + n % queue.depth) turns
-          ∙ ap (λ (n : ℕ). queue.number * queue.depth + n) (mod-mul-add many queue.depth (slot % queue.depth) below)
-          ∙ slot_parts queue positive slot its
+      slot_is = (slot_of_turn queue positive slot many (posts queue history) its turns).0
 
       round_is : posts queue history / queue.depth ≡ many
-      round_is = ap (λ (n : ℕ). n / queue.depth) turns ∙ div-mul-add many queue.depth (slot % queue.depth) below
+      round_is = (slot_of_turn queue positive slot many (posts queue history) its turns).1
 
       lap_is : lap_of queue (posts queue history) ≡ lap
       lap_is = ap (λ (n : ℕ). n % 2 ^ 30) round_is ∙ sym (holds.words slot its (Empty lap) empty)

@@ -1,12 +1,12 @@
 -- Histories of the machine: their moments, and what a step changes.
 use Rattle.bb_memory_file_machine.proofs.FileEffects.{one_value, set_cases, stays_apart}
-use Rattle.bb_memory_file_machine.proofs.FileInvariant.{Holds}
-use Rattle.bb_memory_file_machine.proofs.FileKinds.{Kind, allocates, attaches, detaches, empties, fills, gives, kind_of, puts_back, receives, recovers, sends, settles, settles_sent}
+use Rattle.bb_memory_file_machine.proofs.FileInvariant.{Holds, PlaceHas}
+use Rattle.bb_memory_file_machine.proofs.FileKinds.{Kind, dies, empties, fills, kind_of, receives, refuses, releases, sends}
 use Rattle.bb_memory_file_machine.proofs.FileSteps.{holds_at_opening, holds_step}
 use Rattle.bb_memory_file_machine.proofs.FileTheorem.{effect_in, received_at}
-use Rattle.bb_memory_file_machine.specs.FileLaws.{Effect, HasReceived, IsFlag, IsHolder, IsSlot}
+use Rattle.bb_memory_file_machine.specs.FileLaws.{Effect, HasReceived, IsFlag, IsHolder, IsPlace, IsSlot}
 use Rattle.bb_memory_file_machine.specs.FileLaws as laws
-use Rattle.bb_memory_file_machine.specs.FileMachine.{DetachedBy, Done, Empty, FileFlag, FileMove, FileOutcome, FileScene, FileState, FileStep, FileWords, Fill, Free, HeldBy, Message, OnSlot, Outside, Place, Posting, Receives, Refused, Sending, Sends, SentTo, Slot, Take, change_at, file_after, file_step, left_by, move_at, opening_state, process_of, with_flag, with_slot}
+use Rattle.bb_memory_file_machine.specs.FileMachine.{Dead, DetachedBy, Done, Empty, FileFlag, FileMove, FileOutcome, FileScene, FileState, FileStep, FileWords, Fill, Free, HeldBy, Message, OnSlot, Outside, Place, Posting, Receives, Refused, Sending, Sends, SentTo, Slot, Take, change_at, change_by, file_after, file_step, left_by, move_at, opening_state, process_of, with_flag, with_slot}
 use Rattle.bb_memory_file_machine.specs.FileQueues.{FileQueue, HasHappened, History, IsMoment, Obey, Rules, earlier, now, outcome_after, state_after}
 use Rattle.bb_memory_lists.proofs.SliceGets.{slice_get-set_apart, slice_get-set_same}
 use Rattle.std.proofs.Common.{List, None, Option, Some, [], ap, append-nil, append_assoc, arith, inl, inr, refl, reverse, sym, ℕ, ◌++◌, ◌<◌, ◌∙◌, ◌∷◌, ◌≡◌, ◌≢◌, ◌≤◌}
@@ -217,3 +217,155 @@ module _ (scene : FileScene) where
       (λ sent. let flags = one_value (state_after scene (step ∷ moment)).words.flags bucket (HeldBy party) (SentTo other lap)
       received.holder sent in absurd (cc)) is in
       (found.0, happened scene moment (step ∷ moment) history history (Sends bucket found.0) (earlier step moment now) found.1 now)
+
+-- TAKES AND POSTS
+
+take_kind : (words : FileWords) (place : Place) (step : FileStep) (move : FileMove) (slot bucket party : ℕ) →
+    Kind words place step move → move.outcome ≡ Receives slot bucket party →
+    (process : ℕ) × (lap : ℕ) × (step ≡ Take process party slot bucket lap) × IsFlag words bucket (SentTo slot lap)
+take_kind words place step move slot bucket party (receives process number at other lap own is) said =
+    let slots : at ≡ slot = cc in
+    let buckets : other ≡ bucket = cc in
+    let parties : number ≡ party = cc in (
+      process,
+      lap,
+      ap (λ (p : ℕ). Take process p at other lap) parties ∙ ap (λ (s : ℕ). Take process party s other lap) slots
+      ∙ ap (λ (b : ℕ). Take process party slot b lap) buckets,
+      ap (slice_get words.flags) (sym buckets) ∙ is ∙ ap (λ (s : ℕ). Some (SentTo s lap)) slots,
+    )
+take_kind words place step move slot bucket party _ said = absurd (cc)
+
+take_there : (state : FileState) (step : FileStep) (slot bucket party : ℕ) (found : Option Place) →
+    (change_at state step found).outcome ≡ Receives slot bucket party →
+    (process : ℕ) × (lap : ℕ) × (step ≡ Take process party slot bucket lap) × IsFlag state.words bucket (SentTo slot lap)
+take_there state step slot bucket party None said = absurd (cc)
+take_there state step slot bucket party (Some place) said =
+    take_kind state.words place step (move_at state.words place step) slot bucket party (kind_of state.words place step) said
+
+-- a step by which a party receives a message is a take
+pub take_of : (scene : FileScene) (history : History) (step : FileStep) (slot bucket party : ℕ) →
+    outcome_after scene history step ≡ Receives slot bucket party →
+    (process : ℕ) × (lap : ℕ) × (step ≡ Take process party slot bucket lap)
+    × IsFlag (state_after scene history).words bucket (SentTo slot lap)
+take_of scene history step slot bucket party said =
+    let state : FileState = state_after scene history in
+    take_there state step slot bucket party (slice_get state.places (process_of step)) said
+
+-- a process fills a slot: it is in a post, and sends the bucket next
+pub record Posts (state : FileState) (after : FileState) (process slot lap : ℕ) : Type 0 where
+  pub party : ℕ
+  pub bucket : ℕ
+  pub posting : slice_get state.places process ≡ Some (Posting party slot bucket)
+  pub sending : slice_get after.places process ≡ Some (Sending party slot bucket lap)
+  pub empty : IsSlot state.words slot (Empty lap)
+
+posting_kind : (state : FileState) (place : Place) (step : FileStep) (move : FileMove) (process slot lap : ℕ) →
+    slice_get state.places (process_of step) ≡ Some place → Kind state.words place step move → step ≡ Fill process lap →
+    move.outcome ≡ OnSlot slot → Posts state (change_by state (process_of step) move).state process slot lap
+posting_kind state place step move process slot lap there (fills actor party at bucket found empty) step_is said =
+    let same : actor ≡ process = cc in
+    let slots : at ≡ slot = cc in
+    let laps : found ≡ lap = cc in record {
+      party = party;
+      bucket = bucket;
+      posting = ap (slice_get state.places) (sym same) ∙ there ∙ ap (λ (s : ℕ). Some (Posting party s bucket)) slots;
+      sending = ap (slice_get (slice_set state.places actor (Sending party at bucket found))) (sym same)
+          ∙ slice_get-set_same state.places actor (Sending party at bucket found) (Posting party at bucket) there
+          ∙ ap (λ (s : ℕ). Some (Sending party s bucket found)) slots
+          ∙ ap (λ (l : ℕ). Some (Sending party slot bucket l)) laps;
+      empty = ap (slice_get state.words.slots) (sym slots) ∙ empty ∙ ap (λ (l : ℕ). Some (Empty l)) laps;
+    }
+posting_kind state place step move process slot lap there (empties actor party at bucket found next own held is) step_is said =
+    absurd (cc)
+posting_kind state place step move process slot lap there _ step_is said = absurd (cc)
+
+posting_there : (state : FileState) (step : FileStep) (process slot lap : ℕ) (found : Option Place) →
+    slice_get state.places (process_of step) ≡ found → step ≡ Fill process lap →
+    (change_at state step found).outcome ≡ OnSlot slot → Posts state (change_at state step found).state process slot lap
+posting_there state step process slot lap None there step_is said = absurd (cc)
+posting_there state step process slot lap (Some place) there step_is said =
+    posting_kind state place step (move_at state.words place step) process slot lap there (kind_of state.words place step)
+    step_is said
+
+pub posting_of : (scene : FileScene) (history : History) (step : FileStep) (process slot lap : ℕ) → step ≡ Fill process lap →
+    outcome_after scene history step ≡ OnSlot slot →
+    Posts (state_after scene history) (state_after scene (step ∷ history)) process slot lap
+posting_of scene history step process slot lap step_is said =
+    let state : FileState = state_after scene history in
+    posting_there state step process slot lap (slice_get state.places (process_of step)) refl step_is said
+
+-- SENDERS
+
+module _ (process party slot bucket lap : ℕ) where
+  -- what becomes of a process that has filled the slot
+  pub data Sender (state : FileState) : Type 0 where
+    is_sending : IsPlace state process (Sending party slot bucket lap) → Sender state
+    is_dead : IsPlace state process Dead → Sender state
+    has_sent : IsFlag state.words bucket (SentTo slot lap) → Sender state
+
+  sender_moved : (state : FileState) (place : Place) (step : FileStep) (move : FileMove) →
+      slice_get state.places (process_of step) ≡ Some place → Kind state.words place step move →
+      PlaceHas state.words (process_of step) place → process_of step ≡ process → place ≡ Sending party slot bucket lap →
+      Sender (change_by state (process_of step) move).state
+  sender_moved state place step move there (sends actor number at other found) has same is =
+      let buckets : other ≡ bucket = cc in
+      let slots : at ≡ slot = cc in
+      let laps : found ≡ lap = cc in
+      has_sent (ap (slice_get (slice_set state.words.flags other (SentTo at found))) (sym buckets)
+      ∙ slice_get-set_same state.words.flags other (SentTo at found) (HeldBy number) has.1
+      ∙ ap (λ (s : ℕ). Some (SentTo s found)) slots ∙ ap (λ (l : ℕ). Some (SentTo slot l)) laps)
+  sender_moved state place step move there (dies actor at) has same is =
+      is_dead (ap (slice_get (slice_set state.places actor Dead)) (sym same)
+      ∙ slice_get-set_same state.places actor Dead place there)
+  sender_moved state place step move there (refuses at taken) has same is =
+      is_sending (ap (slice_get (slice_set state.places (process_of step) place)) (sym same)
+      ∙ slice_get-set_same state.places (process_of step) place place there ∙ ap Some is)
+  sender_moved state place step move there _ has same is = absurd (cc)
+
+  sender_there : (state : FileState) (step : FileStep) (found : Option Place) →
+      slice_get state.places (process_of step) ≡ found → Holds state →
+      IsPlace state process (Sending party slot bucket lap) → Sender (change_at state step found).state
+  sender_there state step None is holds there = is_sending there
+  sender_there state step (Some place) is holds there = elim (cases_eq (process_of step) process) [
+    | inl same ↦ sender_moved state place step (move_at state.words place step) is (kind_of state.words place step)
+        (holds.each (process_of step) place is) same
+        (one_value state.places process place (Sending party slot bucket lap) (ap (slice_get state.places) (sym same) ∙ is) there)
+    | inr apart ↦ is_sending
+        (slice_get-set_apart state.places (process_of step) process (move_at state.words place step).place apart ∙ there)
+  ]
+
+  pub sender_after : (scene : FileScene) (history : History) (step : FileStep) →
+      IsPlace (state_after scene history) process (Sending party slot bucket lap) → Sender (state_after scene (step ∷ history))
+  sender_after scene history step there =
+      let state : FileState = state_after scene history in
+      sender_there state step (slice_get state.places (process_of step)) refl (holds_after scene history) there
+
+dead_moved : (state : FileState) (place : Place) (step : FileStep) (move : FileMove) (process : ℕ) →
+    slice_get state.places (process_of step) ≡ Some place → Kind state.words place step move → process_of step ≡ process →
+    place ≡ Dead → IsPlace (change_by state (process_of step) move).state process Dead
+dead_moved state place step move process there (dies actor at) same is =
+    ap (slice_get (slice_set state.places actor Dead)) (sym same) ∙ slice_get-set_same state.places actor Dead place there
+dead_moved state place step move process there (releases actor party own) same is =
+    ap (slice_get (slice_set state.places actor Dead)) (sym same) ∙ slice_get-set_same state.places actor Dead place there
+dead_moved state place step move process there (refuses at taken) same is =
+    ap (slice_get (slice_set state.places (process_of step) place)) (sym same)
+    ∙ slice_get-set_same state.places (process_of step) place place there ∙ ap Some is
+dead_moved state place step move process there _ same is = absurd (cc)
+
+dead_there : (state : FileState) (step : FileStep) (process : ℕ) (found : Option Place) →
+    slice_get state.places (process_of step) ≡ found → IsPlace state process Dead →
+    IsPlace (change_at state step found).state process Dead
+dead_there state step process None is there = there
+dead_there state step process (Some place) is there = elim (cases_eq (process_of step) process) [
+  | inl same ↦ dead_moved state place step (move_at state.words place step) process is (kind_of state.words place step) same
+      (one_value state.places process place Dead (ap (slice_get state.places) (sym same) ∙ is) there)
+  | inr apart ↦
+      slice_get-set_apart state.places (process_of step) process (move_at state.words place step).place apart ∙ there
+]
+
+-- a dead process stays dead
+pub dead_after : (scene : FileScene) (history : History) (step : FileStep) (process : ℕ) →
+    IsPlace (state_after scene history) process Dead → IsPlace (state_after scene (step ∷ history)) process Dead
+dead_after scene history step process there =
+    let state : FileState = state_after scene history in
+    dead_there state step process (slice_get state.places (process_of step)) refl there

@@ -33,6 +33,17 @@ module _ (queue : FileQueue) (positive : 0 < queue.depth) where
   same_slot slot other its others same =
       sym (slot_parts slot its) ∙ ap (λ (n : ℕ). queue.number * queue.depth + n) same ∙ slot_parts other others
 
+  -- the slot of a ticket, and how often the slot was filled before
+  pub slot_of_turn : (slot many ticket : ℕ) → IsSlotOf queue slot → ticket ≡ many * queue.depth + slot % queue.depth →
+      (slot_of queue ticket ≡ slot) × (ticket / queue.depth ≡ many)
+  slot_of_turn slot many ticket its turns =
+      let below = mod_below slot queue.depth positive in (
+        ap (λ (n : ℕ). queue.number * queue.depth + n % queue.depth) turns
+        ∙ ap (λ (n : ℕ). queue.number * queue.depth + n) (mod-mul-add many queue.depth (slot % queue.depth) below)
+        ∙ slot_parts slot its,
+        ap (λ (n : ℕ). n / queue.depth) turns ∙ div-mul-add many queue.depth (slot % queue.depth) below,
+      )
+
   -- THE INVARIANT
 
   -- the ticket of the message that fills the slot next

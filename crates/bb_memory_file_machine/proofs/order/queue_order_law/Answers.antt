@@ -1,6 +1,6 @@
 use Rattle.bb_memory_file_machine.proofs.QueueHistories.{again_sent, history_of}
 use Rattle.bb_memory_file_machine.proofs.QueueInvariant.{next_ticket}
-use Rattle.bb_memory_file_machine.proofs.QueueOrder.{held_always, in_slot_always, ordered_always, received_always, shorter_always}
+use Rattle.bb_memory_file_machine.proofs.QueueOrder.{held_always, in_order_always, in_slot_always, looked_always, numbered_always, one_sender_always, ordered_always, received_always, shorter_always}
 use Rattle.bb_memory_file_machine.proofs.order.queue_order_law.Goals as goal
 
 pub returns-clause-histories : goal.returns-clause-histories
@@ -24,3 +24,18 @@ returns-clause-shorter c = λ queue history positive. shorter_always queue posit
 pub returns-clause-received : goal.returns-clause-received
 returns-clause-received c = λ queue history step slot bucket party positive.
     received_always queue positive history step slot bucket party
+
+pub returns-clause-numbered : goal.returns-clause-numbered
+returns-clause-numbered c = λ queue history process slot lap positive. numbered_always queue positive history process slot lap
+
+pub returns-clause-in_order : goal.returns-clause-in_order
+returns-clause-in_order c = λ queue history moment step older younger positive.
+    in_order_always queue positive history moment step older younger
+
+pub returns-clause-looked : goal.returns-clause-looked
+returns-clause-looked c = λ queue history moment process party slot bucket lap older younger positive.
+    looked_always queue positive history moment process party slot bucket lap older younger
+
+pub returns-clause-one_sender : goal.returns-clause-one_sender
+returns-clause-one_sender c = λ queue history first second post again step process older younger positive.
+    one_sender_always queue positive history first second post again step process older younger
