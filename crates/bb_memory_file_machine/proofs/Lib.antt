@@ -10,10 +10,11 @@ pub mod FileSteps
 pub mod FileTakers
 pub mod FileTests
 pub mod FileTheorem
-pub mod QueueLaps
-pub mod QueueHistories
-pub mod QueueCounts
-pub mod QueueInvariant
-pub mod QueueSteps
 pub mod QueueAlways
+pub mod QueueCounterexamples
+pub mod QueueCounts
+pub mod QueueHistories
+pub mod QueueInvariant
+pub mod QueueLaps
 pub mod QueueOrder
+pub mod QueueSteps

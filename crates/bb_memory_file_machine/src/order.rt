@@ -2,6 +2,7 @@
 ghost use Rattle.bb_memory_file_machine.specs.FileLaws.{IsFlag, IsSlot};
 ghost use Rattle.bb_memory_file_machine.specs.FileMachine.{Fill, FileScene, FileStep, Message, OnSlot, Receives, SentTo, Take, left_by};
 ghost use Rattle.bb_memory_file_machine.specs.FileQueues.{AreInOrder, FileQueue, History, IsMoment, IsPost, IsReceipt, IsReceived, IsSentAgain, IsSlotOf, MayTake, Obey, Posted, Waits, lap_of, messages, outcome_after, posts, queue_rules, slot_of, state_after};
+ghost use Rattle.bb_memory_file_machine.specs.FileQueueVariants.{GoesRound, LosesOrder, empty_any_lap, fill_any_lap, fill_unlooked, take_any, take_past_empty, take_unlooked};
 ghost use Rattle.std.specs.Prelude.{Contains, List, length, reverse, ℕ, ◌+◌, ◌-◌, ◌<◌, ◌∷◌, ◌≡◌, ◌≤◌};
 
 /// States what holds for the messages of a queue after each history in which the steps on its slots obey
@@ -81,4 +82,32 @@ pub fn queue_order_law()
         → outcome_after scene moment step ≡ Receives slot bucket party → IsMoment (step ∷ moment) history
         → IsFlag (state_after scene history).words bucket (SentTo other lap)
         → IsSentAgain scene moment history bucket }
+{}
+
+/// States that the rules of a queue can be obeyed, and that each of several rules is needed: without it,
+/// a queue loses the order of its messages. The function does nothing: its contract is the law.
+pub fn queue_variants_law()
+    // More messages than a queue has slots can be posted and received by the rules.
+    ensures rules { GoesRound queue_rules }
+
+    // A sender that fills a slot without a look at the slot before may leave a slot out, which a later
+    // message fills, and is received first.
+    ensures fill_unlooked { LosesOrder fill_unlooked }
+
+    // The same goes wrong if the sender has seen a message in the slot before, but doesn't look at its
+    // lap.
+    ensures fill_any_lap { LosesOrder fill_any_lap }
+
+    // A receiver that takes any message may take a younger one first.
+    ensures take_any { LosesOrder take_any }
+
+    // A receiver that passes a message that isn't sent yet, and doesn't look again once it has seen a
+    // younger one, takes the younger one first.
+    ensures take_unlooked { LosesOrder take_unlooked }
+
+    // A receiver that passes an empty slot may take a message that was posted after one in that slot.
+    ensures take_past_empty { LosesOrder take_past_empty }
+
+    // If a slot goes on with any lap, a younger message is in it at the lap of an older one.
+    ensures empty_any_lap { LosesOrder empty_any_lap }
 {}
