@@ -11,6 +11,7 @@ pub mod FileTakers
 pub mod FileTests
 pub mod FileTheorem
 pub mod QueueAlways
+pub mod QueueChances
 pub mod QueueCounterexamples
 pub mod QueueCounts
 pub mod QueueHistories

@@ -5,7 +5,7 @@ use Rattle.bb_memory_file_machine.specs.FileLaws.{IsSlot}
 use Rattle.bb_memory_file_machine.specs.FileMachine.{Allocate, Count, Deallocate, Done, Empty, FileOutcome, FileScene, FileStep, Fill, HeldBy, Lock, Message, Next, OnSlot, Post, Receives, SentTo, Slot, Take}
 use Rattle.bb_memory_file_machine.specs.FileQueueVariants.{GoesRound, LosesOrder, empty_any_lap, fill_any_lap, fill_unlooked, take_any, take_past_empty, take_unlooked}
 use Rattle.bb_memory_file_machine.specs.FileQueues.{FileQueue, HasHappened, HasSeen, History, IsFilled, IsLater, IsMoment, IsSlotOf, MayEmpty, MayFill, MayPass, MayTake, Obey, Posted, Rules, StepObeys, earlier, fills, lap_before, lap_said, next_lap, now, outcome_after, over, queue_rules, slot_before, state_after, unsent}
-use Rattle.std.proofs.Common.{Bool, Contains, List, Option, Some, [], ap, arith, inl, inr, length, refl, subst, suc, sym, true, zero, ℕ, ◌++◌, ◌+◌, ◌/◌, ◌<◌, ◌∙◌, ◌∷◌, ◌≡◌, ◌≢◌, ◌≤◌}
+use Rattle.std.proofs.Common.{Bool, Contains, List, Option, Some, [], ap, arith, inl, inr, length, refl, subst, suc, sym, true, zero, ℕ, ◌++◌, ◌+◌, ◌-◌, ◌/◌, ◌<◌, ◌∙◌, ◌∷◌, ◌≡◌, ◌≢◌, ◌≤◌}
 use Rattle.std.proofs.lemmas.Bool.{cases_eq, ltb-true}
 use Rattle.std.specs.Prelude.{nat_lt, slice_get, ◌^◌, ◌⊎◌}
 
@@ -18,7 +18,7 @@ two = record { scene = small; number = 0; depth = 2 }
 
 -- MOMENTS
 
-moment_since : (since moment : History) → IsMoment moment (since ++ moment)
+abbrev moment_since : (since moment : History) → IsMoment moment (since ++ moment)
 moment_since [] moment = now
 moment_since (step ∷ since) moment = earlier step (since ++ moment) (moment_since since moment)
 
@@ -50,7 +50,7 @@ never_received scene moment history past bucket never slot party has =
 
 -- RULES
 
-seen_at : (scene : FileScene) (moment history : History) (slot : ℕ) (word : Slot) → IsMoment moment history →
+abbrev seen_at : (scene : FileScene) (moment history : History) (slot : ℕ) (word : Slot) → IsMoment moment history →
     IsSlot (state_after scene moment).words slot word → nat_lt (fills scene slot history) (fills scene slot moment + 2 ^ 29) ≡ true →
     HasSeen scene history slot word
 seen_at scene moment history slot word past is few = record {
@@ -63,7 +63,7 @@ seen_at scene moment history slot word past is few = record {
 few_now : (n : ℕ) → n < n + 2 ^ 29
 few_now n = omega arith
 
-seen_now : (scene : FileScene) (history : History) (slot : ℕ) (word : Slot) → IsSlot (state_after scene history).words slot word →
+abbrev seen_now : (scene : FileScene) (history : History) (slot : ℕ) (word : Slot) → IsSlot (state_after scene history).words slot word →
     HasSeen scene history slot word
 seen_now scene history slot word is =
     record { moment = history; past = now; seen = is; recent = few_now (fills scene slot history) }
@@ -355,5 +355,5 @@ empty_loses = record {
       (moment_since (posted 0 0 0 (returned 0 (received 0 0 0 0 []))) both) 1
       ((λ slot party said. absurd (cc)), ((λ slot party said. absurd (cc)), ((λ slot party said. absurd (cc)),
       ((λ slot party said. absurd (cc)), ((λ slot party said. absurd (cc)), ((λ slot party said. absurd (cc)),
-      ((λ slot party said. absurd (cc)), ((λ slot party said. let zero_one : 0 ≡ 1 = cc in absurd (omega (arith, zero_one))), tt))))))));
+      ((λ slot party said. absurd (cc)), ((λ slot party said. absurd (omega (arith, ap bucket_of said))), tt))))))));
 }

@@ -112,7 +112,7 @@ module _ (queue : FileQueue) (positive : 0 < queue.depth) where
       abbrev many : ℕ
       many = fills queue.scene other history
 
-      near_below : other < slot → (before + 1 ≤ many) × (many ≤ before + 2)
+      pub near_below : other < slot → (before + 1 ≤ many) × (many ≤ before + 2)
       near_below less =
           let turns = less_in_turn queue positive slot other its_slot others less in
           let own = slot_in_turn queue positive younger.ticket in
@@ -130,7 +130,7 @@ module _ (queue : FileQueue) (positive : 0 < queue.depth) where
               fewer_rounds many (before + 2) queue.depth
               (omega (arith, turns, own, parts, least, recent, below, one, two, three)))
 
-      near_above : slot < other → (before ≤ many) × (many ≤ before + 1)
+      pub near_above : slot < other → (before ≤ many) × (many ≤ before + 1)
       near_above less =
           let turns = most_in_turn queue positive slot other its_slot others (omega (arith, less)) in
           let own = slot_in_turn queue positive younger.ticket in

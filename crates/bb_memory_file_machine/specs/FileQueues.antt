@@ -48,6 +48,10 @@ pub record FileQueue : Type 0 where
 abbrev pub IsSlotOf : FileQueue → ℕ → Type 0
 IsSlotOf queue slot = slot / queue.depth ≡ queue.number
 
+-- each slot of the queue is one of the file
+abbrev pub IsWhole : FileQueue → Type 0
+IsWhole queue = queue.number * queue.depth + queue.depth ≤ queue.scene.slots
+
 -- the slot for the message with this ticket
 abbrev pub slot_of : FileQueue → ℕ → ℕ
 slot_of queue ticket = queue.number * queue.depth + ticket % queue.depth
@@ -199,6 +203,13 @@ pub record Rules : Type 1 where
 -- the rules that keep the messages in order
 abbrev pub queue_rules : Rules
 queue_rules = record { fill = MayFill; take = MayTake; empty = MayEmpty }
+
+-- the rule about laps alone
+abbrev pub lap_rule : Rules
+lap_rule = record queue_rules {
+  fill = λ queue history slot lap. Unit {0};
+  take = λ queue history slot bucket lap. Unit {0};
+}
 
 -- if the step is allowed after these steps, and is one on a slot of the queue, it obeys the rules
 abbrev pub StepObeys : Rules → FileQueue → History → FileStep → Type 0

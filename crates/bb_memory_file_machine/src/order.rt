@@ -1,7 +1,7 @@
 //! The theorem about queues over the slots of a file: their messages keep their order.
 ghost use Rattle.bb_memory_file_machine.specs.FileLaws.{IsFlag, IsSlot};
-ghost use Rattle.bb_memory_file_machine.specs.FileMachine.{Fill, FileScene, FileStep, Message, OnSlot, Receives, SentTo, Take, left_by};
-ghost use Rattle.bb_memory_file_machine.specs.FileQueues.{AreInOrder, FileQueue, History, IsMoment, IsPost, IsReceipt, IsReceived, IsSentAgain, IsSlotOf, MayTake, Obey, Posted, Waits, lap_of, messages, outcome_after, posts, queue_rules, slot_of, state_after};
+ghost use Rattle.bb_memory_file_machine.specs.FileMachine.{Empty, Fill, FileScene, FileStep, Message, OnSlot, Receives, SentTo, Take, left_by};
+ghost use Rattle.bb_memory_file_machine.specs.FileQueues.{AreInOrder, FileQueue, History, IsMoment, IsPost, IsReceipt, IsReceived, IsSentAgain, IsSlotOf, IsWhole, MayFill, MayTake, Obey, Posted, Waits, lap_of, lap_rule, messages, outcome_after, posts, queue_rules, slot_of, state_after};
 ghost use Rattle.bb_memory_file_machine.specs.FileQueueVariants.{GoesRound, LosesOrder, empty_any_lap, fill_any_lap, fill_unlooked, take_any, take_past_empty, take_unlooked};
 ghost use Rattle.std.specs.Prelude.{Contains, List, length, reverse, ℕ, ◌+◌, ◌-◌, ◌<◌, ◌∷◌, ◌≡◌, ◌≤◌};
 
@@ -75,6 +75,31 @@ pub fn queue_order_law()
         → IsPost queue first post process older → IsPost queue second again process younger
         → IsMoment (post ∷ first) second → IsMoment (again ∷ second) history
         → IsReceipt queue history step younger → IsReceived queue first history older }
+
+    // A sender that finds the slot of the next ticket empty may fill it.
+    ensures may_post { (queue : FileQueue) (history : History) (lap : ℕ) → 0 < queue.depth → IsWhole queue
+        → Obey queue_rules queue history
+        → IsSlot (state_after queue.scene history).words (slot_of queue (posts queue history)) (Empty lap)
+        → MayFill queue history (slot_of queue (posts queue history)) lap }
+
+    // If that slot isn't empty, the queue still holds the message that was posted as many posts before as
+    // the queue has slots.
+    ensures full { (queue : FileQueue) (history : History) (lap bucket : ℕ) → 0 < queue.depth
+        → Obey queue_rules queue history
+        → IsSlot (state_after queue.scene history).words (slot_of queue (posts queue history)) (Message lap bucket)
+        → (posted : Posted) × Contains (messages queue history) posted
+        × (posted.ticket + queue.depth ≡ posts queue history) }
+
+    // A receiver may take a message that waits, if no older one does.
+    ensures may_take { (queue : FileQueue) (history : History) (posted : Posted) → 0 < queue.depth → IsWhole queue
+        → Obey queue_rules queue history → Waits queue history posted
+        → ((older : Posted) → Waits queue history older → posted.ticket ≤ older.ticket)
+        → MayTake queue history (slot_of queue posted.ticket) posted.bucket (lap_of queue posted.ticket) }
+
+    // In a queue of one slot, each step that is allowed obeys the rules about posts and takes. Only the
+    // rule about laps is left.
+    ensures one_slot { (queue : FileQueue) (history : History) → queue.depth ≡ 1
+        → Obey lap_rule queue history → Obey queue_rules queue history }
 
     // A message that was received is received again only if a party has sent its bucket again: whoever
     // has put it back, or a settler.

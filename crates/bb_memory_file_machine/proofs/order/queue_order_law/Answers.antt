@@ -1,3 +1,4 @@
+use Rattle.bb_memory_file_machine.proofs.QueueChances.{is_full, may_post, one_slot_obeys, take_now}
 use Rattle.bb_memory_file_machine.proofs.QueueHistories.{again_sent, history_of}
 use Rattle.bb_memory_file_machine.proofs.QueueInvariant.{next_ticket}
 use Rattle.bb_memory_file_machine.proofs.QueueOrder.{held_always, in_order_always, in_slot_always, looked_always, numbered_always, one_sender_always, ordered_always, received_always, shorter_always}
@@ -39,3 +40,16 @@ returns-clause-looked c = λ queue history moment process party slot bucket lap 
 pub returns-clause-one_sender : goal.returns-clause-one_sender
 returns-clause-one_sender c = λ queue history first second post again step process older younger positive.
     one_sender_always queue positive history first second post again step process older younger
+
+pub returns-clause-may_post : goal.returns-clause-may_post
+returns-clause-may_post c = λ queue history lap positive. may_post queue positive history lap
+
+pub returns-clause-full : goal.returns-clause-full
+returns-clause-full c = λ queue history lap bucket positive. is_full queue positive history lap bucket
+
+pub returns-clause-may_take : goal.returns-clause-may_take
+returns-clause-may_take c = λ queue history posted positive whole obey waits oldest.
+    take_now queue positive history whole obey posted waits oldest
+
+pub returns-clause-one_slot : goal.returns-clause-one_slot
+returns-clause-one_slot c = λ queue history single. one_slot_obeys queue single history
