@@ -18,4 +18,5 @@ pub mod QueueHistories
 pub mod QueueInvariant
 pub mod QueueLaps
 pub mod QueueOrder
+pub mod QueueSingles
 pub mod QueueSteps

@@ -48,6 +48,11 @@ never_received : (scene : FileScene) (moment history : History) (past : IsMoment
 never_received scene moment history past bucket never slot party has =
     never_step scene moment history past bucket never has.before has.step has.since has.until slot party has.happens
 
+-- the bucket of a message that a party receives
+abbrev bucket_of : FileOutcome → ℕ
+bucket_of (Receives slot bucket party) = bucket
+bucket_of outcome = 0
+
 -- RULES
 
 abbrev seen_at : (scene : FileScene) (moment history : History) (slot : ℕ) (word : Slot) → IsMoment moment history →
