@@ -6,13 +6,13 @@ use Rattle.bb_memory_file_machine.proofs.QueueLaps.{Fits, follows_below, round_a
 use Rattle.bb_memory_file_machine.proofs.QueueSteps.{Leaves, QueueChange, ends_one, may_empty, may_fill, posts_one, queue_change, rests, without}
 use Rattle.bb_memory_file_machine.specs.FileLaws.{IsSlot}
 use Rattle.bb_memory_file_machine.specs.FileMachine.{Empty, FileStep, FileWords, Message, Slot}
-use Rattle.bb_memory_file_machine.specs.FileQueues.{AreInOrder, FileQueue, History, IsMoment, IsSlotOf, MayEmpty, MayFill, Obey, Posted, StepObeys, earlier, fills, lap_of, messages, next_lap, now, posts, queue_rules, slot_of, state_after}
+use Rattle.bb_memory_file_machine.specs.FileQueues.{AreInOrder, FileQueue, History, IsMoment, IsSlotOf, Obey, Posted, StepObeys, earlier, fills, lap_of, messages, next_lap, now, posts, queue_rules, slot_of, state_after}
 use Rattle.bb_memory_lists.proofs.ListEntries.{contains-filter}
-use Rattle.std.proofs.Common.{Bool, Contains, List, Some, [], ap, arith, inl, inr, not, refl, subst, sym, true, ℕ, ◌%◌, ◌*◌, ◌++◌, ◌+◌, ◌/◌, ◌<◌, ◌∙◌, ◌∷◌, ◌≡◌, ◌≢◌, ◌≤◌}
-use Rattle.std.proofs.lemmas.Bool.{cases_eq, eq-eqb, eqb-true, ne_eqb}
+use Rattle.std.proofs.Common.{Contains, List, Some, [], ap, arith, inl, inr, not, subst, sym, true, ℕ, ◌%◌, ◌*◌, ◌++◌, ◌+◌, ◌/◌, ◌<◌, ◌∙◌, ◌∷◌, ◌≡◌, ◌≢◌, ◌≤◌}
+use Rattle.std.proofs.lemmas.Bool.{cases_eq, eq-eqb, ne_eqb}
 use Rattle.std.proofs.lemmas.List.Elements.{Contains-append_left, Contains-push, Contains-push_cases}
 use Rattle.std.proofs.lemmas.Nat.{mod_below, same_from_place}
-use Rattle.std.specs.Prelude.{slice_get, ◌==◌, ◌^◌, ◌⊎◌}
+use Rattle.std.specs.Prelude.{slice_get, ◌==◌, ◌^◌}
 
 -- a test that fails for one slot alone
 not_test : (slot other : ℕ) → slot ≢ other → not (slot == other) ≡ true

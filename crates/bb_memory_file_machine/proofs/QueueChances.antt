@@ -3,18 +3,18 @@ use Rattle.bb_memory_file_machine.proofs.FileEffects.{one_value}
 use Rattle.bb_memory_file_machine.proofs.FileSound.{there_below}
 use Rattle.bb_memory_file_machine.proofs.QueueAlways.{queue_always, queue_moments}
 use Rattle.bb_memory_file_machine.proofs.QueueHistories.{SlotChange, change_after, empties_one, fills_one, keeps}
-use Rattle.bb_memory_file_machine.proofs.QueueInvariant.{IsListed, IsPlaced, IsQueue, before_of, less_in_turn, slot_in_queue, slot_in_turn, slot_parts, turn}
+use Rattle.bb_memory_file_machine.proofs.QueueInvariant.{IsQueue, before_of, less_in_turn, slot_in_queue, slot_in_turn, slot_parts}
 use Rattle.bb_memory_file_machine.proofs.QueueLaps.{Fits, due_above, due_at, due_below, fewer_rounds, follows_before, round_after}
 use Rattle.bb_memory_file_machine.proofs.QueueOrder.{near_above, near_below}
 use Rattle.bb_memory_file_machine.specs.FileLaws.{IsFlag, IsSlot}
-use Rattle.bb_memory_file_machine.specs.FileMachine.{Empty, FileScene, FileStep, Fill, Message, OnSlot, Receives, SentTo, Slot, Take}
-use Rattle.bb_memory_file_machine.specs.FileQueues.{FileQueue, HasSeen, History, IsFilled, IsLater, IsSlotOf, IsWhole, MayFill, MayPass, MayTake, Obey, Posted, StepObeys, Waits, fills, lap_before, lap_of, lap_said, messages, now, outcome_after, over, posts, queue_rules, slot_before, slot_of, state_after, unsent}
+use Rattle.bb_memory_file_machine.specs.FileMachine.{Empty, FileScene, FileStep, Message, SentTo, Slot}
+use Rattle.bb_memory_file_machine.specs.FileQueues.{FileQueue, HasSeen, History, IsFilled, IsLater, IsSlotOf, IsWhole, MayFill, MayPass, MayTake, Obey, Posted, Waits, fills, lap_before, lap_of, lap_said, messages, now, outcome_after, over, posts, queue_rules, slot_before, slot_of, state_after, unsent}
 use Rattle.bb_memory_lists.proofs.SliceGets.{length-set_at}
-use Rattle.std.proofs.Common.{Bool, Contains, List, None, Option, Some, [], ap, arith, div-add-mod', false, inl, inr, length, lt_of_mul-lt-mul_right, refl, subst, sym, true, ℕ, ◌%◌, ◌*◌, ◌+◌, ◌-◌, ◌/◌, ◌<◌, ◌∙◌, ◌∷◌, ◌≡◌, ◌≢◌, ◌≤◌}
+use Rattle.std.proofs.Common.{Bool, Contains, Some, [], ap, arith, div-add-mod', false, inl, inr, length, lt_of_mul-lt-mul_right, refl, subst, sym, true, ℕ, ◌%◌, ◌*◌, ◌+◌, ◌-◌, ◌/◌, ◌<◌, ◌∙◌, ◌∷◌, ◌≡◌, ◌≢◌, ◌≤◌}
 use Rattle.std.proofs.lemmas.Bool.{cases_lt, cases_order}
 use Rattle.std.proofs.lemmas.List.{length-replicate}
 use Rattle.std.proofs.lemmas.Nat.{mod_below}
-use Rattle.std.specs.Prelude.{if◌then◌else◌, nat_lt, slice_get, slice_set, ◌^◌, ◌⊎◌}
+use Rattle.std.specs.Prelude.{if◌then◌else◌, nat_lt, slice_get, ◌^◌, ◌⊎◌}
 
 -- SLOTS
 

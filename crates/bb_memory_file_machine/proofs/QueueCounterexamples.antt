@@ -2,12 +2,12 @@
 -- order.
 use Rattle.bb_memory_file_machine.proofs.FileEffects.{one_value}
 use Rattle.bb_memory_file_machine.specs.FileLaws.{IsSlot}
-use Rattle.bb_memory_file_machine.specs.FileMachine.{Allocate, Count, Deallocate, Done, Empty, FileOutcome, FileScene, FileStep, Fill, HeldBy, Lock, Message, Next, OnSlot, Post, Receives, SentTo, Slot, Take}
+use Rattle.bb_memory_file_machine.specs.FileMachine.{Allocate, Count, Deallocate, Done, Empty, FileOutcome, FileScene, FileStep, Fill, Lock, Message, Next, OnSlot, Post, Receives, Slot, Take}
 use Rattle.bb_memory_file_machine.specs.FileQueueVariants.{GoesRound, LosesOrder, empty_any_lap, fill_any_lap, fill_unlooked, take_any, take_past_empty, take_unlooked}
-use Rattle.bb_memory_file_machine.specs.FileQueues.{FileQueue, HasHappened, HasSeen, History, IsFilled, IsLater, IsMoment, IsSlotOf, MayEmpty, MayFill, MayPass, MayTake, Obey, Posted, Rules, StepObeys, earlier, fills, lap_before, lap_said, next_lap, now, outcome_after, over, queue_rules, slot_before, state_after, unsent}
-use Rattle.std.proofs.Common.{Bool, Contains, List, Option, Some, [], ap, arith, inl, inr, length, refl, subst, suc, sym, true, zero, ℕ, ◌++◌, ◌+◌, ◌-◌, ◌/◌, ◌<◌, ◌∙◌, ◌∷◌, ◌≡◌, ◌≢◌, ◌≤◌}
-use Rattle.std.proofs.lemmas.Bool.{cases_eq, ltb-true}
-use Rattle.std.specs.Prelude.{nat_lt, slice_get, ◌^◌, ◌⊎◌}
+use Rattle.bb_memory_file_machine.specs.FileQueues.{FileQueue, HasHappened, HasSeen, History, IsFilled, IsLater, IsMoment, IsSlotOf, MayEmpty, MayFill, MayPass, MayTake, Obey, Rules, StepObeys, earlier, fills, lap_before, lap_said, next_lap, now, outcome_after, over, queue_rules, slot_before, state_after, unsent}
+use Rattle.std.proofs.Common.{[], ap, arith, inl, inr, length, refl, subst, suc, sym, true, zero, ℕ, ◌++◌, ◌+◌, ◌-◌, ◌<◌, ◌∙◌, ◌∷◌, ◌≡◌, ◌≢◌, ◌≤◌}
+use Rattle.std.proofs.lemmas.Bool.{ltb-true}
+use Rattle.std.specs.Prelude.{nat_lt, ◌^◌, ◌⊎◌}
 
 -- two buckets, two slots, two numbers and two processes, and one queue of both slots
 abbrev small : FileScene
@@ -161,16 +161,16 @@ abbrev both : History
 both = posted 1 1 0 (posted 0 0 0 held)
 
 module _ (rules : Rules) (fill : (history : History) (slot lap : ℕ) → MayFill two history slot lap → rules.fill two history slot lap)
-    where
-  one_obeys : Obey rules two (posted 0 0 0 held)
-  one_obeys = posting rules held 0 0 0 refl
-      (fill (Post 0 0 0 0 7 ∷ held) 0 0 (may_fill (Post 0 0 0 0 7 ∷ held) 0 0 (Empty 0) refl (next_later (2 ^ 30 - 1))))
-      (held_obeys rules)
+  where
+    one_obeys : Obey rules two (posted 0 0 0 held)
+    one_obeys = posting rules held 0 0 0 refl
+        (fill (Post 0 0 0 0 7 ∷ held) 0 0 (may_fill (Post 0 0 0 0 7 ∷ held) 0 0 (Empty 0) refl (next_later (2 ^ 30 - 1))))
+        (held_obeys rules)
 
-  both_obeys : Obey rules two both
-  both_obeys = posting rules (posted 0 0 0 held) 1 1 0 refl
-      (fill (Post 0 0 1 1 7 ∷ posted 0 0 0 held) 1 0
-      (may_fill (Post 0 0 1 1 7 ∷ posted 0 0 0 held) 1 0 (Message 0 0) refl (inl refl))) one_obeys
+    both_obeys : Obey rules two both
+    both_obeys = posting rules (posted 0 0 0 held) 1 1 0 refl
+        (fill (Post 0 0 1 1 7 ∷ posted 0 0 0 held) 1 0
+        (may_fill (Post 0 0 1 1 7 ∷ posted 0 0 0 held) 1 0 (Message 0 0) refl (inl refl))) one_obeys
 
 -- a third message was posted to the first slot, and all were received
 abbrev third : History
@@ -183,9 +183,15 @@ module _ (rules : Rules) (fill : (history : History) (slot lap : ℕ) → MayFil
     (take : (history : History) (slot bucket lap : ℕ) → MayTake two history slot bucket lap → rules.take two history slot bucket lap)
     (empty : (history : History) (slot next : ℕ) → MayEmpty two history slot next → rules.empty two history slot next) where
   third_obeys : Obey rules two third
-  third_obeys = (tt, (tt, receiving rules both 0 0 0 1
-      (take both 0 0 0 (take_first both 0 0 (Message 0 1) refl refl (next_later (2 ^ 30 - 1))))
-      (empty (Take 1 1 0 0 0 ∷ both) 0 1 (may_empty (Take 1 1 0 0 0 ∷ both) 0 0 0 refl)) (both_obeys rules fill)))
+  third_obeys = (
+    tt,
+    (
+      tt,
+      receiving rules both 0 0 0 1
+          (take both 0 0 0 (take_first both 0 0 (Message 0 1) refl refl (next_later (2 ^ 30 - 1))))
+          (empty (Take 1 1 0 0 0 ∷ both) 0 1 (may_empty (Take 1 1 0 0 0 ∷ both) 0 0 0 refl)) (both_obeys rules fill),
+    ),
+  )
 
   round_obeys : Obey rules two round
   round_obeys =
@@ -256,10 +262,25 @@ any_lap_loses = record {
     posting fill_any_lap skipped 1 1 1 refl
         (inl (may_fill (Post 0 0 1 1 7 ∷ skipped) 1 1 (Message 2 0) refl (inr (next_later 1))))
         (posting fill_any_lap all_free 0 0 2 refl
-        (inr (0, 1, seen_at small both (Post 0 0 0 0 7 ∷ all_free) 1 (Message 0 1)
-        (moment_since (Post 0 0 0 0 7 ∷ returned 0 (returned 1 (received 0 0 1 2 (received 1 1 0 1 (posted 0 0 1 (returned 0 (received 0 0 0 1 []))))))) both) refl refl))
-        (tt, (tt, (tt, (tt, round_obeys fill_any_lap (λ history slot lap may. inl may) (λ history slot bucket lap may. may)
-        (λ history slot next may. may)))))),
+        (inr (
+          0,
+          1,
+          seen_at small both (Post 0 0 0 0 7 ∷ all_free) 1 (Message 0 1)
+              (moment_since (Post 0 0 0 0 7 ∷ returned 0 (returned 1 (received 0 0 1 2 (received 1 1 0 1 (posted 0 0 1 (returned 0 (received 0 0 0 1 []))))))) both) refl refl,
+        )) (
+          tt,
+          (
+            tt,
+            (
+              tt,
+              (
+                tt,
+                round_obeys fill_any_lap (λ history slot lap may. inl may) (λ history slot bucket lap may. may)
+                    (λ history slot next may. may),
+              ),
+            ),
+          ),
+        )),
   );
   moment = skipped;
   past = moment_since (posted 1 1 1 []) skipped;
@@ -342,10 +363,15 @@ empty_loses = record {
   obey = (
     (λ its said. take_first (posted 0 0 0 same_lap) 0 0 (Message 0 1) refl refl (next_later (2 ^ 30 - 1))),
     posting empty_any_lap same_lap 0 0 0 refl
-        (may_fill (Post 0 0 0 0 7 ∷ same_lap) 0 0 (Message 0 1) refl (inr (next_later (2 ^ 30 - 1))))
-        (tt, (tt, receiving empty_any_lap both 0 0 0 0
-        (take_first both 0 0 (Message 0 1) refl refl (next_later (2 ^ 30 - 1))) tt
-        (both_obeys empty_any_lap (λ history slot lap may. may)))),
+        (may_fill (Post 0 0 0 0 7 ∷ same_lap) 0 0 (Message 0 1) refl (inr (next_later (2 ^ 30 - 1)))) (
+          tt,
+          (
+            tt,
+            receiving empty_any_lap both 0 0 0 0
+                (take_first both 0 0 (Message 0 1) refl refl (next_later (2 ^ 30 - 1))) tt
+                (both_obeys empty_any_lap (λ history slot lap may. may)),
+          ),
+        ),
   );
   moment = both;
   past = moment_since (posted 0 0 0 (returned 0 (received 0 0 0 0 []))) both;
@@ -357,8 +383,23 @@ empty_loses = record {
   held = (1, ltb-true 1 2 refl, refl);
   received = (0, 1, refl);
   missed = never_received small both (posted 0 0 0 same_lap)
-      (moment_since (posted 0 0 0 (returned 0 (received 0 0 0 0 []))) both) 1
-      ((λ slot party said. absurd (cc)), ((λ slot party said. absurd (cc)), ((λ slot party said. absurd (cc)),
-      ((λ slot party said. absurd (cc)), ((λ slot party said. absurd (cc)), ((λ slot party said. absurd (cc)),
-      ((λ slot party said. absurd (cc)), ((λ slot party said. absurd (omega (arith, ap bucket_of said))), tt))))))));
+      (moment_since (posted 0 0 0 (returned 0 (received 0 0 0 0 []))) both) 1 (
+        (λ slot party said. absurd (cc)),
+        (
+          (λ slot party said. absurd (cc)),
+          (
+            (λ slot party said. absurd (cc)),
+            (
+              (λ slot party said. absurd (cc)),
+              (
+                (λ slot party said. absurd (cc)),
+                (
+                  (λ slot party said. absurd (cc)),
+                  ((λ slot party said. absurd (cc)), ((λ slot party said. absurd (omega (arith, ap bucket_of said))), tt)),
+                ),
+              ),
+            ),
+          ),
+        ),
+      );
 }

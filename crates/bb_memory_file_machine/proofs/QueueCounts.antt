@@ -1,13 +1,12 @@
 -- How often the slots of a queue are filled, and which messages the queue holds: what a step changes.
-use Rattle.bb_memory_file_machine.proofs.FileEffects.{set_cases}
 use Rattle.bb_memory_file_machine.proofs.QueueHistories.{SlotChange, change_after, empties_one, fills_one, keeps, sent_in, sent_or_received}
 use Rattle.bb_memory_file_machine.specs.FileLaws.{IsFlag, IsHolder, IsSlot}
-use Rattle.bb_memory_file_machine.specs.FileMachine.{Done, Empty, FileOutcome, FileScene, FileStep, FileWords, Fill, HeldBy, Message, OnSlot, Receives, SentTo, Slot}
-use Rattle.bb_memory_file_machine.specs.FileQueues.{AreInOrder, FileQueue, HasHappened, History, IsMoment, IsSlotOf, Posted, changed_by, counted, earlier, filled_after, filled_by, fills, if_filled, messages, now, outcome_after, posts, slot_of, state_after}
+use Rattle.bb_memory_file_machine.specs.FileMachine.{Done, Empty, FileOutcome, FileScene, FileStep, FileWords, Fill, Message, OnSlot, Receives, SentTo, Slot}
+use Rattle.bb_memory_file_machine.specs.FileQueues.{AreInOrder, FileQueue, HasHappened, History, IsMoment, Posted, counted, earlier, filled_after, filled_by, fills, if_filled, now, outcome_after, posts, state_after}
 use Rattle.bb_memory_lists.proofs.ListEntries.{contains-behind, contains-first, contains-none}
 use Rattle.bb_memory_lists.proofs.SliceGets.{slice_get-set_apart, slice_get-set_same}
-use Rattle.std.proofs.Common.{Bool, Contains, List, None, Option, Some, [], ap, arith, false, filter, inl, inr, length, not, refl, subst, suc, sym, true, zero, ℕ, ◌++◌, ◌+◌, ◌-◌, ◌/◌, ◌<◌, ◌∙◌, ◌∷◌, ◌≡◌, ◌≢◌, ◌≤◌}
-use Rattle.std.proofs.lemmas.Bool.{cases_Bool, cases_eq, cond_both, eq-eqb, eqb-false, eqb-true, ne_eqb}
+use Rattle.std.proofs.Common.{Bool, Contains, List, None, Option, Some, [], ap, arith, false, filter, inl, inr, length, refl, suc, sym, true, zero, ℕ, ◌++◌, ◌+◌, ◌/◌, ◌<◌, ◌∙◌, ◌∷◌, ◌≡◌, ◌≢◌, ◌≤◌}
+use Rattle.std.proofs.lemmas.Bool.{cases_eq, cond_both, eq-eqb, ne_eqb}
 use Rattle.std.specs.Prelude.{if◌then◌else◌, slice_get, slice_set, ◌==◌, ◌⊎◌}
 
 -- COUNTS
@@ -147,18 +146,21 @@ pub waits_or_received : (scene : FileScene) (slot lap bucket : ℕ) (moment hist
 waits_or_received scene slot lap bucket moment _ now sent = inl (sent, refl)
 waits_or_received scene slot lap bucket moment _ (earlier step history past) sent =
     elim (waits_or_received scene slot lap bucket moment history past sent) [
-      | inr has ↦ inr (has.0, record {
-        before = has.1.before;
-        step = has.1.step;
-        since = has.1.since;
-        until = earlier step history has.1.until;
-        happens = has.1.happens;
-      })
+      | inr has ↦ inr (
+        has.0,
+        record {
+          before = has.1.before;
+          step = has.1.step;
+          since = has.1.since;
+          until = earlier step history has.1.until;
+          happens = has.1.happens;
+        },
+      )
       | inl still ↦ elim (sent_or_received scene history step bucket slot lap still.0) [
         | inr takes ↦ inr (
-            takes.0,
-            record { before = history; step = step; since = past; until = now; happens = takes.1 },
-          )
+          takes.0,
+          record { before = history; step = step; since = past; until = now; happens = takes.1 },
+        )
         | inl after ↦
             let message = sent_in scene history bucket slot lap still.0 in
             elim (change_at scene history step slot) [

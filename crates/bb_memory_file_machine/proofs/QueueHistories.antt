@@ -6,10 +6,10 @@ use Rattle.bb_memory_file_machine.proofs.FileSteps.{holds_at_opening, holds_step
 use Rattle.bb_memory_file_machine.proofs.FileTheorem.{effect_in, received_at}
 use Rattle.bb_memory_file_machine.specs.FileLaws.{Effect, HasReceived, IsFlag, IsHolder, IsPlace, IsSlot}
 use Rattle.bb_memory_file_machine.specs.FileLaws as laws
-use Rattle.bb_memory_file_machine.specs.FileMachine.{Dead, DetachedBy, Done, Empty, FileFlag, FileMove, FileOutcome, FileScene, FileState, FileStep, FileWords, Fill, Free, HeldBy, Message, OnSlot, Outside, Place, Posting, Receives, Refused, Sending, Sends, SentTo, Slot, Take, change_at, change_by, file_after, file_step, left_by, move_at, opening_state, process_of, with_flag, with_slot}
+use Rattle.bb_memory_file_machine.specs.FileMachine.{Dead, DetachedBy, Done, Empty, FileMove, FileOutcome, FileScene, FileState, FileStep, FileWords, Fill, Free, HeldBy, Message, OnSlot, Place, Posting, Receives, Sending, Sends, SentTo, Slot, Take, change_at, change_by, file_after, left_by, move_at, process_of}
 use Rattle.bb_memory_file_machine.specs.FileQueues.{FileQueue, HasHappened, History, IsMoment, Obey, Rules, earlier, now, outcome_after, state_after}
 use Rattle.bb_memory_lists.proofs.SliceGets.{slice_get-set_apart, slice_get-set_same}
-use Rattle.std.proofs.Common.{List, None, Option, Some, [], ap, append-nil, append_assoc, arith, inl, inr, refl, reverse, sym, ℕ, ◌++◌, ◌<◌, ◌∙◌, ◌∷◌, ◌≡◌, ◌≢◌, ◌≤◌}
+use Rattle.std.proofs.Common.{List, None, Option, Some, [], ap, append-nil, append_assoc, inl, inr, refl, reverse, sym, ℕ, ◌++◌, ◌∙◌, ◌∷◌, ◌≡◌}
 use Rattle.std.proofs.lemmas.Bool.{cases_eq}
 use Rattle.std.proofs.lemmas.List.{reverse-append}
 use Rattle.std.specs.Prelude.{slice_get, slice_set, ◌⊎◌}
@@ -198,13 +198,15 @@ module _ (scene : FileScene) where
       elim (sent_before (state_after scene history).words (state_after scene (step ∷ history)).words (process_of step)
       (outcome_after scene history step) bucket slot lap (effect_after history step) is) [
         | inl before ↦
-            let found = sent_since moment history bucket slot lap past unsent before in
-            (found.0, happened scene moment moment history (step ∷ history) (Sends bucket found.0) now found.1
-                (earlier step history now))
+            let found = sent_since moment history bucket slot lap past unsent before in (
+              found.0,
+              happened scene moment moment history (step ∷ history) (Sends bucket found.0) now found.1
+                  (earlier step history now),
+            )
         | inr said ↦ (
-            said.0,
-            record { before = history; step = step; since = past; until = now; happens = said.1 },
-          )
+          said.0,
+          record { before = history; step = step; since = past; until = now; happens = said.1 },
+        )
       ]
 
   pub again_sent : (history moment : History) (step : FileStep) (slot bucket party other lap : ℕ) →
@@ -230,7 +232,7 @@ take_kind words place step move slot bucket party (receives process number at ot
       process,
       lap,
       ap (λ (p : ℕ). Take process p at other lap) parties ∙ ap (λ (s : ℕ). Take process party s other lap) slots
-      ∙ ap (λ (b : ℕ). Take process party slot b lap) buckets,
+          ∙ ap (λ (b : ℕ). Take process party slot b lap) buckets,
       ap (slice_get words.flags) (sym buckets) ∙ is ∙ ap (λ (s : ℕ). Some (SentTo s lap)) slots,
     )
 take_kind words place step move slot bucket party _ said = absurd (cc)

@@ -1,18 +1,15 @@
 -- What holds for a queue after each history in which the steps on its slots obey its rules.
-use Rattle.bb_memory_file_machine.proofs.FileEffects.{one_value}
-use Rattle.bb_memory_file_machine.proofs.QueueCounts.{OneChange, change_at, contained_filter, emptied, fills_grow, filled, kept, order_filter, order_push}
-use Rattle.bb_memory_file_machine.proofs.QueueHistories.{SlotChange, change_after, empties_one, fills_one, keeps}
+use Rattle.bb_memory_file_machine.proofs.QueueCounts.{fills_grow}
 use Rattle.bb_memory_file_machine.proofs.QueueLaps.{Bounds, Fits, due_above, due_at, due_below, fewer_rounds, filled_then, follows_before, round_after, rounds_most}
 use Rattle.bb_memory_file_machine.specs.FileLaws.{IsSlot}
-use Rattle.bb_memory_file_machine.specs.FileMachine.{Done, Empty, FileOutcome, FileStep, FileWords, Fill, Message, OnSlot, Slot}
-use Rattle.bb_memory_file_machine.specs.FileQueues.{AreInOrder, FileQueue, HasSeen, History, IsFilled, IsMoment, IsSlotOf, MayEmpty, MayFill, Obey, Posted, StepObeys, changed_by, counted, earlier, filled_after, filled_by, fills, lap_before, lap_of, messages, next_lap, now, outcome_after, posts, queue_rules, slot_before, slot_of, state_after}
-use Rattle.bb_memory_lists.proofs.ListEntries.{contains-filter, contains-none}
+use Rattle.bb_memory_file_machine.specs.FileMachine.{Empty, Message, Slot}
+use Rattle.bb_memory_file_machine.specs.FileQueues.{AreInOrder, FileQueue, HasSeen, History, IsFilled, IsMoment, IsSlotOf, MayFill, Posted, fills, lap_before, lap_of, messages, posts, slot_before, slot_of, state_after}
+use Rattle.bb_memory_lists.proofs.ListEntries.{contains-none}
 use Rattle.bb_memory_lists.proofs.SliceGets.{slice_get-replicated}
-use Rattle.std.proofs.Common.{Bool, Contains, List, None, Option, Some, [], ap, arith, div-add-mod', false, filter, inl, inr, not, refl, subst, sym, true, ℕ, ◌%◌, ◌*◌, ◌++◌, ◌+◌, ◌-◌, ◌/◌, ◌<◌, ◌∙◌, ◌∷◌, ◌≡◌, ◌≢◌, ◌≤◌}
-use Rattle.std.proofs.lemmas.Bool.{cases_eq, cases_lt, eq-eqb, eqb-false, eqb-true, ne_eqb}
-use Rattle.std.proofs.lemmas.List.Elements.{Contains-append_left, Contains-push, Contains-push_cases}
-use Rattle.std.proofs.lemmas.Nat.{div-mul-add, mod-mul-add, mod_below, same_from_place}
-use Rattle.std.specs.Prelude.{if◌then◌else◌, slice_get, ◌==◌, ◌^◌, ◌⊎◌}
+use Rattle.std.proofs.Common.{Bool, Contains, [], ap, arith, div-add-mod', false, inl, inr, refl, subst, sym, true, ℕ, ◌%◌, ◌*◌, ◌+◌, ◌-◌, ◌/◌, ◌<◌, ◌∙◌, ◌≡◌, ◌≢◌, ◌≤◌}
+use Rattle.std.proofs.lemmas.Bool.{eqb-false, eqb-true}
+use Rattle.std.proofs.lemmas.Nat.{div-mul-add, mod-mul-add, mod_below}
+use Rattle.std.specs.Prelude.{if◌then◌else◌, ◌==◌, ◌^◌, ◌⊎◌}
 
 module _ (queue : FileQueue) (positive : 0 < queue.depth) where
   -- SLOTS
@@ -39,8 +36,8 @@ module _ (queue : FileQueue) (positive : 0 < queue.depth) where
   slot_of_turn slot many ticket its turns =
       let below = mod_below slot queue.depth positive in (
         ap (λ (n : ℕ). queue.number * queue.depth + n % queue.depth) turns
-        ∙ ap (λ (n : ℕ). queue.number * queue.depth + n) (mod-mul-add many queue.depth (slot % queue.depth) below)
-        ∙ slot_parts slot its,
+            ∙ ap (λ (n : ℕ). queue.number * queue.depth + n) (mod-mul-add many queue.depth (slot % queue.depth) below)
+            ∙ slot_parts slot its,
         ap (λ (n : ℕ). n / queue.depth) turns ∙ div-mul-add many queue.depth (slot % queue.depth) below,
       )
 
@@ -87,34 +84,36 @@ module _ (queue : FileQueue) (positive : 0 < queue.depth) where
 
   -- the slots of a queue are filled in turn: by how often one was filled, how often another was
   module _ (history : History) (holds : IsQueue history) (slot other : ℕ) (its : IsSlotOf queue slot) (others : IsSlotOf queue other)
-      where
-    abbrev many : ℕ
-    many = fills queue.scene slot history
+    where
+      abbrev many : ℕ
+      many = fills queue.scene slot history
 
-    abbrev too : ℕ
-    too = fills queue.scene other history
+      abbrev too : ℕ
+      too = fills queue.scene other history
 
-    turn_below : other % queue.depth < slot % queue.depth → (many ≤ too) × (too ≤ many + 1)
-    turn_below less =
-        let most = holds.most slot its in
-        let least = holds.least slot its in
-        let most_too = holds.most other others in
-        let least_too = holds.least other others in
-        let below = mod_below slot queue.depth positive in
-        (fewer_rounds many too queue.depth (omega (arith, round_after too queue.depth, most, least, most_too, least_too, less, below)),
+      turn_below : other % queue.depth < slot % queue.depth → (many ≤ too) × (too ≤ many + 1)
+      turn_below less =
+          let most = holds.most slot its in
+          let least = holds.least slot its in
+          let most_too = holds.most other others in
+          let least_too = holds.least other others in
+          let below = mod_below slot queue.depth positive in (
+            fewer_rounds many too queue.depth (omega (arith, round_after too queue.depth, most, least, most_too, least_too, less, below)),
             fewer_rounds too (many + 1) queue.depth
-            (omega (arith, round_after (many + 1) queue.depth, round_after many queue.depth, most, least, most_too, least_too, less, below)))
+                (omega (arith, round_after (many + 1) queue.depth, round_after many queue.depth, most, least, most_too, least_too, less, below)),
+          )
 
-    turn_above : slot % queue.depth ≤ other % queue.depth → (too ≤ many) × (many ≤ too + 1)
-    turn_above less =
-        let most = holds.most slot its in
-        let least = holds.least slot its in
-        let most_too = holds.most other others in
-        let least_too = holds.least other others in
-        let below = mod_below other queue.depth positive in
-        (fewer_rounds too many queue.depth (omega (arith, round_after many queue.depth, most, least, most_too, least_too, less, below)),
+      turn_above : slot % queue.depth ≤ other % queue.depth → (too ≤ many) × (many ≤ too + 1)
+      turn_above less =
+          let most = holds.most slot its in
+          let least = holds.least slot its in
+          let most_too = holds.most other others in
+          let least_too = holds.least other others in
+          let below = mod_below other queue.depth positive in (
+            fewer_rounds too many queue.depth (omega (arith, round_after many queue.depth, most, least, most_too, least_too, less, below)),
             fewer_rounds many (too + 1) queue.depth
-            (omega (arith, round_after (too + 1) queue.depth, round_after too queue.depth, most, least, most_too, least_too, less, below)))
+                (omega (arith, round_after (too + 1) queue.depth, round_after too queue.depth, most, least, most_too, least_too, less, below)),
+          )
 
   -- of two slots of the queue, the one with the earlier turn comes first
   pub less_in_turn : (slot other : ℕ) → IsSlotOf queue slot → IsSlotOf queue other → other < slot →
@@ -174,62 +173,62 @@ module _ (queue : FileQueue) (positive : 0 < queue.depth) where
 
   module _ (history : History) (holds : IsQueue history) (moments : (moment : History) → IsMoment moment history → IsQueue moment)
       (slot lap : ℕ) (its : IsSlotOf queue slot) (empty : IsSlot (state_after queue.scene history).words slot (Empty lap))
-      where
-    abbrev filled_so : ℕ
-    filled_so = fills queue.scene slot history
+    where
+      abbrev filled_so : ℕ
+      filled_so = fills queue.scene slot history
 
-    lap_is : lap ≡ filled_so % 2 ^ 30
-    lap_is = holds.words slot its (Empty lap) empty
+      lap_is : lap ≡ filled_so % 2 ^ 30
+      lap_is = holds.words slot its (Empty lap) empty
 
-    module _ (before : ℕ) (is_before : IsBefore slot before) (word : Slot) (look : HasSeen queue.scene history before word)
-        (is : IsFilled (lap_before lap slot before) word) where
-      abbrev counted_then : ℕ
-      counted_then = fills queue.scene before look.moment
+      module _ (before : ℕ) (is_before : IsBefore slot before) (word : Slot) (look : HasSeen queue.scene history before word)
+          (is : IsFilled (lap_before lap slot before) word) where
+        abbrev counted_then : ℕ
+        counted_then = fills queue.scene before look.moment
 
-      abbrev counted_now : ℕ
-      counted_now = fills queue.scene before history
+        abbrev counted_now : ℕ
+        counted_now = fills queue.scene before history
 
-      bounds : (due : ℕ) → due ≡ due_at filled_so slot before → counted_now ≤ due + 1 → due ≤ counted_now + 1 →
-          Bounds (lap_before lap slot before) due counted_then counted_now
-      bounds due due_is most least = record {
-        grown = fills_grow queue.scene before look.moment history look.past;
-        recent = look.recent;
-        most = most;
-        least = least;
-        follows = ap (λ (l : ℕ). (lap_before l slot before + 1) % 2 ^ 30) lap_is ∙ follows_before filled_so slot before
-            ∙ ap (λ (n : ℕ). n % 2 ^ 30) (sym due_is);
-      }
+        bounds : (due : ℕ) → due ≡ due_at filled_so slot before → counted_now ≤ due + 1 → due ≤ counted_now + 1 →
+            Bounds (lap_before lap slot before) due counted_then counted_now
+        bounds due due_is most least = record {
+          grown = fills_grow queue.scene before look.moment history look.past;
+          recent = look.recent;
+          most = most;
+          least = least;
+          follows = ap (λ (l : ℕ). (lap_before l slot before + 1) % 2 ^ 30) lap_is ∙ follows_before filled_so slot before
+              ∙ ap (λ (n : ℕ). n % 2 ^ 30) (sym due_is);
+        }
 
-      was_filled : (due : ℕ) → due ≡ due_at filled_so slot before → counted_now ≤ due + 1 → due ≤ counted_now + 1 →
-          due ≤ counted_now
-      was_filled due due_is most least =
-          let b = bounds due due_is most least in
-          let since = filled_then (lap_before lap slot before) due counted_then counted_now b word
-          ((moments look.moment look.past).words before is_before.its word look.seen) is in
-          let grown = b.grown in omega (arith, since, grown)
+        was_filled : (due : ℕ) → due ≡ due_at filled_so slot before → counted_now ≤ due + 1 → due ≤ counted_now + 1 →
+            due ≤ counted_now
+        was_filled due due_is most least =
+            let b = bounds due due_is most least in
+            let since = filled_then (lap_before lap slot before) due counted_then counted_now b word
+            ((moments look.moment look.past).words before is_before.its word look.seen) is in
+            let grown = b.grown in omega (arith, since, grown)
 
-      -- the next ticket is that of the slot
-      next_is : posts queue history ≡ turn slot history
-      next_is =
-          let most = holds.most slot its in
-          let least = holds.least slot its in
-          let most_too = holds.most before is_before.its in
-          let least_too = holds.least before is_before.its in
-          elim is_before.turns [
-            | inl (less, turns) ↦
-                let near = turn_below history holds slot before its is_before.its (omega (arith, turns)) in
-                let due = was_filled (filled_so + 1) (sym (due_below filled_so slot before less)) (omega (arith, near.1))
-                (omega (arith, near.0)) in
-                let rounds = rounds_most (filled_so + 1) counted_now queue.depth due in
-                let after = round_after filled_so queue.depth in
-                omega (arith, most, least, most_too, least_too, turns, rounds, after)
-            | inr (less, zero, turns) ↦
-                let near = turn_above history holds slot before its is_before.its (omega (arith, zero)) in
-                let due = was_filled filled_so (sym (due_above filled_so slot before less)) (omega (arith, near.0))
-                (omega (arith, near.1)) in
-                let rounds = rounds_most filled_so counted_now queue.depth due in
-                omega (arith, most, least, most_too, least_too, turns, zero, rounds)
-          ]
+        -- the next ticket is that of the slot
+        next_is : posts queue history ≡ turn slot history
+        next_is =
+            let most = holds.most slot its in
+            let least = holds.least slot its in
+            let most_too = holds.most before is_before.its in
+            let least_too = holds.least before is_before.its in
+            elim is_before.turns [
+              | inl (less, turns) ↦
+                  let near = turn_below history holds slot before its is_before.its (omega (arith, turns)) in
+                  let due = was_filled (filled_so + 1) (sym (due_below filled_so slot before less)) (omega (arith, near.1))
+                  (omega (arith, near.0)) in
+                  let rounds = rounds_most (filled_so + 1) counted_now queue.depth due in
+                  let after = round_after filled_so queue.depth in
+                  omega (arith, most, least, most_too, least_too, turns, rounds, after)
+              | inr (less, zero, turns) ↦
+                  let near = turn_above history holds slot before its is_before.its (omega (arith, zero)) in
+                  let due = was_filled filled_so (sym (due_above filled_so slot before less)) (omega (arith, near.0))
+                  (omega (arith, near.1)) in
+                  let rounds = rounds_most filled_so counted_now queue.depth due in
+                  omega (arith, most, least, most_too, least_too, turns, zero, rounds)
+            ]
 
-    pub next_ticket : MayFill queue history slot lap → posts queue history ≡ turn slot history
-    next_ticket may = next_is (slot_before queue slot) (before_of slot its) may.word may.look may.filled
+      pub next_ticket : MayFill queue history slot lap → posts queue history ≡ turn slot history
+      next_ticket may = next_is (slot_before queue slot) (before_of slot its) may.word may.look may.filled

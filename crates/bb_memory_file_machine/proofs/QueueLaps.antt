@@ -1,9 +1,8 @@
 -- The laps of a queue's slots and the tickets of its messages, as numbers.
 use Rattle.bb_memory_file_machine.specs.FileMachine.{Empty, Message, Slot}
 use Rattle.bb_memory_file_machine.specs.FileQueues.{IsFilled, IsLater, lap_before, lap_said}
-use Rattle.std.proofs.Common.{Bool, arith, false, inl, inr, refl, true, ℕ, ◌%◌, ◌*◌, ◌+◌, ◌-◌, ◌/◌, ◌<◌, ◌≡◌, ◌≢◌, ◌≤◌, ◌⊎◌}
-use Rattle.std.proofs.lemmas.Bool.{cases_eq, cases_lt, cond_both, le-ltb, lt-ltb}
-use Rattle.std.proofs.lemmas.Nat.{same_from_place}
+use Rattle.std.proofs.Common.{Bool, arith, false, inl, inr, refl, true, ℕ, ◌%◌, ◌*◌, ◌+◌, ◌-◌, ◌<◌, ◌≡◌, ◌≤◌}
+use Rattle.std.proofs.lemmas.Bool.{le-ltb, lt-ltb}
 use Rattle.std.proofs.Math.Nat.{lt_of_mul-lt-mul_right, mul-le-mul_right}
 use Rattle.std.specs.Prelude.{if◌then◌else◌, nat_lt, ◌^◌}
 

@@ -1,19 +1,18 @@
 -- The order in which the messages of a queue are received.
 use Rattle.bb_memory_file_machine.proofs.FileEffects.{one_value}
-use Rattle.bb_memory_file_machine.proofs.FileInvariant.{Holds}
 use Rattle.bb_memory_file_machine.proofs.QueueAlways.{queue_always, queue_moments}
 use Rattle.bb_memory_file_machine.proofs.QueueCounts.{change_at, emptied, filled, fills_grow, kept, order_below, order_least, order_length, posts_grow, same_message, waits_or_received}
 use Rattle.bb_memory_file_machine.proofs.QueueHistories.{cases_moment, dead_after, happened, has_sent, holds_after, is_dead, is_sending, moment_of, posting_of, received_after, sender_after, sent_in, take_of}
-use Rattle.bb_memory_file_machine.proofs.QueueInvariant.{IsListed, IsPlaced, IsQueue, less_in_turn, most_in_turn, next_ticket, same_slot, slot_in_queue, slot_in_turn, slot_of_turn, turn}
-use Rattle.bb_memory_file_machine.proofs.QueueLaps.{Bounds, Fits, due_above, due_at, due_below, fewer_rounds, follows_before, follows_below, message_then, over_then, round_after, rounds_after, rounds_most}
+use Rattle.bb_memory_file_machine.proofs.QueueInvariant.{IsPlaced, IsQueue, less_in_turn, most_in_turn, next_ticket, slot_in_queue, slot_in_turn, slot_of_turn}
+use Rattle.bb_memory_file_machine.proofs.QueueLaps.{Bounds, due_above, due_at, due_below, fewer_rounds, follows_before, follows_below, message_then, over_then, round_after}
 use Rattle.bb_memory_file_machine.proofs.QueueSteps.{may_fill}
-use Rattle.bb_memory_file_machine.specs.FileLaws.{HasReceived, IsFlag, IsPlace, IsSlot}
-use Rattle.bb_memory_file_machine.specs.FileMachine.{Dead, Empty, FileStep, FileWords, Fill, Message, OnSlot, Posting, Receives, Sending, SentTo, Slot, Take}
-use Rattle.bb_memory_file_machine.specs.FileQueues.{AreInOrder, FileQueue, HasHappened, HasSeen, History, IsLater, IsMoment, IsPost, IsReceipt, IsReceived, IsSlotOf, MayFill, MayPass, MayTake, Obey, Posted, StepObeys, Waits, earlier, fills, lap_before, lap_of, lap_said, messages, now, outcome_after, over, posts, queue_rules, slot_of, state_after, unsent}
-use Rattle.std.proofs.Common.{Contains, List, Some, [], ap, arith, div-add-mod', inl, inr, length, lt_of_mul-lt-mul_right, refl, subst, sym, ℕ, ◌%◌, ◌*◌, ◌+◌, ◌-◌, ◌/◌, ◌<◌, ◌∙◌, ◌∷◌, ◌≡◌, ◌≢◌, ◌≤◌}
-use Rattle.std.proofs.lemmas.Bool.{cases_eq, cases_lt, cases_order}
-use Rattle.std.proofs.lemmas.Nat.{div-mul-add, mod-mul-add, mod_below}
-use Rattle.std.specs.Prelude.{slice_get, ◌^◌, ◌⊎◌}
+use Rattle.bb_memory_file_machine.specs.FileLaws.{IsFlag, IsPlace, IsSlot}
+use Rattle.bb_memory_file_machine.specs.FileMachine.{Dead, Empty, FileStep, Fill, Message, OnSlot, Posting, Receives, Sending, SentTo, Take}
+use Rattle.bb_memory_file_machine.specs.FileQueues.{AreInOrder, FileQueue, HasSeen, History, IsMoment, IsPost, IsReceipt, IsReceived, IsSlotOf, MayTake, Obey, Posted, StepObeys, Waits, earlier, fills, lap_before, lap_of, messages, now, outcome_after, over, posts, queue_rules, slot_of, state_after, unsent}
+use Rattle.std.proofs.Common.{Contains, Some, ap, arith, div-add-mod', inl, inr, length, lt_of_mul-lt-mul_right, refl, subst, sym, ℕ, ◌%◌, ◌*◌, ◌+◌, ◌-◌, ◌/◌, ◌<◌, ◌∙◌, ◌∷◌, ◌≡◌, ◌≢◌, ◌≤◌}
+use Rattle.std.proofs.lemmas.Bool.{cases_order}
+use Rattle.std.proofs.lemmas.Nat.{mod_below}
+use Rattle.std.specs.Prelude.{slice_get, ◌^◌}
 
 module _ (queue : FileQueue) (positive : 0 < queue.depth) where
   -- PLACES
@@ -78,13 +77,17 @@ module _ (queue : FileQueue) (positive : 0 < queue.depth) where
       (posted : Posted) × IsReceipt queue history step posted × (posted.bucket ≡ bucket) × (slot_of queue posted.ticket ≡ slot)
   received_always history step slot bucket party obey its said =
       let received = received_after queue.scene history step slot bucket party said in
-      let listed = (queue_always queue positive history obey).listed slot received.lap bucket its received.message in
-      (listed.posted, record {
-        party = party;
-        outcome = said ∙ ap (λ (s : ℕ). Receives s bucket party) (sym listed.its_slot)
-            ∙ ap (λ (b : ℕ). Receives (slot_of queue listed.posted.ticket) b party) (sym listed.its_bucket);
-        listed = listed.there;
-      }, listed.its_bucket, listed.its_slot)
+      let listed = (queue_always queue positive history obey).listed slot received.lap bucket its received.message in (
+        listed.posted,
+        record {
+          party = party;
+          outcome = said ∙ ap (λ (s : ℕ). Receives s bucket party) (sym listed.its_slot)
+              ∙ ap (λ (b : ℕ). Receives (slot_of queue listed.posted.ticket) b party) (sym listed.its_bucket);
+          listed = listed.there;
+        },
+        listed.its_bucket,
+        listed.its_slot,
+      )
 
   -- TAKES
 
@@ -125,10 +128,11 @@ module _ (queue : FileQueue) (positive : 0 < queue.depth) where
           let one = round_after before queue.depth in
           let two = round_after (before + 1) queue.depth in
           let three = round_after (before + 2) queue.depth in
-          let more = round_after many queue.depth in
-          (fewer_rounds (before + 1) many queue.depth (omega (arith, turns, own, parts, most, newer, below, one, two, more)),
-              fewer_rounds many (before + 2) queue.depth
-              (omega (arith, turns, own, parts, least, recent, below, one, two, three)))
+          let more = round_after many queue.depth in (
+            fewer_rounds (before + 1) many queue.depth (omega (arith, turns, own, parts, most, newer, below, one, two, more)),
+            fewer_rounds many (before + 2) queue.depth
+                (omega (arith, turns, own, parts, least, recent, below, one, two, three)),
+          )
 
       pub near_above : slot < other → (before ≤ many) × (many ≤ before + 1)
       near_above less =
@@ -142,10 +146,11 @@ module _ (queue : FileQueue) (positive : 0 < queue.depth) where
           let below = mod_below other queue.depth positive in
           let one = round_after before queue.depth in
           let two = round_after (before + 1) queue.depth in
-          let more = round_after many queue.depth in
-          (fewer_rounds before many queue.depth (omega (arith, turns, own, parts, most, newer, below, one, more)),
-              fewer_rounds many (before + 1) queue.depth
-              (omega (arith, turns, own, parts, least, recent, below, one, two)))
+          let more = round_after many queue.depth in (
+            fewer_rounds before many queue.depth (omega (arith, turns, own, parts, most, newer, below, one, more)),
+            fewer_rounds many (before + 1) queue.depth
+                (omega (arith, turns, own, parts, least, recent, below, one, two)),
+          )
 
       -- what a look at the other slot has found of the lap before
       bounds : (count due : ℕ) → due ≡ due_at before slot other → due ≤ many → many ≤ due + 1 → count ≤ many →
@@ -279,10 +284,10 @@ module _ (queue : FileQueue) (positive : 0 < queue.depth) where
                     elim (waits_or_received queue.scene other (lap_of queue older.ticket) older.bucket moment second
                     (moment_of moment may.look.moment second before_look since_take) waits.sent) [
                       | inr received ↦ (
-                          received.0,
-                          happened queue.scene moment moment second history
-                          (Receives (slot_of queue older.ticket) older.bucket received.0) now received.1 until,
-                        )
+                        received.0,
+                        happened queue.scene moment moment second history
+                            (Receives (slot_of queue older.ticket) older.bucket received.0) now received.1 until,
+                      )
                       | inl waits_still ↦ absurd (not_sent
                           (ap (slice_get (state_after queue.scene second).words.flags) buckets ∙ waits_still.0
                           ∙ ap (λ (l : ℕ). Some (SentTo other l)) (sym found_lap)))
@@ -470,7 +475,7 @@ module _ (queue : FileQueue) (positive : 0 < queue.depth) where
             let received = in_order_always history moment step older younger obey receipt past waits (omega (arith, grown, next)) in (
               received.0,
               happened queue.scene first moment history history
-              (Receives (slot_of queue older.ticket) older.bucket received.0)
-              (moment_of first (post ∷ first) moment (earlier post first now) from) received.1 now,
+                  (Receives (slot_of queue older.ticket) older.bucket received.0)
+                  (moment_of first (post ∷ first) moment (earlier post first now) from) received.1 now,
             )
       ]

@@ -1,19 +1,12 @@
 -- Each step that obeys the rules of a queue keeps what holds for the queue.
-use Rattle.bb_memory_file_machine.proofs.FileEffects.{one_value}
-use Rattle.bb_memory_file_machine.proofs.QueueCounts.{apart_from, contained_filter, counted_none, counted_not, counted_one, filled_no, filled_on, order_filter, order_push, replaced}
-use Rattle.bb_memory_file_machine.proofs.QueueCounts as counts
+use Rattle.bb_memory_file_machine.proofs.QueueCounts.{apart_from, counted_none, counted_not, counted_one, filled_no, filled_on, replaced}
 use Rattle.bb_memory_file_machine.proofs.QueueHistories.{SlotChange, change_after, empties_one, fills_one, keeps}
-use Rattle.bb_memory_file_machine.proofs.QueueInvariant.{IsListed, IsPlaced, IsQueue, at_opening, next_ticket, same_slot, slot_in_queue, slot_parts, turn}
-use Rattle.bb_memory_file_machine.proofs.QueueLaps.{Fits, follows_below, round_after}
-use Rattle.bb_memory_file_machine.specs.FileLaws.{IsHolder, IsSlot}
+use Rattle.bb_memory_file_machine.specs.FileLaws.{IsSlot}
 use Rattle.bb_memory_file_machine.specs.FileMachine.{Done, Empty, FileOutcome, FileStep, FileWords, Fill, Message, OnSlot, Slot}
-use Rattle.bb_memory_file_machine.specs.FileQueues.{AreInOrder, FileQueue, History, IsMoment, IsSlotOf, MayEmpty, MayFill, Obey, Posted, StepObeys, changed_by, changed_in, counted, earlier, filled_after, fills, if_filled, lap_of, messages, next_lap, now, outcome_after, posts, queue_rules, slot_of, state_after}
-use Rattle.bb_memory_lists.proofs.ListEntries.{contains-filter}
-use Rattle.std.proofs.Common.{Bool, Contains, List, None, Option, Some, [], ap, arith, false, filter, inl, inr, not, refl, subst, sym, true, ℕ, ◌%◌, ◌*◌, ◌++◌, ◌+◌, ◌/◌, ◌<◌, ◌∙◌, ◌∷◌, ◌≡◌, ◌≢◌, ◌≤◌}
-use Rattle.std.proofs.lemmas.Bool.{cases_eq, eq-eqb, eqb-true, ne_eqb}
-use Rattle.std.proofs.lemmas.List.Elements.{Contains-append_left, Contains-push, Contains-push_cases}
-use Rattle.std.proofs.lemmas.Nat.{div-mul-add, mod-mul-add, mod_below, same_from_place}
-use Rattle.std.specs.Prelude.{if◌then◌else◌, slice_get, slice_set, ◌==◌, ◌^◌, ◌⊎◌}
+use Rattle.bb_memory_file_machine.specs.FileQueues.{FileQueue, History, IsSlotOf, MayEmpty, MayFill, Posted, StepObeys, changed_by, changed_in, filled_after, fills, messages, outcome_after, posts, queue_rules, slot_of, state_after}
+use Rattle.std.proofs.Common.{Bool, List, None, Option, Some, [], ap, filter, inl, inr, not, refl, subst, sym, ℕ, ◌++◌, ◌+◌, ◌/◌, ◌∙◌, ◌∷◌, ◌≡◌, ◌≢◌}
+use Rattle.std.proofs.lemmas.Bool.{cases_eq, eq-eqb, ne_eqb}
+use Rattle.std.specs.Prelude.{if◌then◌else◌, slice_get, ◌==◌}
 
 -- WHAT A STEP DOES TO A QUEUE
 

@@ -2,7 +2,7 @@
 use Rattle.bb_memory_file_machine.specs.FileLaws.{IsFlag}
 use Rattle.bb_memory_file_machine.specs.FileMachine.{Empty, FileStep, Message, Receives, SentTo}
 use Rattle.bb_memory_file_machine.specs.FileQueues.{FileQueue, HasHappened, HasSeen, History, IsMoment, IsSlotOf, MayFill, MayPass, Obey, Posted, Rules, lap_before, messages, outcome_after, posts, queue_rules, slot_before, state_after}
-use Rattle.std.specs.Prelude.{Contains, List, [], ℕ, ◌<◌, ◌∷◌, ◌≡◌, ◌≢◌, ◌≤◌, ◌⊎◌}
+use Rattle.std.specs.Prelude.{Contains, [], ℕ, ◌<◌, ◌∷◌, ◌≡◌, ◌≢◌, ◌≤◌, ◌⊎◌}
 
 -- POSTS
 

@@ -1,6 +1,5 @@
 use Rattle.bb_memory_file_machine.proofs.QueueChances.{is_full, may_post, take_now}
 use Rattle.bb_memory_file_machine.proofs.QueueHistories.{again_sent, history_of}
-use Rattle.bb_memory_file_machine.proofs.QueueInvariant.{next_ticket}
 use Rattle.bb_memory_file_machine.proofs.QueueOrder.{held_always, in_order_always, in_slot_always, looked_always, numbered_always, one_sender_always, ordered_always, received_always, shorter_always}
 use Rattle.bb_memory_file_machine.proofs.QueueSingles.{one_slot_obeys}
 use Rattle.bb_memory_file_machine.proofs.order.queue_order_law.Goals as goal
