@@ -94,7 +94,7 @@ received_by state place step slot bucket party holds there kind said =
         }
     received_kind state place step move slot bucket party holds _ said words = absurd (cc)
 
-received_at : (state : FileState) (step : FileStep) (slot bucket party : ℕ) (found : Option Place) →
+pub received_at : (state : FileState) (step : FileStep) (slot bucket party : ℕ) (found : Option Place) →
     slice_get state.places (process_of step) ≡ found → Holds state →
     (change_at state step found).outcome ≡ Receives slot bucket party → HasReceived state step slot bucket party
 received_at state step slot bucket party None is holds said = absurd (cc)

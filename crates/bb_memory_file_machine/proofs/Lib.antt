@@ -10,3 +10,13 @@ pub mod FileSteps
 pub mod FileTakers
 pub mod FileTests
 pub mod FileTheorem
+pub mod QueueAlways
+pub mod QueueChances
+pub mod QueueCounterexamples
+pub mod QueueCounts
+pub mod QueueHistories
+pub mod QueueInvariant
+pub mod QueueLaps
+pub mod QueueOrder
+pub mod QueueSingles
+pub mod QueueSteps

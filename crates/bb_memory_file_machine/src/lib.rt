@@ -2,4 +2,5 @@
 //! file, one atomic step at a time, with a kill at any step.
 #![tactic(auto)]
 
+pub mod order;
 pub mod steps;
