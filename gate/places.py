@@ -185,8 +185,6 @@ PLACES = (
                 "attach_number": 2,
                 "return_number": 3,
                 "held_at": 2,
-                "is_held": 1,
-                "is_out": 1,
             },
             C
             + "shared_pool": {

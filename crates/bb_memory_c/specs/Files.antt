@@ -272,10 +272,11 @@ TellsFreed file told after =
     (told ≡ figure_of told.number) × Becomes (λ old new. GivesAllBack log_of old told.number new) file after
 
 -- The party gives back what it caches, and caches at most `most` buckets from then on, or as many as the
--- file has if there are fewer. If memory for their list runs out, nothing changes.
+-- file has if there are fewer. If memory for their list runs out, nothing changes. With 0 there is no list.
 pub record TellsCache (file : JoinedFile) (most code : ℕ) (after : JoinedFile) : Type 0 where
   pub done : code ≡ ok → Becomes (λ old new. Caches {E = ⊥} log_of old most (Ok tt) new) file after
   pub else_memory : code ≢ ok → (code ≡ malloc_refused) × (after ≡ file)
+  pub none : most ≡ 0 → code ≡ ok
 
 -- the party gives back what it caches
 abbrev pub TellsFlush : JoinedFile → ℕ → JoinedFile → Type 0

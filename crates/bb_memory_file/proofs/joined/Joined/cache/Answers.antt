@@ -5,8 +5,8 @@ use Rattle.bb_memory_file.specs.FileNotes.{AreCached, Flushes, JoinedParty}
 use Rattle.std.proofs.Common.{List, ap, arith, rules, subst, sym, ℕ, ◌∙◌, ◌≡◌}
 use Rattle.std.specs.Prelude.{if◌then◌else◌, nat_lt}
 
-pub returns : goal.returns
-returns g c =
+pub returns-clause-caches : goal.returns-clause-caches
+returns-clause-caches g c =
     let old = c.args.self.now in
     let all = (g.W.Words.log old.words).scene.buckets in
     let same : c.buckets-buckets.result ≡ all =
