@@ -102,9 +102,6 @@ pub(crate) struct Hand {
     pub(crate) seat: Seat<u8, Record>,
 }
 
-/// Nobody operates by a shared hand.
-unsafe impl Sync for Hand {}
-
 impl RecordedWords {
     /// Makes words that begin as these.
     pub(crate) fn new(alloc: Global, words: &Vec<u64>) -> Result<RecordedWords, AllocError>

@@ -15,7 +15,8 @@ use std::alloc::{AllocError, Global};
 use std::marker::Model;
 use std::sync::Arc;
 
-/// The words of a file, which its parties share, and the looks at them from here.
+/// The words of a file, which its parties share, and the looks at them from here. Threads that share the
+/// words have a party each: a table may go to another thread, but only one thread at a time has it.
 #[derive(Drop)]
 pub struct FileTable {
     words: Arc<RecordedWords, Global>,

@@ -109,9 +109,6 @@ fn count(party: &mut FileParty) -> u64 {
     life
 }
 
-/// Takes a value that several threads may use at the same time.
-fn share<T: Send + Sync>(_value: &T) {}
-
 /// Takes a value that may go to another thread.
 fn send<T: Send>(_value: &T) {}
 
@@ -347,6 +344,6 @@ fn a_party_has_its_own_life(rt: HostRuntime) {
 #[test]
 fn threads_share_the_words(rt: HostRuntime) {
     let table = made(&rt, [0; 10]);
-    share(&table);
+    send(&table);
     send(&party(&rt, &table, 0));
 }
