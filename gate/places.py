@@ -66,7 +66,7 @@ PATH = re.compile(r"(?<![\w:])(?:::\s*)?((?:std|core|alloc|atomic_table|thiserro
 # The functions that may be called in the crates that threads share, besides the libraries' own.
 CALLED = frozenset(
     """
-    close_with compare_exchange copied fill filter from_elem from_raw get
+    close_with compare_exchange copied fill filter from_elem from_raw from_slice get
     into_raw_with_allocator is_none is_some iter_mut join_seat load_new_seat map map_err matches min
     null_mut of_words ok ok_or peek pop push_reserved replace rev saturating_sub split_seat store
     swap truncate try_clone unwrap with_capacity wrapping_sub
@@ -151,7 +151,7 @@ PLACES = (
                 "store": 1,
             },
             FILE + "party_words": {"load": 4, "exchange": 2, "store": 4},
-            FILE + "table": {"load": 5},
+            FILE + "table": {"load": 4},
             C + "shared_pool": {"swap": 1},
         },
     ),
@@ -185,8 +185,6 @@ PLACES = (
                 "attach_number": 2,
                 "return_number": 3,
                 "held_at": 2,
-                "is_held": 1,
-                "is_out": 1,
             },
             C
             + "shared_pool": {

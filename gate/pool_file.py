@@ -8,14 +8,14 @@ refused by the program that its file names:
     # function: bb_pool_file_look
     # refused by: kills pause 499
     file: bb_pool_file.c
-    old: if (load_slot(file, slot) == word)
-    new: if (word != 0)
+    old: if (!is_same_slot(file_slot(&file->table, slot), found))
+    new: if (!found.is_full)
 
 Each such command first runs with the unmodified code, and has to pass (gate/verdicts.py). If the
 function isn't exported, a line `# call: FUNCTION` names each exported one that the change breaks.
 
-Last, gate/pool_traces.py compares the code with the proved machine. A mutant that no program
-refuses is `refused by: machine`.
+Last, gate/pool_traces.py compares the compiled code with the proved machine. A mutant that no
+program refuses is `refused by: machine`.
 """
 
 import os
@@ -249,7 +249,7 @@ class PoolFile:
             for name in ("producer", "consumer"):
                 source: list[str | Path] = ["-x", "c++", examples / f"{name}.c", "-x", "none"]
                 output = self.work / f"{name}.c++"
-                self.compile(["-std=c++11", *FLAGS, "-o", output, *source, library], "c++")
+                self.compile(["-std=c++20", *FLAGS, "-o", output, *source, library], "c++")
             programs.append(Program([self.work / "producer.c++"], [self.work / "consumer.c++"]))
             output = self.work / "messages.c++"
             self.compile(

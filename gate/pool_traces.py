@@ -1,11 +1,12 @@
-"""Compares bb_pool_file.c with the proved machine of a pool in a file, at every word and lock.
+"""Compares the compiled code of pools in files with the proved machine, at every word and lock.
 
+That code is the library, which is compiled from the proofs, and the C files that take the locks.
 `trace` (crates/bb_memory_c/tests/pool_file/trace.c) steps processes through their calls, and writes
 each change of a flag, an entry, a slot, a life or a lock. `file_replay` lets the machine take the
 same steps, or says at which line it can't. The machine has to accept each trace of the code. Among
-these are all traces that judge mutants, which are their controls (gate/verdicts.py). The machine
-has to refuse a trace of each mutant, unless the mutant says why it takes no step that the code
-doesn't take:
+these are all traces that judge mutants of the C files, which are their controls (gate/verdicts.py).
+The machine has to refuse a trace of each mutant, unless the mutant says why it takes no step that
+the code doesn't take:
 
     # no step: a wake changes only the words of events
 """
@@ -120,7 +121,7 @@ class Traces:
         if few:
             raise Failed(f"trace: fewer than {LEAST} instructions of: {' '.join(few)}")
         say(
-            f"bb_pool_file.c: {steps.total()} instructions of {len(steps)} calls take the steps of "
+            f"pools in files: {steps.total()} instructions of {len(steps)} calls take the steps of "
             "the machine"
         )
         return controls

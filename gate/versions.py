@@ -17,6 +17,13 @@ COPIES = {
         r'(^\[project\]\nname = .*\nversion = ")(.*)(")', re.M
     ),
 }
+# The same for the major number, with which CMake looks for the library.
+MAJORS = {
+    "crates/bb_memory_c/README.md": re.compile(
+        r"(\bfind_package\(bb_memory |\bNo version )(\d+)(\.0 REQUIRED\)|\.x removes )"
+    ),
+    "examples/c/CMakeLists.txt": re.compile(r"(\bfind_package\(bb_memory )(\d+)(\.0 CONFIG )"),
+}
 # The same for the name of a release file, which a page may have.
 RELEASE = re.compile(r"(\bbb_memory-|libbb_memory\.so\.)(\d+\.\d+\.\d+)()")
 # What follows the newest version in its heading: the day of the release.
@@ -58,6 +65,8 @@ def copies(texts: Mapping[str, str]) -> Iterator[tuple[str, re.Pattern[str], str
         yield HEADER, re.compile(rf"(^#define BB_VERSION_{name} )(\d+)($)", re.M), number
     for file, pattern in COPIES.items():
         yield file, pattern, version
+    for file, pattern in MAJORS.items():
+        yield file, pattern, version.partition(".")[0]
     for page in pages(texts):
         yield page, RELEASE, version
 

@@ -13,7 +13,7 @@ use std::process::Command;
 const NATIVE_FOLDERS: [&str; 3] = ["/usr/local/lib", "/usr/lib", "/usr/lib64"];
 
 /// The ABI of this crate's declarations: `BB_ABI` of the header.
-const ABI: &str = "6";
+const ABI: &str = "7";
 
 fn main() {
     for name in ["BB_MEMORY_LIB_DIR", "BB_MEMORY_LINK", "PKG_CONFIG_PATH", "DOCS_RS"] {

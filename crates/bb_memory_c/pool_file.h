@@ -90,7 +90,8 @@ struct bb_file_party {
     // The party of this process's table, or an empty handle if it hasn't joined. It is the first
     // member, since the calls that the library exports for a `bb_file_party` use it as the handle.
     struct file_party party;
-    bb_pool_file *file;
+    // The event of the file's free buckets.
+    struct event *freed;
     // Keeps what different parties write on separate cache lines.
     char gap[LINE];
 };

@@ -410,7 +410,8 @@ uint32_t bb_pool_file_close(bb_pool_file *file) {
     if (*at != NULL)
         *at = file->next;
     for (uint32_t number = 0; number < file->head.parties; number++)
-        bb_pool_file_leave(file, &file->parties[number]);
+        if (file->mine[number])
+            bb_pool_file_leave(file, &file->parties[number]);
     const bool is_dropped = drop(file);
     unlock_all();
     return is_dropped ? BB_OK : BB_FILE_SYSTEM;

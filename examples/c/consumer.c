@@ -5,7 +5,13 @@
 
 #include "bb_pool_file.h"
 
-static const bb_pool_file_options OPTIONS = {256, 64, 1000, 16, 8, 0600, 0};
+static const bb_pool_file_options OPTIONS = {.bucket_size = 256,
+                                             .bucket_align = 64,
+                                             .buckets = 1000,
+                                             .parties = 16,
+                                             .slots = 8,
+                                             .mode = 0600,
+                                             .user_bytes = 0};
 
 // Receives the message in the slot, if there is one that no other consumer has taken.
 static uint32_t receive(bb_pool_file *file, bb_file_party *mine, uint32_t slot) {

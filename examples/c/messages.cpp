@@ -7,7 +7,18 @@
 
 #include "bb_pool_file.hpp"
 
-static const bb_pool_file_options options = {256, 64, 1000, 16, 8, 0600, 0};
+// The sizes of the file, as in producer.c.
+static bb_pool_file_options sizes() {
+    bb_pool_file_options sizes{};
+    sizes.bucket_size = 256;
+    sizes.bucket_align = 64;
+    sizes.buckets = 1000;
+    sizes.parties = 16;
+    sizes.slots = 8;
+    return sizes;
+}
+
+static const bb_pool_file_options options = sizes();
 
 // Posts the text. Waits for an empty slot and a free bucket. Frees what dead processes hold if a
 // wait times out.

@@ -8,7 +8,13 @@
 #include "bb_pool_file.h"
 
 // Buckets of 256 bytes at multiples of 64: 1,000 of them, for 16 parties, with 8 slots.
-static const bb_pool_file_options OPTIONS = {256, 64, 1000, 16, 8, 0600, 0};
+static const bb_pool_file_options OPTIONS = {.bucket_size = 256,
+                                             .bucket_align = 64,
+                                             .buckets = 1000,
+                                             .parties = 16,
+                                             .slots = 8,
+                                             .mode = 0600,
+                                             .user_bytes = 0};
 
 // Frees what dead processes hold if a wait timed out. Returns the code of the reap, or of the wait.
 static uint32_t reap_if_timed_out(bb_pool_file *file, uint32_t waited) {

@@ -137,6 +137,8 @@ TEXTS = {
     "crates/high/must-fail/counts_one.edit": EDIT,
     "crates/high/must-fail/gives_nothing.edit": OTHER_EDIT,
     "crates/bb_memory_c/bb_memory.h": HEADER,
+    "crates/bb_memory_c/README.md": "# C\n\n    find_package(bb_memory 1.0 REQUIRED)\n",
+    "examples/c/CMakeLists.txt": "find_package(bb_memory 1.0 CONFIG REQUIRED)\n",
     "bindings/rust/Cargo.toml": '[package]\nname = "bb_memory"\nversion = "1.2.3"\n',
     "bindings/rust/Cargo.lock": '[[package]]\nname = "bb_memory"\nversion = "1.2.3"\n',
     "bindings/python/pyproject.toml": '[project]\nname = "bb_memory"\nversion = "1.2.3"\n',

@@ -115,6 +115,10 @@ class Faults(unittest.TestCase):
         changes = changed("bindings/rust/Cargo.toml", "1.2.3", "1.2.4")
         self.finds(changes, "bindings/rust/Cargo.toml: version 1.2.4, not 1.2.3")
 
+    def test_version_that_cmake_looks_for(self) -> None:
+        changes = changed("examples/c/CMakeLists.txt", "1.0", "2.0")
+        self.finds(changes, "examples/c/CMakeLists.txt: version 2, not 1")
+
     def test_version_of_the_header(self) -> None:
         found = found_in(changed("crates/bb_memory_c/bb_memory.h", '"1.2.3"', '"1.3.0"'))
         self.assertIn("bindings/rust/Cargo.lock: version 1.2.3, not 1.3.0", "\n".join(found))

@@ -1,6 +1,7 @@
 """Tests of gate/pool_file.py."""
 
 import io
+import re
 import shutil
 import tempfile
 import unittest
@@ -16,6 +17,19 @@ from gate.process import Failed
 
 CRATE = TOP / pool_file.CRATE
 MUTANTS = sorted((CRATE / "tests/pool_file/mutants").glob("*.mutant"))
+# The functions of the C files that have no mutant, and the reason for each.
+WITHOUT_MUTANT = {
+    "pause_shortly": "it changes nothing but the time that a spin takes",
+    "pool_file_open_to_look": "only bb-pool calls it: the crate's `check` looks as another user",
+}
+# A function in C, with its name.
+DEFINED = re.compile(r"^\w[\w ]*[ *](\w+)\([^;{}]*\) \{$.*?^\}$", re.M | re.S)
+
+
+def functions() -> dict[str, str]:
+    """Returns the text of each function of the C files, by its name."""
+    texts = [(CRATE / source).read_text(encoding="utf-8") for source in pool_file.SOURCES]
+    return {found[1]: found[0] for text in texts for found in DEFINED.finditer(text)}
 
 
 class Mutants(unittest.TestCase):
@@ -36,6 +50,19 @@ class Mutants(unittest.TestCase):
                 edit = edits.parse_edit(file, text)
                 changed = edits.apply(edit, lambda name: (CRATE / name).read_text("utf-8"))
                 self.assertLessEqual(changed.keys(), set(pool_file.SOURCES))
+
+    def test_each_changes_the_function_that_it_names(self) -> None:
+        texts = functions()
+        for file in MUTANTS:
+            with self.subTest(file.name):
+                edit = edits.read_edit(file)
+                self.assertIn(edit.changes[0].old, texts[edit.function])
+
+    def test_each_function_has_one(self) -> None:
+        on_other_pages = (CRATE / "tests/pool_file/pages").glob("*.mutant")
+        changed = {edits.read_edit(file).function for file in (*MUTANTS, *on_other_pages)}
+        without = functions().keys() - changed
+        self.assertEqual(without, WITHOUT_MUTANT.keys())
 
 
 class Folders(unittest.TestCase):

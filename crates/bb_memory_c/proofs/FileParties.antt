@@ -1,22 +1,20 @@
 -- Parties of files: their calls leave as many buckets as there are, and take buckets that are there.
 use Rattle.bb_memory_c.specs.Files.{HoldsPlace, JoinedFile}
 use Rattle.bb_memory_file.proofs.FileCaches.{last_cached}
-use Rattle.bb_memory_file.specs.FileCalls.{Gets, Makes}
+use Rattle.bb_memory_file.specs.FileCalls.{Makes}
 use Rattle.bb_memory_file.specs.FileLog.{FileLog}
-use Rattle.bb_memory_file.specs.FileNotes.{Allocates, AreCached, Attaches, Caches, Deallocates, Detaches, Flushes, GivesAllBack, IsDoneWith, JoinedParty, Joins, MissesFirst, Posts, Returns, Searches, Takes}
+use Rattle.bb_memory_file.specs.FileNotes.{Allocates, AreCached, Attaches, Deallocates, Detaches, GivesAllBack, IsDoneWith, JoinedParty, Posts, Returns, Searches, Takes}
 use Rattle.bb_memory_file.specs.FileParties.{log_of}
-use Rattle.bb_memory_file.specs.declared.joined.Note.{Note}
 use Rattle.bb_memory_file.specs.declared.joined.Refusal.{Refusal}
 use Rattle.bb_memory_file.specs.declared.joined.Taken.{Taken}
 use Rattle.bb_memory_file.specs.declared.joined.Taken.TheVariants as taken
 use Rattle.bb_memory_file.specs.declared.party.FileParty.{FileParty}
 use Rattle.bb_memory_file_machine.specs.declared.steps.file.FileStep.{FileStep}
-use Rattle.bb_memory_pool_machine.specs.declared.hint.Hint.{Hint}
 use Rattle.bb_memory_traits.specs.Geometry.{IsPlaceOfBucket}
-use Rattle.std.proofs.Common.{Bool, Err, List, None, Ok, Option, Result, Some, [], ap, arith, false, inl, inr, length, refl, subst, sym, true, ℕ, ◌++◌, ◌<◌, ◌∙◌, ◌∷◌, ◌≡◌, ◌⊎◌}
+use Rattle.std.proofs.Common.{Bool, Err, List, None, Ok, Option, Result, Some, [], ap, arith, false, inl, inr, length, refl, true, ℕ, ◌++◌, ◌<◌, ◌∷◌, ◌≡◌, ◌⊎◌}
 use Rattle.std.proofs.lemmas.Bool.{cases_lt}
 use Rattle.std.proofs.lemmas.Option.{slice_get_within}
-use Rattle.std.specs.Prelude.{IfNone, slice_get}
+use Rattle.std.specs.Prelude.{IfNone}
 
 abbrev Party : Type 0
 Party = JoinedParty FileParty
@@ -43,8 +41,8 @@ ends (x ∷ xs) = inr (elim (ends xs) [
 -- SAME BUCKETS
 
 searched-same : (old : Party) (answer : Option ℕ) (new : Party) → Searches log_of old answer new → buckets_of new ≡ buckets_of old
-searched-same old None new did = ap (λ (l : FileLog). l.scene.buckets) did.0.1
-searched-same old (Some bucket) new did = ap (λ (l : FileLog). l.scene.buckets) did.0.1
+searched-same old None new did = ap (λ (l : FileLog). l.scene.buckets) did.0.0
+searched-same old (Some bucket) new did = ap (λ (l : FileLog). l.scene.buckets) did.0.0
 
 pub allocated-same : (old : Party) (answer : Option ℕ) (new : Party) → Allocates log_of old answer new →
     buckets_of new ≡ buckets_of old
@@ -57,16 +55,13 @@ allocated-same old answer new did = elim (ends old.cached) [
 pub allocated-below : (old : Party) (bucket : ℕ) (new : Party) → AreCached old.notes old.cached →
     length old.notes ≡ buckets_of old → Allocates log_of old (Some bucket) new → bucket < buckets_of old
 allocated-below old bucket new are long did = elim (ends old.cached) [
-  | inl none ↦ let said = (did.searched none).0 in said.4
+  | inl none ↦ let said = (did.searched none).0 in said.2
   | inr last ↦
       let its : Some bucket ≡ Some last.1 = (did.cached last.0 last.1 last.2).0 in
       let noted = last_cached old.notes old.cached last.0 last.1 are last.2 in
       let same : bucket ≡ last.1 = cc in
       omega (arith, same, long, slice_get_within old.notes last.1 _ noted)
 ]
-
-pub missed-same : (old new : Party) → MissesFirst log_of old new → buckets_of new ≡ buckets_of old
-missed-same old new did = ap (λ (l : FileLog). l.scene.buckets) did.begun
 
 pub returned-same : (old : Party) (bucket : ℕ) (new : Party) → Returns log_of old bucket new → buckets_of new ≡ buckets_of old
 returned-same old bucket new did = elim (cases_lt (length old.cached) old.most) [
@@ -78,9 +73,6 @@ pub deallocated-same : (old : Party) (bucket : ℕ) (told : Result (Unit {0}) Re
     Deallocates log_of old bucket told new → buckets_of new ≡ buckets_of old
 deallocated-same old bucket (Ok done) new did = returned-same old bucket new did.1
 deallocated-same old bucket (Err refusal) new did = ap (λ (p : Party). buckets_of p) did.1
-
-pub flushed-same : (old new : Party) → Flushes log_of old new → buckets_of new ≡ buckets_of old
-flushed-same old new did = ap (λ (l : FileLog). l.scene.buckets) did.gets
 
 pub detached-same : (old : Party) (bucket : ℕ) (told : Result (Option ℕ) Refusal) (new : Party) → Detaches log_of old bucket told new →
     buckets_of new ≡ buckets_of old
@@ -132,10 +124,6 @@ done-same old slot false new did = ap (λ (l : FileLog). l.scene.buckets) did.1
 
 pub given-same : (old : Party) (freed : ℕ) (new : Party) → GivesAllBack log_of old freed new → buckets_of new ≡ buckets_of old
 given-same old freed new did = ap (λ (l : FileLog). l.scene.buckets) (did.0 0).gets
-
-pub joined-same : (words : FileParty) (hint : Hint) (joined : Party) → Joins log_of words hint (Ok joined) →
-    buckets_of joined ≡ (log_of words).scene.buckets
-joined-same words hint joined did = let settled = (did.0 0).4 in ap (λ (l : FileLog). l.scene.buckets) settled.gets
 
 -- PLACES
 

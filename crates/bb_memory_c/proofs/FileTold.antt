@@ -57,8 +57,10 @@ module _ (file : JoinedFile) (place number : ℕ) (below : number < length file.
       TellsDeallocate file place ok (record file { party = after })
   freed after did = record {
     not_held = (λ wrong. absurd (omega (arith, wrong)), λ none. absurd (none (inl (is-there InUse did.0))));
-    not_done = (λ wrong. absurd (omega (arith, wrong)),
-        λ undone. absurd (other-note InUse Undone did.0 (λ e. cc) undone));
+    not_done = (
+      λ wrong. absurd (omega (arith, wrong)),
+      λ undone. absurd (other-note InUse Undone did.0 (λ e. cc) undone),
+    );
     freed = (λ _. is-there InUse did.0, λ _. refl);
     gone = λ _. (number, (did.0, there), (did.1, refl));
     unchanged = λ not. absurd (not refl);
@@ -130,10 +132,13 @@ module _ (file : JoinedFile) (place number : ℕ) (below : number < length file.
   pub not-detached : (after : JoinedParty FileParty) → Detaches log_of file.party number (Err NotHeld) after →
       TellsDetach file place (none_detached not_held) (record file { party = after })
   not-detached after did = record {
-    not_held = λ _. (refl, elim did.1 [
-      | inl other ↦ ap (λ (p : JoinedParty FileParty). record file { party = p }) other.1
-      | inr undone ↦ absurd (subst (λ n. IsRefusal n NotHeld) undone.0 did.0)
-    ]);
+    not_held = λ _. (
+      refl,
+      elim did.1 [
+        | inl other ↦ ap (λ (p : JoinedParty FileParty). record file { party = p }) other.1
+        | inr undone ↦ absurd (subst (λ n. IsRefusal n NotHeld) undone.0 did.0)
+      ],
+    );
     detached = λ free. absurd (subst (λ n. IsRefusal n NotHeld) (note-at InUse free) did.0);
     undone = λ undone. absurd (subst (λ n. IsRefusal n NotHeld) (note-at Undone undone) did.0);
   }
@@ -158,14 +163,20 @@ module _ (file : JoinedFile) (slot place len : ℕ) (slots : slot < slots_of fil
       → (code ≡ file_not_done → IsNotedAt file place Undone) → TellsPost file slot place len code file
   post-refused code none idle busy = record {
     no_slot = λ past. absurd (omega (arith, past, slots));
-    not_held = λ _ free. (elim (cases_eq code file_not_done) [
-      | inl same ↦ absurd (free (inr (busy same)))
-      | inr apart ↦ (idle apart).0
-    ], refl);
-    not_done = λ _ undone. (elim (cases_eq code file_not_done) [
-      | inl same ↦ same
-      | inr apart ↦ absurd ((idle apart).1 (inr undone))
-    ], refl);
+    not_held = λ _ free. (
+      elim (cases_eq code file_not_done) [
+        | inl same ↦ absurd (free (inr (busy same)))
+        | inr apart ↦ (idle apart).0
+      ],
+      refl,
+    );
+    not_done = λ _ undone. (
+      elim (cases_eq code file_not_done) [
+        | inl same ↦ same
+        | inr apart ↦ absurd ((idle apart).1 (inr undone))
+      ],
+      refl,
+    );
     too_large = λ may. absurd (none may.1);
     tried = λ may. absurd (none may.1);
   }

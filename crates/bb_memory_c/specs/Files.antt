@@ -10,13 +10,14 @@ use Rattle.bb_memory_c_calls.specs.Calls.{Answers, Cutting, HasRoom, IsThere, Ma
 use Rattle.bb_memory_c_calls.specs.declared.answer.Answer.{Answer}
 use Rattle.bb_memory_c_calls.specs.declared.answer.Figure.{Figure}
 use Rattle.bb_memory_c_calls.specs.declared.answer.SharedPoolInfo.{SharedPoolInfo}
-use Rattle.bb_memory_c_calls.specs.declared.code.TheConstants.{ALREADY_INITIALIZED as already_initialized, DETACHED_EMPTY as detached_empty, DETACHED_FULL as detached_full, FILE_NOT_DONE as file_not_done, INVALID_ARGUMENT as invalid_argument, MALLOC_REFUSED as malloc_refused, NOT_A_BUCKET as not_a_bucket, NOT_HELD as not_held, NO_PARTY as no_party, OK as ok, SIZE_TOO_LARGE as size_too_large, UNINITIALIZED as uninitialized}
-use Rattle.bb_memory_file.specs.FileCalls.{IsJoin, IsLeave}
+use Rattle.bb_memory_c_calls.specs.declared.code.TheConstants.{ALREADY_INITIALIZED as already_initialized, DETACHED_EMPTY as detached_empty, DETACHED_FULL as detached_full, FILE_NOT_DONE as file_not_done, INVALID_ARGUMENT as invalid_argument, MALLOC_REFUSED as malloc_refused, NOT_A_BUCKET as not_a_bucket, NOT_HELD as not_held, NO_PARTY as no_party, OK as ok, PARTIES_JOINED as parties_joined, SIZE_TOO_LARGE as size_too_large, UNINITIALIZED as uninitialized}
+use Rattle.bb_memory_file.specs.FileCalls.{IsJoin, IsLeave, IsOver}
 use Rattle.bb_memory_file.specs.FileFormat.{entry_at, entry_in, flag_at, flag_in, geometry_of, life_at, slot_at, slot_in, words_of}
 use Rattle.bb_memory_file.specs.FileLog.{FileLog, fresh_log}
 use Rattle.bb_memory_file.specs.FileNotes.{Allocates, Attaches, Caches, Detaches, Flushes, GivesAllBack, IsDoneWith, JoinedParty, Joins, JoinsNot, MissesFirst, Posts, Reaps, Returns, Takes, used_in}
 use Rattle.bb_memory_file.specs.FileParties.{IsUnlocked, log_of, scene_of}
 use Rattle.bb_memory_file.specs.FileTables.{FileTable, HasLoaded}
+use Rattle.bb_memory_file.specs.Recorded.{beginning_of}
 use Rattle.bb_memory_file.specs.declared.joined.Note.{Note}
 use Rattle.bb_memory_file.specs.declared.joined.Note.TheVariants.{InUse, Undone}
 use Rattle.bb_memory_file.specs.declared.joined.Refusal.{Refusal}
@@ -37,7 +38,7 @@ use Rattle.bb_memory_traits.specs.PoolObject.{HasBucket, IsWithin, PoolGeometry,
 use Rattle.bb_memory_traits.specs.declared.allocator.AllocationError.{AllocationError}
 use Rattle.bb_memory_traits.specs.declared.allocator.AllocationError.TheVariants.{AlignmentFailure, OutOfMemory, SizeTooLarge}
 use Rattle.bb_memory_traits.specs.declared.layout.Layout.{Layout}
-use Rattle.std.specs.Prelude.{Bool, Err, IfSome, None, Ok, Option, Result, Some, false, if◌then◌else◌, min, slice_get, true, ℕ, ◌-◌, ◌<◌, ◌^◌, ◌↔◌, ◌≡◌, ◌≢◌, ◌≤◌, ◌⊎◌}
+use Rattle.std.specs.Prelude.{Bool, Err, IfSome, None, Ok, Option, Result, Some, [], false, if◌then◌else◌, min, replicate, slice_get, true, ℕ, ◌-◌, ◌<◌, ◌^◌, ◌↔◌, ◌≡◌, ◌≢◌, ◌≤◌, ◌⊎◌}
 
 -- VALUES
 
@@ -51,7 +52,7 @@ pub record OpenFile : Type 0 where
   pub table : FileTable
   pub places : PoolGeometry
 
--- this process has as many buckets as the file
+-- the geometry has as many buckets as the party's file
 abbrev pub IsPlaced : JoinedParty FileParty → PoolGeometry → Type 0
 IsPlaced party places = places.buckets ≡ (log_of party.words).scene.buckets
 
@@ -70,15 +71,18 @@ pub record IsOpen (table : FileTable) (region : Region) (bucket : Layout) : Type
 abbrev pub MayHave : ℕ → ℕ → Type 0
 MayHave buckets slots = (buckets < 2 ^ 32 - 1) × (slots < 2 ^ 32 - 1)
 
--- C gets how many words the row of a file has, or BB_INVALID_ARGUMENT if no file has these numbers.
+-- C gets how many words the row of a file has, or BB_INVALID_ARGUMENT if no file has that many buckets
+-- or slots.
 pub record TellsWords (buckets slots parties : ℕ) (told : Figure) : Type 0 where
   pub there : MayHave buckets slots → told ≡ figure_of (words_of (geometry_of buckets slots parties))
   pub none : ¬ MayHave buckets slots → told ≡ no_figure invalid_argument
 
--- the words of a file with these numbers, whose buckets are in the region
+-- the words of a file with these numbers, which begin as zeros, and whose buckets are in the region
 pub record IsFileOver (region : Region) (buckets slots parties : ℕ) (bucket : Layout) (file : OpenFile) : Type 0 where
   pub geometry : file.table.geometry ≡ geometry_of buckets slots parties
+  pub looks : file.table.looks ≡ []
   pub places : file.places ≡ pool_geometry region bucket buckets
+  pub beginning : beginning_of file.table.words ≡ replicate (words_of file.table.geometry) 0
 
 -- how the words of a file with these numbers, whose buckets are in the region, describe their
 -- initialization
@@ -113,13 +117,20 @@ abbrev pub GivesUp : FileLog → Type 0
 GivesUp log = JoinsNot IsUnlocked log ⊎ ((joined : FileLog) × ((process : ℕ) → IsJoin process log true joined)
     × ((freed : ℕ) × LeavesFrom joined freed))
 
--- A party joins as this number, whose lock the caller has just taken. Its handle holds `party` then. If
--- there is no such number, C gets BB_NO_PARTY.
+-- nobody can join as this number: the file has no such party, or the number's life was just found to be
+-- over
+abbrev pub HasNoParty : OpenFile → ℕ → Type 0
+HasNoParty file number =
+    (file.table.geometry.parties ≤ number) ⊎ ((after : FileLog) × IsOver (fresh_of file number) after)
+
+-- A party joins as this number, whose lock the caller has just taken. Its handle holds `party` then. C
+-- gets BB_PARTIES_JOINED if no more parties can be counted: nothing was done to the file.
 pub record TellsJoin (file : OpenFile) (party : Option JoinedFile) (number code : ℕ) : Type 0 where
   pub joins : code ≡ ok → IsThere (JoinsAt file number) party
   pub none_such : file.table.geometry.parties ≤ number → code ≡ no_party
+  pub over : code ≡ no_party → HasNoParty file number
   pub no_memory : code ≡ malloc_refused → GivesUp (fresh_of file number)
-  pub no_other : code ≢ ok → code ≢ no_party → code ≡ malloc_refused
+  pub no_other : code ≢ ok → code ≢ no_party → code ≢ malloc_refused → code ≡ parties_joined
   pub empty : code ≢ ok → party ≡ None
 
 -- a party joins; its handle has to be empty
@@ -135,19 +146,23 @@ pub record AnswersLeave (old new : Option JoinedFile) (told : Figure) : Type 0 w
   pub was_empty : old ≡ None → told ≡ no_figure uninitialized
   pub empty : new ≡ None
 
--- A number is settled, whose lock the caller has just taken, and C gets how many buckets were freed. If
--- there is no such number, C gets BB_NO_PARTY.
+-- A number is settled, whose lock the caller has just taken, and C gets how many buckets were freed. C
+-- gets BB_PARTIES_JOINED if no more parties can be counted: nothing was done to the file.
 pub record TellsReap (file : OpenFile) (number : ℕ) (dead left : Bool) (told : Figure) : Type 0 where
-  pub reaped : told.code ≡ ok → (told ≡ figure_of told.number) × ((words : FileParty)
-      × (log_of words ≡ fresh_of file number) × Reaps log_of IsUnlocked words dead left (Ok told.number))
-  pub none_such : file.table.geometry.parties ≤ number → told ≡ no_figure no_party
-  pub no_other : told.code ≢ ok → told ≡ no_figure no_party
+  pub reaped : told.code ≡ ok → (words : FileParty)
+      × (log_of words ≡ fresh_of file number) × Reaps log_of IsUnlocked words dead left (Ok told.number)
+  pub none_such : file.table.geometry.parties ≤ number → told.code ≡ no_party
+  pub over : told.code ≡ no_party → HasNoParty file number
+  pub no_other : told.code ≢ ok → told.code ≢ no_party → told.code ≡ parties_joined
+  pub frees_none : told.code ≢ ok → told.number ≡ 0
 
 -- LOOKS
 
--- a look at the words of a file, which don't change
-abbrev pub AnswersLook : Option OpenFile → Option OpenFile → Type 0 → (OpenFile → Type 0) → Type 0
-AnswersLook old new refused_so tells = Answers old new refused_so (λ file after. tells file × (after ≡ file))
+-- A load of this word of the file has found this. The handle's file has one more look than before, and
+-- is otherwise what it was.
+abbrev pub HasLooked : OpenFile → ℕ → ℕ → OpenFile → Type 0
+HasLooked file word found after =
+    HasLoaded file.table word found after.table × (after ≡ record file { table = after.table })
 
 -- a bucket's flag in the form that C gets it
 abbrev pub shown_flag : FileFlag → ShownFlag
@@ -167,29 +182,29 @@ shown_entry Nowhere = record { is_in_slot = false; slot = 0; length = 0 }
 shown_entry (In slot length) = record { is_in_slot = true; slot = slot; length = length }
 
 -- C gets the flag of the bucket of this number, as a load found it, or that it is free if there is none.
-pub record TellsFlag (file : OpenFile) (bucket : ℕ) (told : ShownFlag) : Type 0 where
+pub record TellsFlag (file : OpenFile) (bucket : ℕ) (told : ShownFlag) (after : OpenFile) : Type 0 where
   pub there : bucket < file.table.geometry.buckets → (word : ℕ)
-      × HasLoaded file.table (flag_at file.table.geometry bucket) word × (told ≡ shown_flag (flag_in word))
-  pub past : file.table.geometry.buckets ≤ bucket → told ≡ shown_flag Free
+      × HasLooked file (flag_at file.table.geometry bucket) word after × (told ≡ shown_flag (flag_in word))
+  pub past : file.table.geometry.buckets ≤ bucket → (told ≡ shown_flag Free) × (after ≡ file)
 
 -- C gets the word of this slot, as a load found it, or that it is empty if there is none.
-pub record TellsSlot (file : OpenFile) (slot : ℕ) (told : ShownSlot) : Type 0 where
+pub record TellsSlot (file : OpenFile) (slot : ℕ) (told : ShownSlot) (after : OpenFile) : Type 0 where
   pub there : slot < file.table.geometry.slots → (word : ℕ)
-      × HasLoaded file.table (slot_at file.table.geometry slot) word × (told ≡ shown_slot (slot_in word))
-  pub past : file.table.geometry.slots ≤ slot → told ≡ shown_slot (slots.Empty 0)
+      × HasLooked file (slot_at file.table.geometry slot) word after × (told ≡ shown_slot (slot_in word))
+  pub past : file.table.geometry.slots ≤ slot → (told ≡ shown_slot (slots.Empty 0)) × (after ≡ file)
 
 -- C gets the entry of the bucket of this number, as a load found it, or that it is in no slot if there
 -- is none.
-pub record TellsEntry (file : OpenFile) (bucket : ℕ) (told : ShownEntry) : Type 0 where
+pub record TellsEntry (file : OpenFile) (bucket : ℕ) (told : ShownEntry) (after : OpenFile) : Type 0 where
   pub there : bucket < file.table.geometry.buckets → (word : ℕ)
-      × HasLoaded file.table (entry_at file.table.geometry bucket) word
+      × HasLooked file (entry_at file.table.geometry bucket) word after
       × (told ≡ shown_entry (entry_in file.table.geometry.slots word))
-  pub past : file.table.geometry.buckets ≤ bucket → told ≡ shown_entry Nowhere
+  pub past : file.table.geometry.buckets ≤ bucket → (told ≡ shown_entry Nowhere) × (after ≡ file)
 
 -- C gets the life of the party of this number, as a load found it, or 0 if there is none.
-pub record TellsLife (file : OpenFile) (party told : ℕ) : Type 0 where
-  pub there : party < file.table.geometry.parties → HasLoaded file.table (life_at file.table.geometry party) told
-  pub past : file.table.geometry.parties ≤ party → told ≡ 0
+pub record TellsLife (file : OpenFile) (party told : ℕ) (after : OpenFile) : Type 0 where
+  pub there : party < file.table.geometry.parties → HasLooked file (life_at file.table.geometry party) told after
+  pub past : file.table.geometry.parties ≤ party → (told ≡ 0) × (after ≡ file)
 
 -- BUCKETS OF A PARTY
 
@@ -257,10 +272,11 @@ TellsFreed file told after =
     (told ≡ figure_of told.number) × Becomes (λ old new. GivesAllBack log_of old told.number new) file after
 
 -- The party gives back what it caches, and caches at most `most` buckets from then on, or as many as the
--- file has if there are fewer. If memory for their list runs out, nothing changes.
+-- file has if there are fewer. If memory for their list runs out, nothing changes. With 0 there is no list.
 pub record TellsCache (file : JoinedFile) (most code : ℕ) (after : JoinedFile) : Type 0 where
   pub done : code ≡ ok → Becomes (λ old new. Caches {E = ⊥} log_of old most (Ok tt) new) file after
   pub else_memory : code ≢ ok → (code ≡ malloc_refused) × (after ≡ file)
+  pub none : most ≡ 0 → code ≡ ok
 
 -- the party gives back what it caches
 abbrev pub TellsFlush : JoinedFile → ℕ → JoinedFile → Type 0

@@ -107,19 +107,6 @@ impl JoinedPool {
         Answer::of(Ok(bucket.chunk()))
     }
 
-    /// Has the party no longer count the bucket of this number as in use, unless the bucket's flag says that the party holds it. If
-    /// only parties write the flags, it says so, and nothing changes.
-    fn forget_sent(&mut self, number: u32)
-        ensures { self.new ≡ self.old }
-    {
-        if number >= self.pool.number_of_buckets() || !self.is_out(number) {
-            return;
-        }
-        if !self.party.is_held(&*self.pool, number) {
-            note(&mut self.in_use, number, false);
-        }
-    }
-
     /// Gives back the bucket of this number, if the party of number `from` has detached it by its number.
     fn return_number(&mut self, number: u32, from: u32) -> u32
         ensures { TellsReturnNumber self.old number from result self.new }
@@ -305,18 +292,6 @@ pub extern "C" fn bb_pool_party_attach_number(
     match handle.made_mut() {
         Some(joined) => joined.attach_number(number, from),
         None => Answer::refusal(code::UNINITIALIZED),
-    }
-}
-
-/// Has a party that caches no longer count the bucket of this number as in use, unless the bucket's flag says that the party holds
-/// it. `bb_pool_file.c` writes flags by itself, and calls this after that. If only parties write the flags, nothing changes. The call
-/// takes no memory, and waits for nothing.
-#[unsafe(no_mangle)]
-pub extern "C" fn party_forget_sent(handle: &mut PoolPartyHandle, number: u32)
-    ensures { Answers handle.old.value handle.new.value (Unit {0}) (λ party after. after ≡ party) }
-{
-    if let Some(joined) = handle.made_mut() {
-        joined.forget_sent(number);
     }
 }
 

@@ -1,6 +1,6 @@
 //! Pools in files: the exported functions of a party of a file, and of the words that the parties share. Those whose names begin
 //! with `file_` are hidden, and `bb_pool_file.c` calls them, which keeps the file, its locks and those who wait.
-ghost use Rattle.bb_memory_c.specs.Files.{AnswersJoin, AnswersLeave, AnswersLook, GivesBack, GivesChunk, HoldsPlace, MayFree, ShowsParty, TellsAttach, TellsCache, TellsDeallocate, TellsDetach, TellsDone, TellsEntry, TellsFlag, TellsFlush, TellsFreed, TellsLife, TellsMessage, TellsPost, TellsReap, TellsSlot, TellsWords, cutting_file, no_message, none_detached, number_of, shown_entry, shown_flag, shown_slot};
+ghost use Rattle.bb_memory_c.specs.Files.{AnswersJoin, AnswersLeave, GivesBack, GivesChunk, HoldsPlace, MayFree, ShowsParty, TellsAttach, TellsCache, TellsDeallocate, TellsDetach, TellsDone, TellsEntry, TellsFlag, TellsFlush, TellsFreed, TellsLife, TellsMessage, TellsPost, TellsReap, TellsSlot, TellsWords, cutting_file, no_message, none_detached, number_of, shown_entry, shown_flag, shown_slot};
 ghost use Rattle.bb_memory_c_calls.specs.Answers.{figure_of, no_figure, refused};
 ghost use Rattle.bb_memory_c_calls.specs.Calls.{Answers, AnswersFree, AnswersInfo, AnswersNumber, AnswersPlace, AnswersPoolMake, AnswersRequest, AnswersReturns, AnswersTake, AnswersTakings, AnswersWhether};
 ghost use Rattle.bb_memory_c_calls.specs.declared.code.TheConstants.{UNINITIALIZED as uninitialized};
@@ -20,8 +20,8 @@ use bb_memory_file::table::FileTable;
 use bb_memory_file_machine::steps::{Entry, FileFlag, Slot};
 use std::alloc::Global;
 
-/// Returns how many words the row of a file with these numbers of buckets, slots and parties has. If no file has such numbers, it
-/// returns `BB_INVALID_ARGUMENT`.
+/// Returns how many words the row of a file with these numbers of buckets, slots and parties has. If no file has that many buckets or
+/// slots, it returns `BB_INVALID_ARGUMENT`.
 #[unsafe(no_mangle)]
 pub extern "C" fn file_words(buckets: u32, slots: u32, parties: u32) -> Figure
     ensures { TellsWords buckets slots parties result }
@@ -53,7 +53,15 @@ pub extern "C" fn file_table_init(
     if call::is_made(handle) {
         return code::ALREADY_INITIALIZED;
     }
-    let cut = cut_file(bucket_size, bucket_align, start, size, buckets, slots, parties);
+    let cut = cut_file(
+        bucket_size,
+        bucket_align,
+        start,
+        size,
+        buckets,
+        slots,
+        parties,
+    );
     let (bucket, geometry) = match cut {
         Ok(cut) => cut,
         Err(code) => return code,
@@ -79,8 +87,8 @@ pub extern "C" fn file_table_abandon(alloc: Global, handle: &mut FileTableHandle
 }
 
 /// Joins as this number, whose lock the caller has just taken, in a handle that has to be empty. If memory runs out, it returns
-/// `BB_MALLOC_REFUSED`, and the caller frees the lock right after. It returns `BB_NO_PARTY` if there is no such number, if the
-/// number's life can't become greater, or if no more parties can be counted: then the caller keeps the lock.
+/// `BB_MALLOC_REFUSED`, and the caller frees the lock right after. It returns `BB_NO_PARTY` if there is no such number or if the
+/// number's life can't become greater, and `BB_PARTIES_JOINED` if no more parties can be counted: then the caller keeps the lock.
 #[unsafe(no_mangle)]
 pub extern "C" fn file_party_join(
     alloc: Global,
@@ -118,7 +126,7 @@ pub extern "C" fn file_party_leave(alloc: Global, handle: &mut FilePartyHandle) 
 
 /// Settles this number, whose lock the caller has just taken and frees right after. If whoever had the number was killed and `dead`
 /// is true, or has left and `left` is true, the call also frees what it has detached. Returns how many buckets were freed. It
-/// returns `BB_NO_PARTY` as `file_party_join` does: then the caller keeps the lock.
+/// returns `BB_NO_PARTY` and `BB_PARTIES_JOINED` as `file_party_join` does: then the caller keeps the lock.
 #[unsafe(no_mangle)]
 pub extern "C" fn file_reap(
     handle: &mut FileTableHandle,
@@ -126,8 +134,8 @@ pub extern "C" fn file_reap(
     dead: bool,
     left: bool,
 ) -> Figure
-    ensures { AnswersLook handle.old.value handle.new.value (result ≡ no_figure uninitialized)
-        (λ file. TellsReap file number dead left result) }
+    ensures { Answers handle.old.value handle.new.value (result ≡ no_figure uninitialized)
+        (λ file after. TellsReap file number dead left result × (after ≡ file)) }
 {
     match handle.made_mut() {
         Some(file) => file.reap(number, dead, left),
@@ -251,8 +259,8 @@ pub extern "C" fn file_attach(handle: &mut FilePartyHandle, number: u32) -> Answ
 /// meanwhile.
 #[unsafe(no_mangle)]
 pub extern "C" fn file_flag(handle: &mut FileTableHandle, bucket: u32) -> ShownFlag
-    ensures { AnswersLook handle.old.value handle.new.value (result ≡ shown_flag Free)
-        (λ file. TellsFlag file bucket result) }
+    ensures { Answers handle.old.value handle.new.value (result ≡ shown_flag Free)
+        (λ file after. TellsFlag file bucket result after) }
 {
     match handle.made_mut() {
         Some(file) => file.flag(bucket),
@@ -263,8 +271,8 @@ pub extern "C" fn file_flag(handle: &mut FileTableHandle, bucket: u32) -> ShownF
 /// Returns the word of this slot, as one load found it. If there is no such slot, it is empty. Others may call meanwhile.
 #[unsafe(no_mangle)]
 pub extern "C" fn file_slot(handle: &mut FileTableHandle, slot: u32) -> ShownSlot
-    ensures { AnswersLook handle.old.value handle.new.value (result ≡ shown_slot (Empty 0))
-        (λ file. TellsSlot file slot result) }
+    ensures { Answers handle.old.value handle.new.value (result ≡ shown_slot (Empty 0))
+        (λ file after. TellsSlot file slot result after) }
 {
     match handle.made_mut() {
         Some(file) => file.slot(slot),
@@ -276,8 +284,8 @@ pub extern "C" fn file_slot(handle: &mut FileTableHandle, slot: u32) -> ShownSlo
 /// call meanwhile.
 #[unsafe(no_mangle)]
 pub extern "C" fn file_entry(handle: &mut FileTableHandle, bucket: u32) -> ShownEntry
-    ensures { AnswersLook handle.old.value handle.new.value (result ≡ shown_entry Nowhere)
-        (λ file. TellsEntry file bucket result) }
+    ensures { Answers handle.old.value handle.new.value (result ≡ shown_entry Nowhere)
+        (λ file after. TellsEntry file bucket result after) }
 {
     match handle.made_mut() {
         Some(file) => file.entry(bucket),
@@ -289,8 +297,8 @@ pub extern "C" fn file_entry(handle: &mut FileTableHandle, bucket: u32) -> Shown
 /// meanwhile.
 #[unsafe(no_mangle)]
 pub extern "C" fn file_life(handle: &mut FileTableHandle, party: u32) -> u64
-    ensures { AnswersLook handle.old.value handle.new.value (result ≡ 0)
-        (λ file. TellsLife file party result) }
+    ensures { Answers handle.old.value handle.new.value (result ≡ 0)
+        (λ file after. TellsLife file party result after) }
 {
     match handle.made_mut() {
         Some(file) => file.life(party),

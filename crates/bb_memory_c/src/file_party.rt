@@ -1,7 +1,7 @@
 //! A party of a file, and the words that the parties share, as kinds.
-ghost use Rattle.bb_memory_c.specs.Files.{Becomes, GivesBack, GivesChunk, GivesUp, HoldsPlace, IsNoted, IsNotedAt, IsOpen, IsPlaced, JoinedFile, JoinsAt, LeavesFrom, MayFree, MissesFirstAt, OpenFile, ShowsParty, TellsAttach, TellsCache, TellsDeallocate, TellsDetach, TellsDone, TellsEntry, TellsFlag, TellsJoin, TellsLife, TellsMessage, TellsPost, TellsReap, TellsSlot, code_of, cutting_file, fresh_of, number_of};
+ghost use Rattle.bb_memory_c.specs.Files.{Becomes, GivesBack, GivesChunk, GivesUp, HasNoParty, HoldsPlace, IsNoted, IsNotedAt, IsOpen, IsPlaced, JoinedFile, JoinsAt, LeavesFrom, MayFree, MissesFirstAt, OpenFile, ShowsParty, TellsAttach, TellsCache, TellsDeallocate, TellsDetach, TellsDone, TellsEntry, TellsFlag, TellsJoin, TellsLife, TellsMessage, TellsPost, TellsReap, TellsSlot, code_of, cutting_file, fresh_of, number_of};
 ghost use Rattle.bb_memory_c_calls.specs.Calls.{FailsOf, IsOf, LacksRoomOf};
-ghost use Rattle.bb_memory_c_calls.specs.declared.code.TheConstants.{FILE_NOT_DONE as file_not_done, INVALID_ARGUMENT as invalid_argument, INVALID_LAYOUT as invalid_layout, MALLOC_REFUSED as malloc_refused, NOT_HELD as not_held, NO_BUCKET as no_bucket, NO_PARTY as no_party};
+ghost use Rattle.bb_memory_c_calls.specs.declared.code.TheConstants.{FILE_NOT_DONE as file_not_done, INVALID_ARGUMENT as invalid_argument, INVALID_LAYOUT as invalid_layout, MALLOC_REFUSED as malloc_refused, NOT_HELD as not_held, NO_BUCKET as no_bucket, NO_PARTY as no_party, OK as ok, PARTIES_JOINED as parties_joined};
 ghost use Rattle.bb_memory_file.specs.FileFormat.{IsGeometry, geometry_of, words_of};
 ghost use Rattle.bb_memory_file.specs.FileNotes.{AreCached, Flushes, GivesAllBack};
 ghost use Rattle.bb_memory_file.specs.FileParties.{log_of};
@@ -399,29 +399,41 @@ impl OpenFile {
         Geometry::cut_at_most(self.bucket, self.start, self.size, buckets)
     }
 
-    /// Makes a party of this number, whose log is empty, if there is one.
-    fn party(&self, number: u32) -> Option<FileParty>
-        ensures fresh { IfSome result (λ party. log_of party ≡ fresh_of self.now number) }
-        ensures past { self.now.table.geometry.parties ≤ number → result ≡ None }
+    /// Makes a party of this number, whose log is empty. Returns `BB_NO_PARTY` if there is no such number, and `BB_PARTIES_JOINED` if
+    /// no more parties can be counted.
+    fn party(&self, number: u32) -> Result<FileParty, u32>
+        ensures fresh { IfOk result (λ party. log_of party ≡ fresh_of self.now number) }
+        ensures none_such { (result ≡ Err no_party) ↔ (self.now.table.geometry.parties ≤ number) }
+        ensures no_other { IfErr result (λ code. code ≢ no_party → code ≡ parties_joined) }
     {
         if number >= self.table.geometry().parties {
-            return None;
+            return Err(code::NO_PARTY);
         }
-        self.table.party(number)
+        match self.table.party(number) {
+            Some(party) => Ok(party),
+            None => Err(code::PARTIES_JOINED),
+        }
     }
 
     /// Joins as this number, whose lock the caller has just taken.
     pub(crate) fn join(&self, alloc: Global, number: u32) -> Result<Box<JoinedFile>, u32>
         ensures joins { IfOk result (λ joined. JoinsAt self.now number joined.value) }
         ensures none_such { self.now.table.geometry.parties ≤ number → result ≡ Err no_party }
+        ensures over { result ≡ Err no_party → HasNoParty self.now number }
         ensures no_memory { result ≡ Err malloc_refused → GivesUp (fresh_of self.now number) }
-        ensures no_other { IfErr result (λ code. code ≢ no_party → code ≡ malloc_refused) }
+        ensures no_other { IfErr result (λ code. code ≢ no_party → code ≢ malloc_refused → code ≡ parties_joined) }
     {
-        let Some(words) = self.party(number) else {
-            return Err(code::NO_PARTY);
+        let words = match self.party(number) {
+            Ok(words) => words,
+            Err(code) => return Err(code),
         };
         let geometry = self.table.geometry();
-        let hint = Hint::first(geometry.buckets, geometry.parties, self.bucket.size(), number);
+        let hint = Hint::first(
+            geometry.buckets,
+            geometry.parties,
+            self.bucket.size(),
+            number,
+        );
         let party = match Joined::join(words, alloc, hint) {
             Ok(Ok(party)) => party,
             Ok(Err(_)) => return Err(code::NO_PARTY),
@@ -445,8 +457,9 @@ impl OpenFile {
     pub(crate) fn reap(&self, number: u32, dead: bool, left: bool) -> Figure
         ensures { TellsReap self.now number dead left result }
     {
-        let Some(words) = self.party(number) else {
-            return Figure::refusal(code::NO_PARTY);
+        let words = match self.party(number) {
+            Ok(words) => words,
+            Err(code) => return Figure::refusal(code),
         };
         match joined::reap(words, dead, left) {
             Ok(freed) => Figure::of(freed as usize),
@@ -455,8 +468,8 @@ impl OpenFile {
     }
 
     /// Loads the flag of the bucket of this number. If there is none, it is free.
-    pub(crate) fn flag(&self, bucket: u32) -> ShownFlag
-        ensures { TellsFlag self.now bucket result }
+    pub(crate) fn flag(&mut self, bucket: u32) -> ShownFlag
+        ensures { TellsFlag self.old bucket result self.new }
     {
         if bucket >= self.table.geometry().buckets {
             return ShownFlag::of(FileFlag::Free);
@@ -465,8 +478,8 @@ impl OpenFile {
     }
 
     /// Loads the word of this slot. If there is none, it is empty.
-    pub(crate) fn slot(&self, slot: u32) -> ShownSlot
-        ensures { TellsSlot self.now slot result }
+    pub(crate) fn slot(&mut self, slot: u32) -> ShownSlot
+        ensures { TellsSlot self.old slot result self.new }
     {
         if slot >= self.table.geometry().slots {
             return ShownSlot::of(Slot::Empty { lap: 0 });
@@ -475,8 +488,8 @@ impl OpenFile {
     }
 
     /// Loads the entry of the bucket of this number. If there is none, it is in no slot.
-    pub(crate) fn entry(&self, bucket: u32) -> ShownEntry
-        ensures { TellsEntry self.now bucket result }
+    pub(crate) fn entry(&mut self, bucket: u32) -> ShownEntry
+        ensures { TellsEntry self.old bucket result self.new }
     {
         if bucket >= self.table.geometry().buckets {
             return ShownEntry::of(Entry::Nowhere);
@@ -485,8 +498,8 @@ impl OpenFile {
     }
 
     /// Loads the life of the party of this number. If there is none, it is 0.
-    pub(crate) fn life(&self, party: u32) -> u64
-        ensures { TellsLife self.now party result }
+    pub(crate) fn life(&mut self, party: u32) -> u64
+        ensures { TellsLife self.old party result self.new }
     {
         if party >= self.table.geometry().parties {
             return 0;

@@ -86,11 +86,12 @@ cached_less notes cached before last note are is apart =
         | inr new ↦ absurd (apart new.1)
       ];
     }
-      where
-        end_of : (other : ℕ) (note' : Note) → last ≡ other → Some Cached ≡ slice_get (slice_set notes last note) other → note ≢ Cached → ⊥
-        end_of other note' same there apart' = apart' (same_some note Cached
-            (sym (slice_get-set_same notes last note Cached (last_cached notes cached before last are is))
-            ∙ ap (slice_get (slice_set notes last note)) same ∙ sym there))
+  where
+    end_of : (other : ℕ) (note' : Note) → last ≡ other → Some Cached ≡ slice_get (slice_set notes last note) other →
+        note ≢ Cached → ⊥
+    end_of other note' same there apart' = apart' (same_some note Cached
+        (sym (slice_get-set_same notes last note Cached (last_cached notes cached before last are is))
+        ∙ ap (slice_get (slice_set notes last note)) same ∙ sym there))
 
 -- a bucket gets a note while none is cached
 pub cached_still_none : (notes : List Note) (cached : List ℕ) (bucket : ℕ) (note : Note) → AreCached notes cached → cached ≡ [] →

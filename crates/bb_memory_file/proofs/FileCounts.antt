@@ -1,6 +1,6 @@
 -- How many buckets a party has in use, by its notes.
 use Rattle.bb_memory_file.specs.FileNotes.{Cached, InUse, Note, Undone, Unheld, is_used, used_in}
-use Rattle.std.proofs.Common.{Bool, List, None, Some, [], add_assoc, ap, arith, false, inl, inr, length, refl, subst, suc, sym, take, true, zero, ℕ, ◌+◌, ◌∙◌, ◌∷◌, ◌≡◌, ◌≤◌}
+use Rattle.std.proofs.Common.{Bool, List, Some, [], add_assoc, ap, arith, false, inl, inr, length, refl, subst, suc, sym, take, true, zero, ℕ, ◌+◌, ◌∙◌, ◌∷◌, ◌≡◌, ◌≤◌}
 use Rattle.std.proofs.lemmas.List.{length-take-le, take_all}
 use Rattle.std.specs.Prelude.{if◌then◌else◌, slice_get, ◌⊎◌}
 

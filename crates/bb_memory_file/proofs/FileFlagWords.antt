@@ -36,7 +36,8 @@ word_by found from false false true false false e1 e2 e3 e4 has same = absurd (n
 -- a word that says the flag is the flag's word
 pub word_of_flag : (found : ℕ) (from : FileFlag) → HasFlagWord from → flag_in found ≡ from → found ≡ flag_word from
 word_of_flag found from has same =
-    word_by found from (found == 0) (found % 4 == 3) (nat_lt (found / 4) (2 ^ 32)) (found % 4 == 1) (found % 4 == 2) refl refl refl refl
+    word_by found from (found == 0) (found % 4 == 3) (nat_lt (found / 4) (2 ^ 32)) (found % 4 == 1)
+    (found % 4 == 2) refl refl refl refl
     has same
 
 -- the flag's word says the flag

@@ -45,7 +45,8 @@ module _ {W : Type 0} (log : W → FileLog) (old : JoinedParty W) where
         makes = λ process. walk_on process (log old.words) (log middle.words) (log new.words) Outside Outside Outside
             (map (λ bucket. Deallocate process (log old.words).party bucket) gone)
             (Deallocate process (log old.words).party last ∷ []) (before.makes process)
-            (subst (λ (p : ℕ). Makes process (log middle.words) (Deallocate process p last ∷ []) (log new.words)) mine (gives process).0);
+            (subst (λ (p : ℕ). Makes process (log middle.words) (Deallocate process p last ∷ []) (log new.words)) mine
+            (gives process).0);
         parts = before.parts ∙ ap (λ (xs : List ℕ). xs ++ gone) is ∙ append_assoc rest (last ∷ []) gone
             ∙ ap (λ (xs : List ℕ). xs ++ last ∷ gone) (sym (ap (λ (p : JoinedParty W). p.cached) party));
         party = party ∙ (λ i. record {

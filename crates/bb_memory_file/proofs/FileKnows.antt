@@ -171,7 +171,8 @@ module _ (words : FileWords) (party bucket : ℕ) (sound : Sound words) where
       (if same then (if same_flag to (HeldBy party) then taken_from from else Unknown) else known)
   after_exchange other from to known true e is so =
       let at : other ≡ bucket = eqb-true other bucket e in
-      subst (λ (b : ℕ). IsKnown (with_flag words b to) party bucket (if same_flag to (HeldBy party) then taken_from from else Unknown))
+      subst (λ (b : ℕ). IsKnown (with_flag words b to) party bucket
+      (if same_flag to (HeldBy party) then taken_from from else Unknown))
       (sym at)
       (known_exchanged from to (same_flag to (HeldBy party)) refl (ap (slice_get words.flags) (sym at) ∙ is))
   after_exchange other from to known false e is so = known_apart other to known (eqb-false other bucket e) so

@@ -1,7 +1,7 @@
 -- The walks of calls on messages.
 use Rattle.bb_memory_file.proofs.FileSteps.{clears, empties, fills, gives_up, posts, puts_back, sends, takes}
 use Rattle.bb_memory_file.proofs.FileWalks.{walk_look, walk_on, walk_step}
-use Rattle.bb_memory_file.specs.FileCalls.{Gets, IsAt, IsFound, IsPost, IsPutBack, IsReceive, Makes, Whereabouts, is_fit, length_in, unseen}
+use Rattle.bb_memory_file.specs.FileCalls.{Gets, IsAt, IsFound, IsLookedUp, IsPost, IsPutBack, IsReceive, Makes, Whereabouts, is_fit, length_in, unseen}
 use Rattle.bb_memory_file.specs.FileCalls.received as received
 use Rattle.bb_memory_file.specs.FileCalls.whereabouts as whereabouts
 use Rattle.bb_memory_file.specs.FileCode.{EmptySlot, ExchangeFlag, ExchangeSlot, FileLog, Has, HasNot, Holds, Known, LoadEntry, LoadSlot, MissFlag, MissSlot, Path, Seen, StoreEntry, StoreFlag, Unknown, Unseen, begins, known_of, looks, steps, told}
@@ -19,7 +19,8 @@ abbrev pub seen_of : Known → Seen
 seen_of Unknown = Unseen
 seen_of (Holds entry seen) = seen
 
-pub held_entry : (known : Known) (entry : Entry) → is_held known ≡ true → with_entry known entry ≡ Holds (Some entry) (seen_of known)
+pub held_entry : (known : Known) (entry : Entry) → is_held known ≡ true →
+    with_entry known entry ≡ Holds (Some entry) (seen_of known)
 held_entry Unknown entry held = absurd (cc)
 held_entry (Holds old seen) entry held = refl
 
@@ -171,7 +172,8 @@ module _ (process : ℕ) (old : FileLog) (slot bucket size : ℕ) where
     filled = told entered (ExchangeSlot slot (Empty lap) (Message lap bucket))
 
     pub posted : (one two three new : FileLog) → one ≡ seen → two ≡ told one (StoreEntry bucket (In slot size)) →
-        three ≡ told two (ExchangeSlot slot (Empty lap) (Message lap bucket)) → new ≡ told three (StoreFlag bucket (SentTo slot lap)) →
+        three ≡ told two (ExchangeSlot slot (Empty lap) (Message lap bucket)) →
+        new ≡ told three (StoreFlag bucket (SentTo slot lap)) →
         IsPost process old slot bucket size true new
     posted one two three new e1 e2 e3 e4 =
         subst (λ log. IsPost process old slot bucket size true log)
@@ -180,7 +182,8 @@ module _ (process : ℕ) (old : FileLog) (slot bucket size : ℕ) where
         (e2 ∙ ap (λ log. told log (StoreEntry bucket (In slot size))) e1)))) (
           lap,
           record {
-            path = steps filled (Fill process lap ∷ Post process old.party slot bucket size ∷ []) (Sending old.party slot bucket lap)
+            path = steps filled (Fill process lap ∷ Post process old.party slot bucket size ∷ [])
+                (Sending old.party slot bucket lap)
                 (StoreFlag bucket (SentTo slot lap)) (Next process) Outside
                 (steps entered (Post process old.party slot bucket size ∷ []) (Posting old.party slot bucket)
                 (ExchangeSlot slot (Empty lap) (Message lap bucket)) (Fill process lap) (Sending old.party slot bucket lap)
@@ -205,7 +208,8 @@ module _ (process : ℕ) (old : FileLog) (slot bucket lap : ℕ) (known : IsKnow
         record {
           path = steps (told old (EmptySlot slot to)) (Done process old.party slot bucket to ∷ []) (Clearing old.party bucket)
               (StoreEntry bucket Nowhere) (Next process) Outside
-              (steps old [] Outside (EmptySlot slot to) (Done process old.party slot bucket to) (Clearing old.party bucket) begins refl
+              (steps old [] Outside (EmptySlot slot to) (Done process old.party slot bucket to)
+              (Clearing old.party bucket) begins refl
               (empties old process slot bucket lap known.0 known.1 to)) refl (clears (told old (EmptySlot slot to)) process bucket);
           scene = refl;
           party = refl;
@@ -225,7 +229,13 @@ module _ (old : FileLog) (bucket : ℕ) (held : is_held (known_of old bucket) �
         gets = refl;
         frees = refl;
         quiet = refl;
-        looks = λ process here. record { path = looks old [] here (LoadEntry bucket Nowhere) begins tt; scene = refl; party = refl };
+        looks = λ process here. record {
+          path = looks old [] here
+              (LoadEntry bucket Nowhere) begins tt;
+          scene = refl;
+          party = refl;
+        };
+        by = refl;
         found = (seen_of (known_of old bucket), rw (test_same bucket bucket refl) (held_entry (known_of old bucket) Nowhere held));
         others = λ other apart. rw (ne_eqb bucket other (λ same. apart (sym same))) refl;
       })
@@ -243,8 +253,9 @@ module _ (old : FileLog) (bucket : ℕ) (held : is_held (known_of old bucket) �
         (held_entry (known_of old bucket) (In slot size) held))
 
     pub found_in : (answer : Whereabouts) (one new : FileLog) → one ≡ entry_read → new ≡ told one (LoadSlot slot word) →
-        IsAt bucket answer slot_read → IsFound old bucket answer new
-    found_in answer one new e1 e2 at = subst (λ log. IsFound old bucket answer log)
+        IsAt bucket answer slot_read → IsLookedUp bucket answer (LoadSlot slot word ∷ LoadEntry bucket (In slot size) ∷ []) →
+        IsFound old bucket answer new
+    found_in answer one new e1 e2 at by = subst (λ log. IsFound old bucket answer log)
         (sym (e2 ∙ ap (λ log. told log (LoadSlot slot word)) e1))
         (record {
           events = LoadSlot slot word ∷ LoadEntry bucket (In slot size) ∷ [];
@@ -257,6 +268,7 @@ module _ (old : FileLog) (bucket : ℕ) (held : is_held (known_of old bucket) �
             party = refl;
           };
           found = at;
+          by = by;
           others = λ other apart. rw (ne_eqb bucket other (λ same. apart (sym same)))
               (seen_away (known_of old other) (seen_in other slot word));
         })
@@ -277,9 +289,11 @@ module _ (process : ℕ) (old : FileLog) (bucket : ℕ) where
       let mine : one.party ≡ old.party = seen.party in (
         subst (λ (p : ℕ). Makes process old (PutBack process p slot bucket ∷ []) new) mine
             (walk_on process old one new Outside Outside Outside [] (PutBack process one.party slot bucket ∷ []) seen
-            (walk_step process one new Outside (StoreFlag bucket (SentTo slot lap)) (PutBack process one.party slot bucket) Outside refl
+            (walk_step process one new Outside (StoreFlag bucket (SentTo slot lap))
+            (PutBack process one.party slot bucket) Outside refl
             (puts_back one process slot bucket lap (Some (In slot found.found.0)) found.found.1) is)),
         subst (λ log. known_of log bucket ≡ Unknown) (sym is) (rw (test_same bucket bucket refl) refl),
         (λ other apart. subst (λ log. unseen (known_of log other) ≡ unseen (known_of old other)) (sym is)
             (rw (ne_eqb bucket other (λ same. apart (sym same))) (found.others other apart))),
+        (found.events, found.by, is ∙ ap (λ (log : FileLog). told log (StoreFlag bucket (SentTo slot lap))) found.gets),
       )

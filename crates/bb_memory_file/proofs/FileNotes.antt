@@ -4,7 +4,7 @@ use Rattle.bb_memory_file.proofs.FileWalks.{path_on, walk_look, walk_nowhere}
 use Rattle.bb_memory_file.specs.FileCalls.{BeginsSearch, Gets, IsAttach, IsDeallocate, IsDetach, IsDone, IsJoin, IsPost, IsPutBack, IsReceive, IsSettled, TakesOne, unseen}
 use Rattle.bb_memory_file.specs.FileCalls.received as received
 use Rattle.bb_memory_file.specs.FileCalls.whereabouts as whereabouts
-use Rattle.bb_memory_file.specs.FileCode.{Event, FileLog, Has, HasNot, Holds, IsWalk, Known, LoadSlot, MissFlag, Path, Seen, Unknown, begins, known_of, looks, told}
+use Rattle.bb_memory_file.specs.FileCode.{FileLog, Has, HasNot, Holds, IsWalk, Known, LoadSlot, MissFlag, Path, Seen, Unknown, begins, known_of, looks, told}
 use Rattle.bb_memory_file.specs.FileLog.{IsKnownIn, fresh_log, held_still, is_clear, is_held, seen_in, with_entry, with_seen}
 use Rattle.bb_memory_file.specs.FileNames.{Counting, Entry, FileStep, Free, HeldBy, In, Message, Nowhere, Outside, Place, Settled, Slot}
 use Rattle.bb_memory_file.specs.FileNotes.{Cached, InUse, IsHome, IsJoined, IsNoted, Note, Undone, Unheld, looked}
@@ -93,7 +93,8 @@ module _ (log : FileLog) (notes : List Note) (joined : IsJoined log notes) (buck
   undone_held is = held_by (known_of log bucket) (joined.noted.each bucket Undone is)
 
   -- the party knows where such a bucket is once it has found it in a slot
-  pub undone_in : (new : FileLog) (slot lap : ℕ) → slice_get notes bucket ≡ Some Undone → new ≡ looked log slot (Message lap bucket) →
+  pub undone_in : (new : FileLog) (slot lap : ℕ) → slice_get notes bucket ≡ Some Undone →
+      new ≡ looked log slot (Message lap bucket) →
       IsKnownIn new bucket slot lap
   undone_in new slot lap is told = subst (λ log. IsKnownIn log bucket slot lap) (sym told)
       (rw (test_same bucket bucket refl) (seen_by (known_of log bucket) (Has slot lap) (joined.noted.each bucket Undone is)))
@@ -116,7 +117,8 @@ home_on old new home goes process =
           (sym next.1.scene)
           (subst (λ (party : ℕ). Path process (fresh_log old.scene party) (Counting party) new (next.0 ++ first.0) Outside)
           (sym next.1.party)
-          (path_on process (fresh_log old.scene old.party) old (Counting old.party) Outside first.0 first.1 new next.0 Outside next.1.path)),
+          (path_on process (fresh_log old.scene old.party) old
+          (Counting old.party) Outside first.0 first.1 new next.0 Outside next.1.path)),
     )
 
 same_buckets : (old new : FileLog) → Goes old new → new.scene.buckets ≡ old.scene.buckets
@@ -145,7 +147,8 @@ module _ (old new : FileLog) (notes : List Note) (joined : IsJoined old notes) (
         subst (λ (b : ℕ). IsNoted (known_of new b) noted) (sym at) (subst (λ n. IsNoted (known_of new bucket) n) (sym (this at)) is)
     each_by other noted false e this that =
         let apart : other ≢ bucket = eqb-false other bucket e in
-        noted_still (known_of old other) (known_of new other) noted (others other apart) (joined.noted.each other noted (that apart))
+        noted_still (known_of old other) (known_of new other) noted (others other apart)
+        (joined.noted.each other noted (that apart))
 
     -- the party notes something else of a bucket
     pub go_noted : (before : Note) → slice_get notes bucket ≡ Some before → IsJoined new (slice_set notes bucket note)
@@ -164,7 +167,8 @@ module _ (old new : FileLog) (notes : List Note) (joined : IsJoined old notes) (
 -- A LOOK
 
 -- what was noted is right after a look at a slot
-pub after_look : (old new : FileLog) (notes : List Note) (slot : ℕ) (word : Slot) → IsJoined old notes → new ≡ looked old slot word →
+pub after_look : (old new : FileLog) (notes : List Note) (slot : ℕ) (word : Slot) → IsJoined old notes →
+    new ≡ looked old slot word →
     IsJoined new notes
 after_look old new notes slot word joined is = subst (λ log. IsJoined log notes) (sym is)
     (go_same old (looked old slot word) notes joined
@@ -200,7 +204,8 @@ module _ (old new : FileLog) (notes : List Note) (joined : IsJoined old notes) (
   apart_by : (other : ℕ) → other ≢ bucket → (bucket == other) ≡ false
   apart_by other apart = ne_eqb bucket other (λ same. apart (sym same))
 
-  pub after_deallocate : (before : Note) → slice_get notes bucket ≡ Some before → ((process : ℕ) → IsDeallocate process old bucket new) →
+  pub after_deallocate : (before : Note) → slice_get notes bucket ≡ Some before →
+      ((process : ℕ) → IsDeallocate process old bucket new) →
       IsJoined new (slice_set notes bucket Unheld)
   after_deallocate before was did = go_noted old new notes joined (λ process. (_, (did process).0)) bucket Unheld
       (subst (λ log. IsNoted (known_of log bucket) Unheld) (sym (did 0).1) (rw (test_same bucket bucket refl) tt))
@@ -267,7 +272,8 @@ module _ (old new : FileLog) (notes : List Note) (joined : IsJoined old notes) (
           (subst (λ log. IsNoted (known_of log bucket) Unheld) (sym (did 0).3) (rw (test_same bucket bucket refl) tt))
           (λ other apart. subst (λ log. IsSame log other) (sym (did 0).3) (rw (apart_by other apart) refl)) was
 
-      pub after_message : (length : ℕ) → ((process : ℕ) → IsReceive process old slot lap bucket size (received.Message length) new) →
+      pub after_message : (length : ℕ) →
+          ((process : ℕ) → IsReceive process old slot lap bucket size (received.Message length) new) →
           IsJoined new (slice_set notes bucket Undone)
       after_message length did = go_noted old new notes joined (λ process. (_, (did process).1)) bucket Undone
           (subst (λ log. IsNoted (known_of log bucket) Undone) (sym (did 0).2)
@@ -381,10 +387,12 @@ home_unlocks old new home goes process =
     let next = goes process in (
       next.0 ++ first.0,
       Settled new.party,
-      subst (λ (scene : FileScene). Path process (fresh_log scene new.party) (Counting new.party) new (next.0 ++ first.0) (Settled new.party))
+      subst (λ (scene : FileScene). Path process (fresh_log scene new.party) (Counting new.party) new (next.0 ++ first.0)
+          (Settled new.party))
           (sym next.1.scene)
           (subst (λ (party : ℕ). Path process (fresh_log old.scene party) (Counting party) new (next.0 ++ first.0) (Settled party))
-          (sym next.1.party) (path_on process (fresh_log old.scene old.party) old (Counting old.party) Outside first.0 first.1 new next.0
+          (sym next.1.party) (path_on process (fresh_log old.scene old.party) old
+          (Counting old.party) Outside first.0 first.1 new next.0
           (Settled old.party) next.1.path)),
       inl refl,
     )
@@ -397,7 +405,8 @@ fresh_unlocks old new there fresh goes may process =
     let walk = (goes process).1 in (
       (goes process).0,
       there new.party,
-      subst (λ (scene : FileScene). Path process (fresh_log scene new.party) (Counting new.party) new (goes process).0 (there new.party))
+      subst (λ (scene : FileScene). Path process (fresh_log scene new.party) (Counting new.party) new (goes process).0
+          (there new.party))
           (sym walk.scene)
           (subst (λ (party : ℕ). Path process (fresh_log old.scene party) (Counting party) new (goes process).0 (there party))
           (sym walk.party)

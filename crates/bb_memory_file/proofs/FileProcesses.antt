@@ -5,7 +5,8 @@ use Rattle.bb_memory_file.specs.FileParties.{among}
 use Rattle.bb_memory_file_machine.specs.FileMachine.{FileWords}
 use Rattle.std.proofs.Common.{List, ℕ}
 
-may_be : (processes process : ℕ) (log : FileLog) (words : FileWords) → MayBe (among processes log) process words → MayBe log process words
+may_be : (processes process : ℕ) (log : FileLog) (words : FileWords) → MayBe (among processes log) process words →
+    MayBe log process words
 may_be processes process log words may =
     record { buckets = may.buckets; lock = may.lock; known = may.known; life = may.life }
 

@@ -1,23 +1,25 @@
 -- Operations on a file's row of words are events on the words of the machine.
 use Rattle.bb_memory_file.proofs.FileFlagWords.{flag_of_word, word_of_flag}
+use Rattle.bb_memory_file.proofs.FileSlotWords.{slot_of_word, word_of_slot}
 use Rattle.bb_memory_file.specs.FileCode.{Finds, left_by}
-use Rattle.bb_memory_file.specs.FileFormat.{EntryOf, FlagOf, HasFlagWord, IsGeometry, LifeOf, SlotOf, entry_at, entry_in, event_of, flag_at, flag_in, flag_word, lap_at, life_at, part_at, slot_at, slot_in, slot_word}
-use Rattle.bb_memory_file.specs.FileLog.{EmptySlot, Event, ExchangeFlag, ExchangeSlot, LoadEntry, LoadFlag, LoadLife, LoadSlot, MissFlag, MissSlot, StoreEntry, StoreFlag, StoreLife}
+use Rattle.bb_memory_file.specs.FileFormat.{EntryOf, FlagOf, HasFlagWord, HasSlotWord, IsGeometry, LifeOf, SlotOf, entry_at, entry_in, event_of, flag_at, flag_in, flag_word, lap_at, life_at, part_at, slot_at, slot_in, slot_word}
+use Rattle.bb_memory_file.specs.FileLog.{EmptySlot, Event, ExchangeFlag, ExchangeSlot, IsLap, LoadEntry, LoadFlag, LoadLife, LoadSlot, MissFlag, MissSlot, StoreEntry, StoreFlag, StoreLife}
 use Rattle.bb_memory_file.specs.FileNames.{Empty, FileFlag, Slot}
-use Rattle.bb_memory_file.specs.FileOperations.{IsMade, empties_slot, exchanges_flag, exchanges_slot, loads_entry, loads_flag, loads_life, loads_slot, stores_entry, stores_flag, stores_life}
+use Rattle.bb_memory_file.specs.FileOperations.{IsLook, IsMade, empties_slot, exchanges_flag, exchanges_slot, loads_entry, loads_flag, loads_life, loads_slot, looks_at_entry, looks_at_flag, looks_at_life, looks_at_slot, stores_entry, stores_flag, stores_life}
+use Rattle.bb_memory_file.specs.FileRecords.{party_by}
 use Rattle.bb_memory_file.specs.FileRows.{IsEvent, Says}
 use Rattle.bb_memory_file.specs.Recorded.{Exchange, IsFoundIn, WordEvent, written}
 use Rattle.bb_memory_file.specs.declared.geometry.FileGeometry.{FileGeometry}
 use Rattle.bb_memory_file_machine.proofs.FileTests.{flag_there}
-use Rattle.bb_memory_file_machine.specs.FileLaws.{IsFlag}
+use Rattle.bb_memory_file_machine.specs.FileLaws.{IsFlag, IsSlot}
 use Rattle.bb_memory_file_machine.specs.FileMachine.{FileWords, is_flag, with_entry, with_flag, with_life, with_slot}
 use Rattle.bb_memory_lists.proofs.SliceGets.{slice_get-set_apart, slice_get-set_at}
 use Rattle.bb_memory_pool_machine.proofs.PoolSteps.{test_same}
-use Rattle.std.proofs.Common.{Bool, List, Some, ap, arith, false, inl, inr, length, refl, subst, sym, true, ℕ, ◌*◌, ◌<◌, ◌∙◌, ◌≡◌, ◌≢◌}
+use Rattle.std.proofs.Common.{Bool, List, None, Some, ap, arith, false, inl, inr, length, refl, subst, sym, true, ℕ, ◌<◌, ◌∙◌, ◌≡◌, ◌≢◌}
 use Rattle.std.proofs.lemmas.Bool.{cases_eq, eqb-true, le-ltb, lt-ltb}
 use Rattle.std.proofs.lemmas.Grind.{get_or-set_at}
 use Rattle.std.proofs.lemmas.List.{get_or-set_other}
-use Rattle.std.specs.Prelude.{slice_get, slice_index, slice_set, ◌%◌, ◌==◌, ◌^◌}
+use Rattle.std.specs.Prelude.{slice_get, slice_index, slice_set, ◌==◌}
 
 -- PARTS
 
@@ -58,8 +60,8 @@ module _ (geometry : FileGeometry) (words : ℕ) (is : IsGeometry geometry words
 -- READS OF A WRITTEN ROW
 
 -- the word of an empty slot says an empty slot
-empty_said : (lap : ℕ) → slot_in (slot_word (Empty lap)) ≡ Empty (lap_at (slot_word (Empty lap)))
-empty_said lap = rw (test_same (lap * 2 ^ 32 % 2 ^ 32) 0 (omega arith)) refl
+empty_said : (lap : ℕ) → IsLap lap → slot_in (slot_word (Empty lap)) ≡ Empty (lap_at (slot_word (Empty lap)))
+empty_said lap is = slot_of_word (Empty lap) is ∙ ap Empty (omega arith)
 
 -- another word says what it said
 still : {X : Type 0} (said : ℕ → X) (xs : List X) (number : ℕ) (row : List ℕ) (at word to : ℕ) →
@@ -156,7 +158,7 @@ module _ (geometry : FileGeometry) (row : List ℕ) (words : FileWords) (is : Is
 
   -- EVENTS
 
-  module _ (party : ℕ) (its : party < geometry.parties) where
+  module _ (party : ℕ) where
     is_event : (operation : WordEvent) (event : Event) → event_of geometry operation ≡ event → Finds words party event →
         Says geometry (written row operation) (left_by words party event) → IsEvent geometry party row words operation
     is_event operation event same finds after = record {
@@ -164,6 +166,7 @@ module _ (geometry : FileGeometry) (row : List ℕ) (words : FileWords) (is : Is
       says = subst (λ (e : Event). Says geometry (written row operation) (left_by words party e)) (sym same) after;
     }
 
+  module _ (party : ℕ) (its : party < geometry.parties) where
     -- no other word says the flag from which the exchange was to be
     missed : (bucket found : ℕ) (from : FileFlag) (same : Bool) → HasFlagWord from → IsFlag words bucket (flag_in found) →
         (found == flag_word from) ≡ false → is_flag words bucket (flag_in (flag_word from)) ≡ same → same ≡ false
@@ -178,56 +181,96 @@ module _ (geometry : FileGeometry) (row : List ℕ) (words : FileWords) (is : Is
         bucket < geometry.buckets → HasFlagWord from → slice_index row (flag_at geometry bucket) ≡ found →
         IsEvent geometry party row words (Exchange (flag_at geometry bucket) (flag_word from) to found)
     flag_exchanged bucket from to found true test below has is' =
-        is_event (Exchange (flag_at geometry bucket) (flag_word from) to found)
-        (ExchangeFlag bucket (flag_in (flag_word from)) (flag_in to)) (rw (flag_part geometry (length row) is bucket below, test) refl)
+        is_event party (Exchange (flag_at geometry bucket) (flag_word from) to found)
+        (ExchangeFlag bucket (flag_in (flag_word from)) (flag_in to))
+        (rw (flag_part geometry (length row) is bucket below, test) refl)
         (says.flags bucket below ∙ ap (λ (w : ℕ). Some (flag_in w)) (is' ∙ eqb-true found (flag_word from) test))
         (rw test (flag_written bucket to below))
     flag_exchanged bucket from to found false test below has is' =
-        is_event (Exchange (flag_at geometry bucket) (flag_word from) to found) (MissFlag bucket (flag_in (flag_word from)))
+        is_event party (Exchange (flag_at geometry bucket) (flag_word from) to found) (MissFlag bucket (flag_in (flag_word from)))
         (rw (flag_part geometry (length row) is bucket below, test) refl)
         (missed bucket found from (is_flag words bucket (flag_in (flag_word from))) has
         (says.flags bucket below ∙ ap (λ (w : ℕ). Some (flag_in w)) is') test refl)
         (rw test says)
 
-    slot_exchanged : (slot from to found : ℕ) (hit : Bool) → (found == from) ≡ hit → slot < geometry.slots →
-        slice_index row (slot_at geometry slot) ≡ found → IsEvent geometry party row words (Exchange (slot_at geometry slot) from to found)
-    slot_exchanged slot from to found true test below is' =
-        is_event (Exchange (slot_at geometry slot) from to found) (ExchangeSlot slot (slot_in from) (slot_in to))
-        (rw (slot_part geometry (length row) is slot, test) refl)
-        (says.slots slot below ∙ ap (λ (w : ℕ). Some (slot_in w)) (is' ∙ eqb-true found from test))
+    -- no other word says the slot from which the exchange was to be
+    slot_missed : (slot found : ℕ) (from : Slot) → HasSlotWord from → IsSlot words slot (slot_in found) →
+        (found == slot_word from) ≡ false → ¬ IsSlot words slot (slot_in (slot_word from))
+    slot_missed slot found from has there apart other =
+        let same = sym there ∙ other in
+        let said : slot_in found ≡ slot_in (slot_word from) = cc in
+        let hit = test_same found (slot_word from) (word_of_slot found from has (said ∙ slot_of_word from has)) in absurd (cc)
+
+    slot_exchanged : (slot : ℕ) (from : Slot) (to found : ℕ) (hit : Bool) → (found == slot_word from) ≡ hit →
+        slot < geometry.slots → HasSlotWord from → slice_index row (slot_at geometry slot) ≡ found →
+        IsEvent geometry party row words (Exchange (slot_at geometry slot) (slot_word from) to found)
+    slot_exchanged slot from to found true test below has is' =
+        is_event party (Exchange (slot_at geometry slot) (slot_word from) to found)
+        (ExchangeSlot slot (slot_in (slot_word from)) (slot_in to)) (rw (slot_part geometry (length row) is slot, test) refl)
+        (says.slots slot below ∙ ap (λ (w : ℕ). Some (slot_in w)) (is' ∙ eqb-true found (slot_word from) test))
         (rw test (slot_written slot to below))
-    slot_exchanged slot from to found false test below is' =
-        is_event (Exchange (slot_at geometry slot) from to found) (MissSlot slot (slot_in from))
-        (rw (slot_part geometry (length row) is slot, test) refl) tt (rw test says)
+    slot_exchanged slot from to found false test below has is' =
+        is_event party (Exchange (slot_at geometry slot) (slot_word from) to found) (MissSlot slot (slot_in (slot_word from)))
+        (rw (slot_part geometry (length row) is slot, test) refl)
+        (slot_missed slot found from has (says.slots slot below ∙ ap (λ (w : ℕ). Some (slot_in w)) is') test) (rw test says)
 
     pub events_are : (operation : WordEvent) → IsMade geometry party operation → IsFoundIn row operation →
         IsEvent geometry party row words operation
     events_are operation (loads_flag bucket found below) is' =
-        is_event operation (LoadFlag bucket (flag_in found)) (rw (flag_part geometry (length row) is bucket below) refl)
+        is_event party operation (LoadFlag bucket (flag_in found)) (rw (flag_part geometry (length row) is bucket below) refl)
         (says.flags bucket below ∙ ap (λ (w : ℕ). Some (flag_in w)) is') says
     events_are operation (exchanges_flag bucket from to found below has) is' =
         flag_exchanged bucket from to found (found == flag_word from) refl below has is'
     events_are operation (stores_flag bucket to below) is' =
-        is_event operation (StoreFlag bucket (flag_in to)) (rw (flag_part geometry (length row) is bucket below) refl) tt
+        is_event party operation (StoreFlag bucket (flag_in to)) (rw (flag_part geometry (length row) is bucket below) refl) tt
         (flag_written bucket to below)
     events_are operation (loads_entry bucket found below) is' =
-        is_event operation (LoadEntry bucket (entry_in geometry.slots found))
+        is_event party operation (LoadEntry bucket (entry_in geometry.slots found))
         (rw (entry_part geometry (length row) is bucket below) refl)
         (says.entries bucket below ∙ ap (λ (w : ℕ). Some (entry_in geometry.slots w)) is') says
     events_are operation (stores_entry bucket to below) is' =
-        is_event operation (StoreEntry bucket (entry_in geometry.slots to))
+        is_event party operation (StoreEntry bucket (entry_in geometry.slots to))
         (rw (entry_part geometry (length row) is bucket below) refl) tt (entry_written bucket to below)
     events_are operation (loads_slot slot found below) is' =
-        is_event operation (LoadSlot slot (slot_in found)) (rw (slot_part geometry (length row) is slot) refl)
+        is_event party operation (LoadSlot slot (slot_in found)) (rw (slot_part geometry (length row) is slot) refl)
         (says.slots slot below ∙ ap (λ (w : ℕ). Some (slot_in w)) is') says
-    events_are operation (exchanges_slot slot from to found below) is' =
-        slot_exchanged slot from to found (found == from) refl below is'
-    events_are operation (empties_slot slot lap below) is' =
-        is_event operation (EmptySlot slot (lap_at (slot_word (Empty lap)))) (rw (slot_part geometry (length row) is slot) refl) tt
-        (subst (λ (word : Slot). Says geometry (slice_set row (slot_at geometry slot) (slot_word (Empty lap))) (with_slot words slot word))
-        (empty_said lap) (slot_written slot (slot_word (Empty lap)) below))
+    events_are operation (exchanges_slot slot from to found below has) is' =
+        slot_exchanged slot from to found (found == slot_word from) refl below has is'
+    events_are operation (empties_slot slot lap below its_lap) is' =
+        is_event party operation (EmptySlot slot (lap_at (slot_word (Empty lap))))
+        (rw (slot_part geometry (length row) is slot) refl) tt
+        (subst (λ (word : Slot). Says geometry (slice_set row (slot_at geometry slot) (slot_word (Empty lap)))
+        (with_slot words slot word))
+        (empty_said lap its_lap) (slot_written slot (slot_word (Empty lap)) below))
     events_are operation (loads_life found) is' =
-        is_event operation (LoadLife found) (rw (life_part geometry (length row) is party its) refl)
+        is_event party operation (LoadLife found) (rw (life_part geometry (length row) is party its) refl)
         (says.lives party its ∙ ap (λ (w : ℕ). Some w) is') says
     events_are operation (stores_life to) is' =
-        is_event operation (StoreLife to) (rw (life_part geometry (length row) is party its) refl) tt (life_written party to its)
+        is_event party operation (StoreLife to) (rw (life_part geometry (length row) is party its) refl) tt
+        (life_written party to its)
+
+  -- LOOKS
+
+  -- a look at a life is by the party whose life it is
+  looks_as : (operation : WordEvent) (party : ℕ) → party_by geometry None operation ≡ party →
+      IsEvent geometry party row words operation → IsEvent geometry (party_by geometry None operation) row words operation
+  looks_as operation party same event = subst (λ (p : ℕ). IsEvent geometry p row words operation) (sym same) event
+
+  pub looks_are : (operation : WordEvent) → IsLook geometry operation → IsFoundIn row operation →
+      IsEvent geometry (party_by geometry None operation) row words operation
+  looks_are operation (looks_at_flag bucket found below) is' =
+      is_event (party_by geometry None operation) operation (LoadFlag bucket (flag_in found))
+      (rw (flag_part geometry (length row) is bucket below) refl)
+      (says.flags bucket below ∙ ap (λ (w : ℕ). Some (flag_in w)) is') says
+  looks_are operation (looks_at_entry bucket found below) is' =
+      is_event (party_by geometry None operation) operation (LoadEntry bucket (entry_in geometry.slots found))
+      (rw (entry_part geometry (length row) is bucket below) refl)
+      (says.entries bucket below ∙ ap (λ (w : ℕ). Some (entry_in geometry.slots w)) is') says
+  looks_are operation (looks_at_slot slot found below) is' =
+      is_event (party_by geometry None operation) operation (LoadSlot slot (slot_in found))
+      (rw (slot_part geometry (length row) is slot) refl)
+      (says.slots slot below ∙ ap (λ (w : ℕ). Some (slot_in w)) is') says
+  looks_are operation (looks_at_life party found below) is' =
+      looks_as operation party (rw (life_part geometry (length row) is party below) refl)
+      (is_event party operation (LoadLife found) (rw (life_part geometry (length row) is party below) refl)
+      (says.lives party below ∙ ap (λ (w : ℕ). Some w) is') says)

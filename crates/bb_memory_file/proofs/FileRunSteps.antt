@@ -102,7 +102,8 @@ knows_after scene act mine words sound buckets is before party (event ∷ events
 
 -- After these steps of the machine the process is at this place, has taken these of the steps, and may
 -- find the words.
-pub record Fine (scene : FileScene) (acts : List Act) (steps : List FileStep) (process : ℕ) (mine : List FileStep) (here : Place) : Type 0 where
+pub record Fine (scene : FileScene) (acts : List Act) (steps : List FileStep) (process : ℕ) (mine : List FileStep)
+    (here : Place) : Type 0 where
   pub place : IsPlace (left_by scene steps) process here
   pub took : steps_of process steps ≡ mine
   pub knows : Knows scene (own process acts) process (left_by scene steps).words
@@ -177,7 +178,8 @@ module _ (scene : FileScene) (acts : List Act) (process : ℕ) (mine : List File
         allowed = none_refused scene at.steps step at.allowed made.0;
         words = sym left ∙ same;
         fine = record {
-          place = subst (λ (s : FileState). IsPlace s process there) come (subst (λ (p : ℕ). IsPlace new p there) own_step_is made.2);
+          place = subst (λ (s : FileState). IsPlace s process there) come
+              (subst (λ (p : ℕ). IsPlace new p there) own_step_is made.2);
           took = own_step process at.steps step true (test_same (process_of step) process own_step_is)
               ∙ ap (λ (l : List FileStep). step ∷ l) at.fine.took;
           knows = λ party events e.
@@ -188,7 +190,8 @@ module _ (scene : FileScene) (acts : List Act) (process : ℕ) (mine : List File
       }
 
   -- a step that no act tells of
-  pub on_move : (step : FileStep) (there : Place) → process_of step ≡ process → Brings (move_at state.words here step) state.words there →
+  pub on_move : (step : FileStep) (there : Place) → process_of step ≡ process →
+      Brings (move_at state.words here step) state.words there →
       At scene acts process (step ∷ mine) there taken places
   on_move step there own_step_is brings =
       advance acts step state.words there own_step_is (λ other apart. refl) brings at.words at.fine.knows

@@ -111,7 +111,8 @@ module _ (scene : FileScene) (act : Act) (acts : List Act) (is : IsTrue (words_a
       let now : At scene acts me [] Outside taken places = came [] [] Outside runs.sleeps (cc) in
       let free = subst (λ (w : FileWords). IsTrue w (Locks me party)) (sym now.words) (true_as (Locks me party) this) in
       subst (λ (a : Act). Now a (Lock me party ∷ []) (Counting party)) this
-      (on_step scene (Locks me party) acts [] Outside taken places now (true_as (Locks me party) this) (Lock me party) (Counting party)
+      (on_step scene (Locks me party) acts [] Outside taken places now (true_as (Locks me party) this) (Lock me party)
+      (Counting party)
       refl (brings_lock (left_by scene now.steps).words me party free))
   on_path party all mine here (code.looks log done at event path none) e =
       let this : Operates me log.party event ≡ act = cc in
@@ -131,7 +132,8 @@ module _ (scene : FileScene) (act : Act) (acts : List Act) (is : IsTrue (words_a
       subst (λ (w : FileWords). Finds w log.party event) (sym now.words) (true_as (Operates me log.party event) this) in
       let may = may_be scene me party log done at path acts all' at taken places now (sym rest) in
       subst (λ (a : Act). Now a (step ∷ all') there) this
-      (on_step scene (Operates me log.party event) acts all' at taken places now (true_as (Operates me log.party event) this) step there
+      (on_step scene (Operates me log.party event) acts all' at taken places now
+      (true_as (Operates me log.party event) this) step there
       own_step (made (left_by scene now.steps).words may found))
   on_path party all mine here (code.moves log done at step there path own_step made) e =
       let all' : List FileStep = done ++ Lock me party ∷ [] in
@@ -141,8 +143,15 @@ module _ (scene : FileScene) (act : Act) (acts : List Act) (is : IsTrue (words_a
       (may_be scene me party log done at path (act ∷ acts) all' at taken places now (own_mine act acts ∙ sym e)))
 
   -- the act is the last one of a life
-  on : (all : List Act) (mine : List FileStep) (here : Place) → Life scene me all mine here → all ≡ act ∷ own me acts → Now act mine here
+  on : (all : List Act) (mine : List FileStep) (here : Place) → Life scene me all mine here → all ≡ act ∷ own me acts →
+      Now act mine here
   on all mine here runs.sleeps e = absurd (cc)
+  on all mine here (runs.looks party event did life none) e =
+      let this : Operates me party event ≡ act = cc in
+      let now : At scene acts me [] Outside taken places = came did [] Outside life (cc) in
+      subst (λ (a : Act). Now a [] Outside) this
+      (on_look scene (Operates me party event) acts [] Outside taken places now (true_as (Operates me party event) this)
+      (left_same (left_by scene now.steps).words party event none))
   on all mine here (runs.works party log done at path) e = on_path party log done at path e
   on all mine here (runs.leaves party did done at life may) e =
       let this : Unlocks me party ≡ act = cc in
@@ -172,9 +181,11 @@ no_session process party [] e = absurd (cc)
 no_session process party (event ∷ events) e = absurd (cc)
 
 -- a process that has done nothing sleeps
-asleep : (scene : FileScene) (process : ℕ) (all : List Act) (mine : List FileStep) (here : Place) → Life scene process all mine here →
+asleep : (scene : FileScene) (process : ℕ) (all : List Act) (mine : List FileStep) (here : Place) →
+    Life scene process all mine here →
     [] ≡ all → (mine ≡ []) × (here ≡ Outside)
 asleep scene process all mine here runs.sleeps e = (refl, refl)
+asleep scene process all mine here (runs.looks party event did life none) e = absurd (cc)
 asleep scene process all mine here (runs.works party log done at path) e =
     absurd (no_session process party log.events
     (e ∙ acts_same scene process party log done at path))

@@ -29,7 +29,8 @@ module _ (process : ℕ) (old : FileLog) (bucket : ℕ) where
     taken = [];
     walk = walk_look process old new here (LoadFlag bucket flag) tt is;
     frees = refl;
-    tried = let other' = ap (λ p. same_flag flag (DetachedBy p)) (sym mine) ∙ other in rw (test_same bucket bucket refl, other') refl;
+    tried = let other' = ap (λ p. same_flag flag (DetachedBy p)) (sym mine)
+        ∙ other in rw (test_same bucket bucket refl, other') refl;
     settles = refl;
     quiet = refl;
     others = λ o apart. ap (λ l. known_of l o) is ∙ rw (ne_eqb bucket o (λ same. apart (sym same))) refl;
@@ -49,7 +50,8 @@ module _ (process : ℕ) (old : FileLog) (bucket : ℕ) where
         taken = Recover process ∷ [];
         walk = walk_on process old (told old (LoadFlag bucket flag)) new here here here [] (Recover process ∷ [])
             (walk_look process old (told old (LoadFlag bucket flag)) here (LoadFlag bucket flag) tt refl)
-            (walk_step process (told old (LoadFlag bucket flag)) new here (ExchangeFlag bucket (DetachedBy old.party) (HeldBy old.party))
+            (walk_step process (told old (LoadFlag bucket flag)) new here
+            (ExchangeFlag bucket (DetachedBy old.party) (HeldBy old.party))
             (Recover process) here refl (recovers (told old (LoadFlag bucket flag)) process bucket) e2');
         frees = refl;
         tried = rw (test_same bucket bucket refl, test_same old.party old.party refl) refl;
@@ -177,7 +179,8 @@ module _ (process : ℕ) (old : FileLog) (bucket : ℕ) (below : bucket < old.sc
       others = others_stored whereabouts.Nowhere found new Free is;
     }
 
-    pub cleared : (three new : FileLog) → IsFound one bucket whereabouts.Entered two → three ≡ told two (StoreEntry bucket Nowhere) →
+    pub cleared : (three new : FileLog) → IsFound one bucket whereabouts.Entered two →
+        three ≡ told two (StoreEntry bucket Nowhere) →
         new ≡ told three (StoreFlag bucket Free) → IsSettledAt process old bucket true new
     cleared three new found e3 e4 =
         let slot = found.found.0 in
@@ -271,7 +274,8 @@ module _ (process : ℕ) (old log new : FileLog) (detached : Bool) (bucket freed
   party_log = ap (λ (l : FileLog). l.party) settling.gets
 
   -- a settler that takes back nothing goes on
-  pub settling_on : detached ≡ false → IsSettledAt process log bucket answer new → Settling process old detached (bucket + 1) more new
+  pub settling_on : detached ≡ false → IsSettledAt process log bucket answer new →
+      Settling process old detached (bucket + 1) more new
   settling_on none step = record {
     events = step.events ++ settling.events;
     gets = gets_on old log new settling.events step.events settling.gets step.gets;
@@ -279,17 +283,21 @@ module _ (process : ℕ) (old log new : FileLog) (detached : Bool) (bucket freed
     walk = walk_on process old log new (Flags old.party 0) (Flags old.party bucket) (Flags old.party (bucket + 1)) settling.taken
         step.taken settling.walk
         (subst (λ (p : ℕ). IsWalk process log (Flags p bucket) new step.taken (Flags p (bucket + 1))) party_log step.walk);
-    frees = let on = freed_on step.events settling.events in let one = step.frees in let other = settling.frees in omega (arith, on, one, other, count);
-    recovered = subst (λ (d : Bool). RecoveredTo old.party d (bucket + 1) (step.events ++ settling.events) (step.taken ++ settling.taken))
+    frees = let on = freed_on step.events settling.events in let one = step.frees in let other = settling.frees in
+        omega (arith, on, one, other, count);
+    recovered = subst (λ (d : Bool). RecoveredTo old.party d (bucket + 1) (step.events ++ settling.events)
+        (step.taken ++ settling.taken))
         (sym none) (has_none calls.recovers settling.taken step.taken
-        (subst (λ (d : Bool). RecoveredTo old.party d bucket settling.events settling.taken) none settling.recovered) step.recovers_none);
+        (subst (λ (d : Bool). RecoveredTo old.party d bucket settling.events settling.taken) none settling.recovered)
+        step.recovers_none);
     settles = has_none calls.strays settling.taken step.taken settling.settles step.settles;
     quiet = on_lives step.events settling.events [] [] step.quiet settling.quiet;
     unknown = unknown_on log new bucket settling.unknown step.unknown step.others;
   }
 
   -- a settler that takes back detached buckets goes on
-  module _ (middle : FileLog) (back : IsRecover process log bucket middle) (step : IsSettledAt process middle bucket answer new) where
+  module _ (middle : FileLog) (back : IsRecover process log bucket middle)
+      (step : IsSettledAt process middle bucket answer new) where
     party_middle : middle.party ≡ log.party
     party_middle = ap (λ (l : FileLog). l.party) back.gets
 
@@ -316,13 +324,17 @@ module _ (process : ℕ) (old log new : FileLog) (detached : Bool) (bucket freed
       taken = step.taken ++ (back.taken ++ settling.taken);
       walk = walk_on process old middle new (Flags old.party 0) (Flags old.party bucket) (Flags old.party (bucket + 1))
           (back.taken ++ settling.taken) step.taken
-          (walk_on process old log middle (Flags old.party 0) (Flags old.party bucket) (Flags old.party bucket) settling.taken back.taken
-          settling.walk (subst (λ (p : ℕ). IsWalk process log (Flags p bucket) middle back.taken (Flags p bucket)) party_log back.walk))
-          (subst (λ (p : ℕ). IsWalk process middle (Flags p bucket) new step.taken (Flags p (bucket + 1))) (party_middle ∙ party_log)
+          (walk_on process old log middle (Flags old.party 0) (Flags old.party bucket)
+          (Flags old.party bucket) settling.taken back.taken
+          settling.walk (subst
+          (λ (p : ℕ). IsWalk process log (Flags p bucket) middle back.taken (Flags p bucket)) party_log back.walk))
+          (subst (λ (p : ℕ). IsWalk process middle (Flags p bucket) new step.taken (Flags p (bucket + 1)))
+          (party_middle ∙ party_log)
           step.walk);
       frees = let on = freed_on both settling.events in let on' = freed_on step.events back.events in let one = step.frees in
           let two = back.frees in let other = settling.frees in omega (arith, on, on', one, two, other, count);
-      recovered = subst (λ (d : Bool). RecoveredTo old.party d (bucket + 1) (both ++ settling.events) (step.taken ++ (back.taken ++ settling.taken)))
+      recovered = subst (λ (d : Bool). RecoveredTo old.party d (bucket + 1) (both ++ settling.events)
+          (step.taken ++ (back.taken ++ settling.taken)))
           (sym all) (λ other below. tried_to
           (subst (λ (d : Bool). RecoveredTo old.party d bucket settling.events settling.taken) all settling.recovered) other below
           (bucket == other) refl);
@@ -343,7 +355,8 @@ recovered_all process old new detached bucket freed settling past taken same tru
 recovered_all process old new detached bucket freed settling past taken same false e =
     same ∙ subst (λ (d : Bool). RecoveredTo old.party d bucket settling.events settling.taken) e settling.recovered
 
-pub settled_all : (process : ℕ) (old new : FileLog) (detached : Bool) (bucket freed : ℕ) → Settling process old detached bucket freed new →
+pub settled_all : (process : ℕ) (old new : FileLog) (detached : Bool) (bucket freed : ℕ) →
+    Settling process old detached bucket freed new →
     old.scene.buckets ≤ bucket → IsSettled process old detached (Flags old.party 0) freed [] new (Settled old.party)
 settled_all process old new detached bucket freed settling past =
     let mine : new.party ≡ old.party = ap (λ (l : FileLog). l.party) settling.gets in
@@ -358,7 +371,8 @@ settled_all process old new detached bucket freed settling past =
           (walk_move process new (Flags new.party bucket) (Next process) (Settled new.party) refl
           (ends new process bucket (subst (λ (s : ℕ). s ≤ bucket) (sym (ap (λ scene. scene.buckets) same)) past))));
       frees = settling.frees;
-      recovered = recovered_all process old new detached bucket freed settling past (Next process ∷ settling.taken) refl detached refl;
+      recovered = recovered_all process old new detached bucket freed settling past
+          (Next process ∷ settling.taken) refl detached refl;
       settles = settling.settles;
       counts = settling.quiet;
       unknown = λ other below. settling.unknown other (omega (arith, below, past));
@@ -378,16 +392,19 @@ module _ (process : ℕ) (old : FileLog) (life : ℕ) where
   counted_lock one new e1 e2 under =
       let e : new ≡ told loaded (StoreLife (life + 2)) = e2 ∙ ap (λ log. told log (StoreLife (life + 2))) e1 in (
         e,
-        walk_on process old loaded new (Counting old.party) (Counting old.party) (Flags old.party 0) [] (Count process (life + 2) ∷ [])
+        walk_on process old loaded new (Counting old.party) (Counting old.party) (Flags old.party 0) []
+            (Count process (life + 2) ∷ [])
             (walk_look process old loaded (Counting old.party) (LoadLife life) tt refl)
-            (walk_step process loaded new (Counting old.party) (StoreLife (life + 2)) (Count process (life + 2)) (Flags old.party 0) refl
+            (walk_step process loaded new (Counting old.party) (StoreLife (life + 2)) (Count process (life + 2))
+            (Flags old.party 0) refl
             (counts loaded process life (life + 2) refl (omega arith)) e),
         omega (arith, under),
       )
 
   already_by : (parity : ℕ) (is : Bool) → (life ≡ max_life) →
       (if is then LoadLife life ∷ []
-      else (if life == 18446744073709551615 then LoadLife life ∷ [] else StoreLife (life + 1) ∷ LoadLife life ∷ [])) ≡ LoadLife life ∷ []
+      else (if life == 18446744073709551615 then LoadLife life ∷ [] else StoreLife
+      (life + 1) ∷ LoadLife life ∷ [])) ≡ LoadLife life ∷ []
   already_by parity true most = refl
   already_by parity false most = rw (test_same life 18446744073709551615 most) refl
 
@@ -428,7 +445,8 @@ module _ (process : ℕ) (old : FileLog) (life : ℕ) where
         taken = Count process (life + 1) ∷ [];
         walk = walk_on process old loaded new (Settled old.party) (Settled old.party) (Settled old.party) []
             (Count process (life + 1) ∷ []) (walk_look process old loaded (Settled old.party) (LoadLife life) tt refl)
-            (walk_step process loaded new (Settled old.party) (StoreLife (life + 1)) (Count process (life + 1)) (Settled old.party) refl
+            (walk_step process loaded new (Settled old.party) (StoreLife (life + 1)) (Count process (life + 1))
+            (Settled old.party) refl
             (counts_on loaded process life (life + 1) refl (omega arith)) e);
         recovers_none = refl;
         settles = refl;
@@ -509,7 +527,8 @@ quiet_counted process old new parity counted = record {
 party_on : (old new : FileLog) (events : List Event) → Gets old events new → new.party ≡ old.party
 party_on old new events gets = ap (λ (log : FileLog). log.party) gets
 
-module _ (process : ℕ) (old middle new : FileLog) (detached : Bool) (freed : ℕ) (lives more : List Event) (from over there : Place) where
+module _ (process : ℕ) (old middle new : FileLog) (detached : Bool) (freed : ℕ) (lives more : List Event)
+    (from over there : Place) where
   recovered_after : (is : Bool) → detached ≡ is → (quiet : Quiet process old from lives middle over) →
       (settled : IsSettled process middle detached over freed more new there) →
       IsRecovered old is (settled.events ++ quiet.events) (settled.taken ++ quiet.taken)
@@ -529,7 +548,8 @@ module _ (process : ℕ) (old middle new : FileLog) (detached : Bool) (freed : �
     gets = gets_on old middle new quiet.events settled.events quiet.gets settled.gets;
     taken = settled.taken ++ quiet.taken;
     walk = walk_on process old middle new from over there quiet.taken settled.taken quiet.walk settled.walk;
-    frees = let on = freed_on settled.events quiet.events in let one = quiet.frees in let two = settled.frees in omega (arith, on, one, two);
+    frees = let on = freed_on settled.events quiet.events in let one = quiet.frees in let two = settled.frees in
+        omega (arith, on, one, two);
     recovered = recovered_after detached refl quiet settled;
     settles = has_none calls.strays quiet.taken settled.taken quiet.settles settled.settles;
     counts = on_lives settled.events quiet.events more lives settled.counts quiet.counts;
@@ -538,7 +558,8 @@ module _ (process : ℕ) (old middle new : FileLog) (detached : Bool) (freed : �
   }
 
   recovered_before : (is : Bool) → detached ≡ is → (settled : IsSettled process old detached from freed lives middle over) →
-      (quiet : Quiet process middle over more new there) → IsRecovered old is (quiet.events ++ settled.events) (quiet.taken ++ settled.taken)
+      (quiet : Quiet process middle over more new there) →
+      IsRecovered old is (quiet.events ++ settled.events) (quiet.taken ++ settled.taken)
   recovered_before true e settled quiet = λ bucket below.
       has_first (tries old.party bucket) settled.events quiet.events
       (subst (λ (d : Bool). IsRecovered old d settled.events settled.taken) e settled.recovered bucket below)
@@ -553,7 +574,8 @@ module _ (process : ℕ) (old middle new : FileLog) (detached : Bool) (freed : �
     gets = gets_on old middle new settled.events quiet.events settled.gets quiet.gets;
     taken = quiet.taken ++ settled.taken;
     walk = walk_on process old middle new from over there settled.taken quiet.taken settled.walk quiet.walk;
-    frees = let on = freed_on quiet.events settled.events in let one = quiet.frees in let two = settled.frees in omega (arith, on, one, two);
+    frees = let on = freed_on quiet.events settled.events in let one = quiet.frees in let two = settled.frees in
+        omega (arith, on, one, two);
     recovered = recovered_before detached refl settled quiet;
     settles = has_none calls.strays settled.taken quiet.taken settled.settles quiet.settles;
     counts = on_lives quiet.events settled.events more lives quiet.counts settled.counts;
@@ -579,7 +601,8 @@ module _ (process : ℕ) (old new : FileLog) (freed : ℕ) where
       (quiet_stays process new))
 
   module _ (last : FileLog) (parity : ℕ) (counted : IsCountedOn process new parity last) where
-    quiet_on : (party : ℕ) → new.party ≡ party → Quiet process new (Settled party) (counting parity counted.found) last (Settled party)
+    quiet_on : (party : ℕ) → new.party ≡ party →
+        Quiet process new (Settled party) (counting parity counted.found) last (Settled party)
     quiet_on party mine = subst (λ (p : ℕ). Quiet process new (Settled p) (counting parity counted.found) last (Settled p)) mine
         (quiet_counted process new last parity counted)
 
@@ -590,7 +613,9 @@ module _ (process : ℕ) (old new : FileLog) (freed : ℕ) where
         counted.found,
         subst (λ (p : ℕ). IsSettled process old false Outside freed (counting p counted.found) last (Settled old.party)) even
             (subst (λ events. IsSettled process old false Outside freed events last (Settled old.party))
-            (append_none (counting parity counted.found)) (settled_before process old new last false freed [] (counting parity counted.found) Outside (Settled old.party) (Settled old.party)
+            (append_none (counting parity counted.found))
+            (settled_before process old new last false freed [] (counting parity counted.found) Outside
+            (Settled old.party) (Settled old.party)
             (left_settled settled) (quiet_on old.party (party_on old new settled.events settled.gets)))),
       ),
       (counted.life, counted.is_life, subst (λ (p : ℕ). (counted.life % 2 ≡ p) ⊎ (counted.life ≡ max_life)) even counted.says),
@@ -604,10 +629,12 @@ module _ (process : ℕ) (old locked new : FileLog) (life freed : ℕ) (counted 
   party_locked : locked.party ≡ old.party
   party_locked = party_on old locked (StoreLife (life + 2) ∷ LoadLife life ∷ []) counted.0
 
-  settled_locked : (detached : Bool) → IsSettled process locked detached (Flags locked.party 0) freed [] new (Settled locked.party) →
+  settled_locked : (detached : Bool) →
+      IsSettled process locked detached (Flags locked.party 0) freed [] new (Settled locked.party) →
       IsSettled process old detached (Counting old.party) freed (locking life) new (Settled old.party)
   settled_locked detached settled =
-      settled_after process old locked new detached freed (locking life) [] (Counting old.party) (Flags old.party 0) (Settled old.party)
+      settled_after process old locked new detached freed (locking life) [] (Counting old.party) (Flags old.party 0)
+      (Settled old.party)
       (quiet_locked process old locked life counted)
       (subst (λ (p : ℕ). IsSettled process locked detached (Flags p 0) freed [] new (Settled p)) party_locked settled)
 
@@ -640,7 +667,8 @@ module _ (process : ℕ) (old locked new : FileLog) (life freed : ℕ) (counted 
             (Settled old.party) Outside
             (settled_before process old new last false freed (locking life) (counting 1 counted_on.found) (Counting old.party)
             (Settled old.party) (Settled old.party) (settled_locked false settled)
-            (subst (λ (p : ℕ). Quiet process new (Settled p) (counting 1 counted_on.found) last (Settled p)) mine (quiet_counted process new last 1 counted_on)))
+            (subst (λ (p : ℕ). Quiet process new (Settled p) (counting 1 counted_on.found) last (Settled p)) mine
+            (quiet_counted process new last 1 counted_on)))
             (subst (λ (p : ℕ). Quiet process last (Settled p) [] last Outside) mine' (quiet_stays process last)),
         (counted_on.life, counted_on.is_life, odd_life counted_on.life counted_on.says),
       )

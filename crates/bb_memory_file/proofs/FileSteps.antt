@@ -58,17 +58,20 @@ module _ (log : FileLog) (process : ℕ) (words : FileWords) (may : MayBe log pr
 pub allocates : (log : FileLog) (process bucket : ℕ) →
     IsStep log process Outside (ExchangeFlag bucket Free (HeldBy log.party)) (Allocate process log.party bucket) Outside
 allocates log process bucket words may found =
-    rw (own log process words may, flag_there words bucket Free found) (record { allowed = λ e. absurd (cc); words = refl; place = refl })
+    rw (own log process words may, flag_there words bucket Free found)
+    (record { allowed = λ e. absurd (cc); words = refl; place = refl })
 
 pub deallocates : (log : FileLog) (process bucket : ℕ) → is_clear (known_of log bucket) ≡ true →
     IsStep log process Outside (StoreFlag bucket Free) (Deallocate process log.party bucket) Outside
 deallocates log process bucket clear words may found =
-    rw (own log process words may, clear_in log process words may bucket clear) (record { allowed = λ e. absurd (cc); words = refl; place = refl })
+    rw (own log process words may, clear_in log process words may bucket clear)
+    (record { allowed = λ e. absurd (cc); words = refl; place = refl })
 
 pub detaches : (log : FileLog) (process bucket : ℕ) → is_clear (known_of log bucket) ≡ true →
     IsStep log process Outside (StoreFlag bucket (DetachedBy log.party)) (DetachNumber process log.party bucket) Outside
 detaches log process bucket clear words may found =
-    rw (own log process words may, clear_in log process words may bucket clear) (record { allowed = λ e. absurd (cc); words = refl; place = refl })
+    rw (own log process words may, clear_in log process words may bucket clear)
+    (record { allowed = λ e. absurd (cc); words = refl; place = refl })
 
 pub attaches : (log : FileLog) (process bucket from : ℕ) →
     IsStep log process Outside (ExchangeFlag bucket (DetachedBy from) (HeldBy log.party))
@@ -83,7 +86,8 @@ pub posts : (log : FileLog) (process slot bucket size : ℕ) → is_clear (known
     IsStep log process Outside (StoreEntry bucket (In slot size)) (Post process log.party slot bucket size)
     (Posting log.party slot bucket)
 posts log process slot bucket size clear words may found =
-    rw (own log process words may, clear_in log process words may bucket clear) (record { allowed = λ e. absurd (cc); words = refl; place = refl })
+    rw (own log process words may, clear_in log process words may bucket clear)
+    (record { allowed = λ e. absurd (cc); words = refl; place = refl })
 
 pub fills : (log : FileLog) (process slot bucket lap : ℕ) →
     IsStep log process (Posting log.party slot bucket) (ExchangeSlot slot (Empty lap) (Message lap bucket)) (Fill process lap)

@@ -1,16 +1,16 @@
 -- What a party notes after a search.
 use Rattle.bb_memory_file.specs.FileCalls.{AllocateSays, BeginsSearch}
 use Rattle.bb_memory_file.specs.FileCode.{FileLog}
-use Rattle.bb_memory_file.specs.FileNotes.{Allocates, InUse, JoinedParty, MissesFirst, Returns, Unheld}
+use Rattle.bb_memory_file.specs.FileNotes.{Allocates, InUse, JoinedParty, MissesFirst}
 use Rattle.bb_memory_pool_machine.specs.PoolHints.{hint_after}
 use Rattle.bb_memory_pool_machine.specs.declared.hint.Hint.{Hint}
 use Rattle.bb_memory_pool_machine.specs.declared.steps.pool.PoolOutcome.TheVariants as outcome
-use Rattle.std.proofs.Common.{List, None, Option, Some, [], ap, arith, length, refl, subst, sym, ℕ, ◌++◌, ◌∙◌, ◌∷◌, ◌≡◌}
+use Rattle.std.proofs.Common.{List, Some, [], ap, arith, length, subst, sym, ℕ, ◌++◌, ◌∙◌, ◌∷◌, ◌≡◌}
 use Rattle.std.proofs.lemmas.List.{length_push}
 use Rattle.std.specs.Prelude.{slice_set}
 
 -- no empty list ends with a bucket
-not_last : (cached before : List ℕ) (last : ℕ) → cached ≡ [] → ¬ (cached ≡ before ++ last ∷ [])
+pub not_last : (cached before : List ℕ) (last : ℕ) → cached ≡ [] → ¬ (cached ≡ before ++ last ∷ [])
 not_last cached before last none is = let long = length_push before last in absurd (omega (arith, ap length (sym none ∙ is)))
 
 module _ {W : Type 0} (log : W → FileLog) (before old : JoinedParty W) (misses : MissesFirst log before old) where
@@ -25,35 +25,19 @@ module _ {W : Type 0} (log : W → FileLog) (before old : JoinedParty W) (misses
 
   -- the later part of a search took a bucket
   pub later_took : (words : W) (hint : Hint) (bucket : ℕ) →
-      ((first : FileLog) → BeginsSearch first old.hint.bucket (log old.words) → AllocateSays first old.hint.bucket (Some bucket) (log words)) →
+      ((first : FileLog) → BeginsSearch first old.hint.bucket (log old.words) →
+      AllocateSays first old.hint.bucket (Some bucket) (log words)) →
       hint ≡ hint_after old.hint (outcome.Takes bucket) →
       Allocates log before (Some bucket) (record old { words = words; notes = slice_set old.notes bucket InUse; hint = hint })
   later_took words hint bucket says moved = record {
     cached = λ rest last is. absurd (not_last before.cached rest last misses.none_cached is);
     searched = λ none. (
-      subst (λ (h : Hint). AllocateSays (log before.words) h.bucket (Some bucket) (log words)) same_hint (says (log before.words) begun),
+      subst (λ (h : Hint). AllocateSays (log before.words) h.bucket (Some bucket) (log words)) same_hint
+          (says (log before.words) begun),
       λ i. record {
         words = words;
         notes = slice_set ((misses.unchanged i).notes) bucket InUse;
         hint = (moved ∙ ap (λ (h : Hint). hint_after h (outcome.Takes bucket)) same_hint) i;
-        cached = (misses.unchanged i).cached;
-        most = (misses.unchanged i).most;
-      },
-    );
-  }
-
-  -- it took none
-  pub later_missed : (words : W) →
-      ((first : FileLog) → BeginsSearch first old.hint.bucket (log old.words) → AllocateSays first old.hint.bucket None (log words)) →
-      Allocates log before None (record old { words = words })
-  later_missed words says = record {
-    cached = λ rest last is. absurd (not_last before.cached rest last misses.none_cached is);
-    searched = λ none. (
-      subst (λ (h : Hint). AllocateSays (log before.words) h.bucket None (log words)) same_hint (says (log before.words) begun),
-      λ i. record {
-        words = words;
-        notes = (misses.unchanged i).notes;
-        hint = (misses.unchanged i).hint;
         cached = (misses.unchanged i).cached;
         most = (misses.unchanged i).most;
       },

@@ -16,6 +16,7 @@ pub mod FileRunSteps
 pub mod FileRunTheorem
 pub mod FileSearches
 pub mod FileSettlers
+pub mod FileSlotWords
 pub mod FileSteps
 pub mod FileTakings
 pub mod FileWalks

@@ -3,14 +3,14 @@
 -- Each call takes some steps of the machine. A call that refuses says what it found: the events that
 -- its log gets are the operations that it made.
 use Rattle.bb_memory_file.specs.FileCode.{EmptySlot, Event, ExchangeFlag, ExchangeSlot, FileLog, Has, HasNot, Holds, IsWalk, Known, LoadEntry, LoadFlag, LoadLife, LoadSlot, MissFlag, MissSlot, Seen, StoreEntry, StoreFlag, StoreLife, Unknown, Unseen, known_of, life_by}
-use Rattle.bb_memory_file.specs.FileLog.{IsLap}
-use Rattle.bb_memory_file.specs.FileNames.{Allocate, AttachNumber, Count, Counting, Deallocate, DetachNumber, DetachedBy, Done, Empty, Entry, FileFlag, FileStep, Fill, Free, HeldBy, In, Leave, Message, Next, Nowhere, Outside, Place, Post, PutBack, Recover, SentTo, Settled, Take}
+use Rattle.bb_memory_file.specs.FileLog.{IsLap, seen_in}
+use Rattle.bb_memory_file.specs.FileNames.{Allocate, AttachNumber, Count, Counting, Deallocate, DetachNumber, DetachedBy, Done, Empty, Entry, FileFlag, FileStep, Fill, Free, HeldBy, In, Leave, Message, Next, Nowhere, Outside, Place, Post, PutBack, Recover, SentTo, Settled, Slot, Take}
 pub use Rattle.bb_memory_file.specs.declared.calls.Received.{Received}
 pub use Rattle.bb_memory_file.specs.declared.calls.Received.TheVariants as received
 pub use Rattle.bb_memory_file.specs.declared.calls.Whereabouts.{Whereabouts}
 pub use Rattle.bb_memory_file.specs.declared.calls.Whereabouts.TheVariants as whereabouts
 use Rattle.bb_memory_file_machine.specs.FileMachine.{same_flag}
-use Rattle.std.specs.Prelude.{Bool, List, None, Option, Some, [], false, if◌then◌else◌, nat_lt, not, true, ℕ, ◌%◌, ◌++◌, ◌+◌, ◌-◌, ◌<◌, ◌==◌, ◌^◌, ◌∷◌, ◌≡◌, ◌≢◌, ◌≤◌, ◌⊎◌}
+use Rattle.std.specs.Prelude.{Bool, List, None, Option, Some, [], false, if◌then◌else◌, nat_lt, not, suc, true, zero, ℕ, ◌%◌, ◌++◌, ◌+◌, ◌-◌, ◌<◌, ◌==◌, ◌^◌, ◌∷◌, ◌≡◌, ◌≢◌, ◌≤◌, ◌⊎◌}
 
 -- the call takes these steps, the last first; the process is in no call before it and after it
 abbrev pub Makes : ℕ → FileLog → List FileStep → FileLog → Type 0
@@ -27,19 +27,18 @@ has_some test (x ∷ xs) = if test x then true else has_some test xs
 
 -- BUCKETS
 
--- the event found that the bucket wasn't free
-abbrev pub misses : ℕ → Event → Bool
-misses bucket (MissFlag other Free) = other == bucket
-misses bucket event = false
+-- The events of a search that has tried this many buckets, from the bucket `first` on, each of them once, and
+-- has found that none was free.
+abbrev pub misses_from : ℕ → ℕ → List Event
+misses_from first zero = []
+misses_from first (suc count) = MissFlag (first + count) Free ∷ misses_from first count
 
--- one of these events found that the bucket wasn't free
-abbrev pub missed : ℕ → List Event → Bool
-missed bucket events = has_some (misses bucket) events
-
--- a search that begins at the bucket `first` comes to the bucket `other` before it comes to this one
-abbrev pub IsPassed : ℕ → ℕ → ℕ → Type 0
-IsPassed first bucket other =
-    ((first ≤ other) × (other < bucket)) ⊎ ((bucket < first) × ((first ≤ other) ⊎ (other < bucket)))
+-- The events of a search that has come to this bucket, from the bucket `first` on and then from bucket 0 on, and
+-- has found that none before it was free.
+abbrev pub misses_before : ℕ → ℕ → ℕ → List Event
+misses_before buckets first bucket =
+    if nat_lt bucket first then misses_from 0 bucket ++ misses_from first (buckets - first)
+    else misses_from first (bucket - first)
 
 -- the party knows that it has taken the bucket, which was free, and of each other bucket what it knew
 abbrev pub IsGained : FileLog → ℕ → FileLog → Type 0
@@ -47,31 +46,31 @@ IsGained old bucket new =
     (known_of new bucket ≡ Holds (Some Nowhere) Unseen)
     × ((other : ℕ) → other ≢ bucket → known_of new other ≡ known_of old other)
 
--- Of these buckets the call has taken the first that was free when it came there, or none was.
+-- The call has tried these buckets in order, each of them once. It has taken the first one that was free, and has
+-- tried none after that one; or none was free.
 abbrev pub SearchSays : FileLog → ℕ → ℕ → Option ℕ → FileLog → Type 0
 SearchSays old from to None new =
-    (events : List Event) × Gets old events new × ((process : ℕ) → Makes process old [] new)
-    × ((other : ℕ) → from ≤ other → other < to → missed other events ≡ true)
+    Gets old (misses_from from (to - from)) new × ((process : ℕ) → Makes process old [] new)
     × ((other : ℕ) → known_of new other ≡ known_of old other)
 SearchSays old from to (Some bucket) new =
-    (events : List Event) × Gets old events new
+    Gets old (ExchangeFlag bucket Free (HeldBy old.party) ∷ misses_from from (bucket - from)) new
     × ((process : ℕ) → Makes process old (Allocate process old.party bucket ∷ []) new)
-    × ((other : ℕ) → from ≤ other → other < bucket → missed other events ≡ true)
     × (from ≤ bucket) × (bucket < to) × IsGained old bucket new
 
--- Of all buckets, from the hint on, the call has taken the first that was free when it came there, or
--- none was.
-abbrev pub AllocateSays : FileLog → ℕ → Option ℕ → FileLog → Type 0
-AllocateSays old hint None new =
-    (events : List Event) × Gets old events new × ((process : ℕ) → Makes process old [] new)
-    × ((other : ℕ) → other < old.scene.buckets → missed other events ≡ true)
-    × ((other : ℕ) → known_of new other ≡ known_of old other)
-AllocateSays old hint (Some bucket) new =
-    (events : List Event) × Gets old events new
+-- The call has tried the buckets from `first` on, and then those from 0 on. It has taken the first one that was
+-- free, and has tried none after that one; or it has tried each bucket of the file, and none was free.
+abbrev pub AllocatesFrom : FileLog → ℕ → Option ℕ → FileLog → Type 0
+AllocatesFrom old first None new =
+    Gets old (misses_from 0 first ++ misses_from first (old.scene.buckets - first)) new
+    × ((process : ℕ) → Makes process old [] new) × ((other : ℕ) → known_of new other ≡ known_of old other)
+AllocatesFrom old first (Some bucket) new =
+    Gets old (ExchangeFlag bucket Free (HeldBy old.party) ∷ misses_before old.scene.buckets first bucket) new
     × ((process : ℕ) → Makes process old (Allocate process old.party bucket ∷ []) new)
-    × ((other : ℕ) → other < old.scene.buckets
-    → IsPassed (if nat_lt hint old.scene.buckets then hint else 0) bucket other → missed other events ≡ true)
     × (bucket < old.scene.buckets) × IsGained old bucket new
+
+-- A search begins at its hint, or at bucket 0 if the file has no such bucket.
+abbrev pub AllocateSays : FileLog → ℕ → Option ℕ → FileLog → Type 0
+AllocateSays old hint answer new = AllocatesFrom old (if nat_lt hint old.scene.buckets then hint else 0) answer new
 
 -- the call has tried the bucket at which a search begins, if the file has that bucket, and found that it
 -- wasn't free
@@ -200,6 +199,16 @@ IsAt bucket whereabouts.Entered new =
     (slot : ℕ) × (size : ℕ) × (known_of new bucket ≡ Holds (Some (In slot size)) (HasNot slot))
 IsAt bucket whereabouts.Nowhere new = (seen : Seen) × (known_of new bucket ≡ Holds (Some Nowhere) seen)
 
+-- By these looks, and no others, the party found where the bucket is: it has loaded the bucket's entry, and if
+-- the entry names a slot, the slot.
+abbrev pub IsLookedUp : ℕ → Whereabouts → List Event → Type 0
+IsLookedUp bucket (whereabouts.In slot lap) looks =
+    (length : ℕ) × (looks ≡ LoadSlot slot (Message lap bucket) ∷ LoadEntry bucket (In slot length) ∷ [])
+IsLookedUp bucket whereabouts.Entered looks =
+    (slot : ℕ) × (length : ℕ) × (word : Slot) × (looks ≡ LoadSlot slot word ∷ LoadEntry bucket (In slot length) ∷ [])
+    × (seen_in bucket slot word ≡ HasNot slot)
+IsLookedUp bucket whereabouts.Nowhere looks = looks ≡ LoadEntry bucket Nowhere ∷ []
+
 -- the call only looks, and knows where the bucket is
 pub record IsFound (old : FileLog) (bucket : ℕ) (answer : Whereabouts) (new : FileLog) : Type 0 where
   pub events : List Event
@@ -208,17 +217,21 @@ pub record IsFound (old : FileLog) (bucket : ℕ) (answer : Whereabouts) (new : 
   pub quiet : on_life events ≡ []
   pub looks : (process : ℕ) (here : Place) → IsWalk process old here new [] here
   pub found : IsAt bucket answer new
+  pub by : IsLookedUp bucket answer events
   pub others : (other : ℕ) → other ≢ bucket → unseen (known_of new other) ≡ unseen (known_of old other)
 
--- the call has put back the bucket, which a slot has, or has found that none has it; of each other
--- bucket the party knows what it knew
+-- The call has found where the bucket is, and if a slot has it, has put it back there. Of each other bucket the
+-- party knows what it knew.
 abbrev pub IsPutBack : ℕ → FileLog → ℕ → Whereabouts → FileLog → Type 0
 IsPutBack process old bucket (whereabouts.In slot lap) new =
     Makes process old (PutBack process old.party slot bucket ∷ []) new × (known_of new bucket ≡ Unknown)
     × ((other : ℕ) → other ≢ bucket → unseen (known_of new other) ≡ unseen (known_of old other))
+    × ((looks : List Event) × IsLookedUp bucket (whereabouts.In slot lap) looks
+    × Gets old (StoreFlag bucket (SentTo slot lap) ∷ looks) new)
 IsPutBack process old bucket found new =
     Makes process old [] new × IsAt bucket found new
     × ((other : ℕ) → other ≢ bucket → unseen (known_of new other) ≡ unseen (known_of old other))
+    × ((looks : List Event) × IsLookedUp bucket found looks × Gets old looks new)
 
 -- SETTLERS
 
@@ -254,7 +267,8 @@ IsRecovered old false events taken = has_some recovers taken ≡ false
 
 -- The call walks from one place to another, and gives back so many buckets. If it is to, it also takes
 -- back each bucket that the party has detached.
-pub record IsSettled (process : ℕ) (old : FileLog) (detached : Bool) (from : Place) (freed : ℕ) (lives : List Event) (new : FileLog) (there : Place) : Type 0 where
+pub record IsSettled (process : ℕ) (old : FileLog) (detached : Bool) (from : Place) (freed : ℕ) (lives : List Event)
+    (new : FileLog) (there : Place) : Type 0 where
   pub events : List Event
   pub gets : Gets old events new
   pub taken : List FileStep

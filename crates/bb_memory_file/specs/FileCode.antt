@@ -16,6 +16,7 @@ Finds words party (MissFlag bucket from) = is_flag words bucket from ≡ false
 Finds words party (LoadEntry bucket found) = IsEntry words bucket found
 Finds words party (LoadSlot slot found) = IsSlot words slot found
 Finds words party (ExchangeSlot slot from to) = IsSlot words slot from
+Finds words party (MissSlot slot from) = ¬ IsSlot words slot from
 Finds words party (LoadLife found) = IsLife words party found
 Finds words party event = Unit {0}
 
@@ -108,7 +109,8 @@ pub data Path (process : ℕ) (before : FileLog) (from : Place) : FileLog → Li
 
 -- The events that the log gets are these steps of the process, from one place to another. The log stays
 -- that of this party of this file.
-pub record IsWalk (process : ℕ) (old : FileLog) (from : Place) (new : FileLog) (taken : List FileStep) (there : Place) : Type 0 where
+pub record IsWalk (process : ℕ) (old : FileLog) (from : Place) (new : FileLog) (taken : List FileStep)
+    (there : Place) : Type 0 where
   pub path : Path process old from new taken there
   pub scene : new.scene ≡ old.scene
   pub party : new.party ≡ old.party

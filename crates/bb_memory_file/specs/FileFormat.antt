@@ -128,11 +128,15 @@ HasSlotWord (Message lap bucket) = IsLap lap × (bucket < 2 ^ 32 - 1)
 
 -- the lap that a slot's word says
 abbrev pub lap_at : ℕ → ℕ
-lap_at word = word / 2 ^ 32 % 2 ^ 30
+lap_at word = word / 2 ^ 32
 
--- the slot's word that a word says
+-- the slot's word that a word says: a word that is no slot's says that the slot has a bucket that no file
+-- has
 abbrev pub slot_in : ℕ → Slot
-slot_in word = if word % 2 ^ 32 == 0 then Empty (lap_at word) else Message (lap_at word) (word % 2 ^ 32 - 1)
+slot_in word =
+    if nat_lt word (2 ^ 62)
+    then (if word % 2 ^ 32 == 0 then Empty (lap_at word) else Message (lap_at word) (word % 2 ^ 32 - 1))
+    else Message 0 (2 ^ 32 - 1)
 
 -- EVENTS
 

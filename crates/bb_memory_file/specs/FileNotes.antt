@@ -76,7 +76,8 @@ IsRefusal (Some Undone) NotDone = Unit {0}
 IsRefusal _ _ = ⊥
 
 -- the call does this to the file, and notes this of the bucket
-abbrev pub Does : {W : Type 0} → (W → FileLog) → (ℕ → FileLog → FileLog → Type 0) → JoinedParty W → ℕ → Note → JoinedParty W → Type 0
+abbrev pub Does : {W : Type 0} → (W → FileLog) → (ℕ → FileLog → FileLog → Type 0) → JoinedParty W → ℕ → Note → JoinedParty W →
+    Type 0
 Does log call old bucket note new =
     ((process : ℕ) → call process (log old.words) (log new.words))
     × (new ≡ record old { words = new.words; notes = slice_set old.notes bucket note })

@@ -3,7 +3,8 @@
 --
 -- Whoever takes a number's lock is a process of its own here, from then on until it frees the lock, or
 -- is killed. So a program that joins with two numbers is two processes, and so is one that joins twice.
-use Rattle.bb_memory_file.specs.FileCode.{Event, Finds, Path}
+-- Whoever looks at the words without a lock is a process of its own, too.
+use Rattle.bb_memory_file.specs.FileCode.{ChangesNone, Event, Finds, Path}
 use Rattle.bb_memory_file.specs.FileCode as code
 use Rattle.bb_memory_file.specs.FileLog.{FileLog, fresh_log}
 use Rattle.bb_memory_file.specs.FileNames.{Counting, Dead, FileStep, Flags, Kill, Lock, Outside, Place, Refused, Release, Settled, Unlock}
@@ -14,7 +15,8 @@ use Rattle.std.specs.Prelude.{Contains, List, None, Some, [], if◌then◌else�
 -- ACTS
 
 -- What a process does to a file: it takes the lock of a party's number, makes an operation on a word by
--- this party, or frees the lock. It may be killed, after which the system frees the lock.
+-- this party, or frees the lock. It may be killed, after which the system frees the lock. A process with
+-- no lock may look at a word: at a life, as the party whose life it is.
 pub data Act : Type 0 where
   Locks : (process party : ℕ) → Act
   Operates : (process party : ℕ) → Event → Act
@@ -79,9 +81,12 @@ CanUnlock log = (process : ℕ) → (taken : List FileStep) × (here : Place)
     × Path process (fresh_log log.scene log.party) (Counting log.party) log taken here × MayUnlock log.party here
 
 -- Whatever a process does, by these acts it has come to this place of the machine. All that it does
--- with the lock is a path of steps, broken off anywhere.
+-- with the lock is a path of steps, broken off anywhere. A process that takes no lock only looks at
+-- words, and takes no step by that.
 pub data Life (scene : FileScene) (process : ℕ) : List Act → List FileStep → Place → Type 0 where
   sleeps : Life scene process [] [] Outside
+  looks : (party : ℕ) (event : Event) (acts : List Act) → Life scene process acts [] Outside → ChangesNone event →
+      Life scene process (Operates process party event ∷ acts) [] Outside
   works : (party : ℕ) (log : FileLog) (taken : List FileStep) (here : Place) →
       Path process (fresh_log scene party) (Counting party) log taken here →
       Life scene process (acts_of process log ++ Locks process party ∷ []) (taken ++ Lock process party ∷ []) here

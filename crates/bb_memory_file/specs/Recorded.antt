@@ -69,8 +69,7 @@ AreBelow hands (entry ∷ run) = (entry.0 < hands) × AreBelow hands run
 
 -- The words are what their beginning and a run give. The run has the record of each hand, in order,
 -- and each of its operations found what the record says.
-pub record IsRecorded (state : State ℕ (List WordEvent)) : Type 0 where
-  pub start : List ℕ
+pub record IsRecorded (start : List ℕ) (state : State ℕ (List WordEvent)) : Type 0 where
   pub run : Run
   pub words : state.words ≡ words_after start run
   pub found : AllFound start run
@@ -96,6 +95,10 @@ abbrev pub begins : Step ℕ → Me ℕ (List WordEvent) → ℕ → Me ℕ (Lis
 begins step me found after = after ≡ ([], [])
 
 -- HANDS
+
+-- the words as they were when they were made
+abbrev pub beginning_of : RecordedWords → List ℕ
+beginning_of words = words.table.shared.key.items
 
 -- the hand is one of these words
 abbrev pub IsHand : RecordedWords → Hand → Type 0

@@ -240,7 +240,8 @@ pub fn reap<W: Words>(words: &mut W, dead: bool, left: bool) -> Option<u32>
 /// or for the first time if it was killed before it had sent them. If `detached` is true, also gives
 /// back what it has detached. Returns how many buckets were given back.
 fn settle<W: Words>(words: &mut W, detached: bool) -> u32
-    ensures { (process : ℕ) → IsSettled process (W.log words.old) detached (Flags (W.log words.old).party 0) result [] (W.log words.new) (Settled (W.log words.old).party) }
+    ensures { (process : ℕ) → IsSettled process (W.log words.old) detached (Flags (W.log words.old).party 0) result []
+        (W.log words.new) (Settled (W.log words.old).party) }
 {
     let mut freed = 0;
     for bucket in 0..words.buckets() {

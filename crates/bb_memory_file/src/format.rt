@@ -97,12 +97,19 @@ pub(crate) fn slot_word(slot: Slot) -> u64
     }
 }
 
-/// Returns the word of a slot that a word says.
+/// Returns the word of a slot that a word says. A word that is no slot's says that the slot has a bucket
+/// that no file has.
 pub(crate) fn slot_in(word: u64) -> Slot
     ensures slot { result ≡ slot_in word }
     ensures lap { IsLap (lap_in result) }
 {
-    let lap = (word / HALF % LAPS) as u32;
+    if word >= LAPS * HALF {
+        return Slot::Message {
+            lap: 0,
+            bucket: u32::MAX,
+        };
+    }
+    let lap = (word / HALF) as u32;
     let bucket = word % HALF;
     if bucket == 0 {
         return Slot::Empty { lap };

@@ -4,7 +4,7 @@
 ghost use Rattle.bb_memory_file.specs.FileCalls.{IsLeave};
 ghost use Rattle.bb_memory_file.specs.FileLog.{FileLog};
 ghost use Rattle.bb_memory_file.specs.FileNotes.{Allocates, AreCached, Attaches, Caches, Deallocates, Detaches, Flushes, FreesLast, GivesAllBack, InUse, IsDoneWith, IsRefusal, JoinedParty, Joins, JoinsNot, MissesFirst, Posts, Reaps, Takes, Undone, Unheld, used_in};
-ghost use Rattle.std.specs.Prelude.{IfErr, IfNone, IfOk, IfSome, Some, [], length, replicate, slice_get, vec_capacity, ℕ, ◌<◌, ◌≡◌, ◌≤◌};
+ghost use Rattle.std.specs.Prelude.{IfErr, IfNone, IfOk, IfSome, IsOk, Some, [], length, replicate, slice_get, vec_capacity, ℕ, ◌<◌, ◌≡◌, ◌≤◌};
 
 use crate::calls;
 use crate::calls::{Received, Whereabouts};
@@ -72,6 +72,7 @@ fn notes_of(alloc: Global, buckets: u32) -> Result<Vec<Note>, AllocError>
 fn list_of(alloc: Global, most: u32) -> Result<Vec<u32>, AllocError>
     ensures items { IfOk result (λ list. list.items ≡ []) }
     ensures room { IfOk result (λ list. most ≤ vec_capacity list) }
+    ensures none { most ≡ 0 → IsOk result }
 {
     let gap = if most == 0 { 0 } else { CACHE_GAP };
     Vec::with_capacity(alloc, most as usize + gap)
@@ -134,11 +135,7 @@ impl<W: Words + Drop> Joined<W> {
     ///
     /// Fails if memory runs out. Then the number's life is counted, the words are given up, and nothing
     /// else is done to the file: the caller frees the lock right after.
-    pub fn join(
-        mut words: W,
-        alloc: Global,
-        hint: Hint,
-    ) -> Result<Result<Joined<W>, W>, AllocError>
+    pub fn join(mut words: W, alloc: Global, hint: Hint) -> Result<Result<Joined<W>, W>, AllocError>
         requires { (W.log words).events ≡ [] }
         ensures joined { IfOk result (λ joined. Joins W.log words hint joined) }
         ensures failed { IfErr result (λ _. JoinsNot W.unlocked (W.log words)) }
@@ -285,10 +282,11 @@ impl<W: Words + Drop> Joined<W> {
     }
 
     /// Gives back all cached buckets as `flush` does, and caches at most `most` from then on, or as many
-    /// as the file has if those are fewer. The list of the cached buckets takes memory. Fails if memory
-    /// runs out, and does nothing then.
+    /// as the file has if those are fewer. The list of the cached buckets takes memory, unless `most` is
+    /// 0. Fails if memory runs out, and does nothing then.
     pub fn cache(&mut self, alloc: Global, most: u32) -> Result<(), AllocError>
-        ensures { Caches W.log self.old most result self.new }
+        ensures caches { Caches W.log self.old most result self.new }
+        ensures none { most ≡ 0 → IsOk result }
     {
         let buckets = self.words.buckets();
         let most = if most < buckets { most } else { buckets };

@@ -4,13 +4,13 @@ ghost use Rattle.bb_memory_file.specs.FileFormat.{IsGeometry};
 ghost use Rattle.bb_memory_file.specs.FileNames.{FileStep, Place};
 ghost use Rattle.bb_memory_file.specs.FileOperations.{IsMade};
 ghost use Rattle.bb_memory_file.specs.FileParties.{among, scene_of, with_processes};
-ghost use Rattle.bb_memory_file.specs.FileRecords.{IsRecord, IsTold};
+ghost use Rattle.bb_memory_file.specs.FileRecords.{AreLives, IsMachinesRow, IsRecord, IsTold};
 ghost use Rattle.bb_memory_file.specs.FileRows.{IsEvent, Says};
 ghost use Rattle.bb_memory_file.specs.FileRuns.{Act, IsMachines, IsRun};
 ghost use Rattle.bb_memory_file.specs.Recorded.{IsFoundIn, Run, WordEvent};
 ghost use Rattle.bb_memory_file.specs.declared.geometry.FileGeometry.{FileGeometry};
 ghost use Rattle.bb_memory_file_machine.specs.FileMachine.{FileScene, FileWords, opening_state};
-ghost use Rattle.std.specs.Prelude.{List, length, replicate, ℕ, ◌<◌};
+ghost use Rattle.std.specs.Prelude.{List, Option, length, replicate, ℕ, ◌<◌};
 
 /// States that the code is the machine: whatever processes do to a file by these calls, in any order
 /// of their operations, killed anywhere, some steps of the machine leave the same words and locks,
@@ -35,11 +35,16 @@ pub fn words_law()
 {}
 
 /// States that the recorded operations of all hands on the words of a file, which began as a new
-/// file's, are true acts of processes, each of which has the log of its party. The function does
-/// nothing: its contract is the law.
+/// file's, are true acts of processes. Each of them has the log of its party, or looks. If the acts of
+/// each party's process are its life, some steps of the machine leave the words that the row says after
+/// the operations. The function does nothing: its contract is the law.
 pub fn recorded_law()
-    ensures told { (geometry : FileGeometry) (scene : FileScene) (parties : ℕ → ℕ) (start : List ℕ) (run : Run) (acts : List Act)
-        → IsRecord geometry scene parties start run acts → IsTold geometry scene parties start run acts }
+    ensures told { (geometry : FileGeometry) (scene : FileScene) (parties : ℕ → Option ℕ) (start : List ℕ) (run : Run)
+        (acts : List Act) → IsRecord geometry scene parties start run acts
+        → IsTold geometry scene parties start run acts }
+    ensures machine { (geometry : FileGeometry) (scene : FileScene) (parties : ℕ → Option ℕ) (start : List ℕ) (run : Run)
+        (acts : List Act) (taken : ℕ → List FileStep) (places : ℕ → Place) → IsRecord geometry scene parties start run acts
+        → AreLives scene parties acts taken places → IsMachinesRow geometry scene start run acts taken places }
 {}
 
 /// States that a path doesn't depend on the number of processes, so that the paths of a party are those

@@ -2,7 +2,7 @@
 //!
 //! The rule knows no protocol: the words are at any time what their beginning and some order of all
 //! recorded operations give, and each of these operations found what its record says.
-ghost use Rattle.bb_memory_file.specs.Recorded.{IsHand, exchange_event, load_event, recorded, store_event};
+ghost use Rattle.bb_memory_file.specs.Recorded.{IsHand, beginning_of, exchange_event, load_event, recorded, store_event};
 ghost use Rattle.std.specs.Prelude.{IfOk, [], length, ◌<◌, ◌∷◌, ◌≡◌};
 
 use atomic_table::{Play, Seat, Table, TableRule};
@@ -45,11 +45,11 @@ impl Model for Record {
 /// The rule that each operation is recorded.
 pub(crate) struct Recorded;
 
-impl TableRule<u8, Record, ()> for Recorded {
+impl TableRule<u8, Record, Vec<u64>> for Recorded {
     ghost use Rattle.bb_memory_file.specs.Recorded.{IsRecorded};
     ghost use Rattle.std.specs.Prelude.{[]};
 
-    ghost holds = { λ _ state. IsRecorded state };
+    ghost holds = { λ start state. IsRecorded start.items state };
 
     ghost first = { λ _. [] };
 }
@@ -93,7 +93,7 @@ impl Play<u8, Record> for Begins {
 /// The words.
 #[derive(Drop)]
 pub(crate) struct RecordedWords {
-    pub(crate) table: Table<u8, Record, (), Recorded, Global>,
+    pub(crate) table: Table<u8, Record, Vec<u64>, Recorded, Global>,
 }
 
 /// The right to operate on the words, with the record of these operations.
@@ -102,12 +102,16 @@ pub(crate) struct Hand {
     pub(crate) seat: Seat<u8, Record>,
 }
 
+/// Nobody operates by a shared hand.
+unsafe impl Sync for Hand {}
+
 impl RecordedWords {
     /// Makes words that begin as these.
-    pub(crate) fn new(alloc: Global, words: &[u64]) -> Result<RecordedWords, AllocError>
-        ensures { IfOk result (λ made. made.table.shared.table_id.words ≡ length words.now) }
+    pub(crate) fn new(alloc: Global, words: &Vec<u64>) -> Result<RecordedWords, AllocError>
+        ensures length { IfOk result (λ made. made.table.shared.table_id.words ≡ length words.now.items) }
+        ensures beginning { IfOk result (λ made. beginning_of made ≡ words.now.items) }
     {
-        let (table, _) = Table::of_words(alloc, words, &())?;
+        let (table, _) = Table::of_words(alloc, words.as_slice(), words)?;
         Ok(RecordedWords { table })
     }
 

@@ -3,51 +3,56 @@ ghost use Rattle.bb_memory_file.specs.FileFormat.{IsGeometry, entry_at, entry_in
 ghost use Rattle.bb_memory_file.specs.FileLog.{fresh_log};
 ghost use Rattle.bb_memory_file.specs.FileParties.{log_of, scene_of};
 ghost use Rattle.bb_memory_file.specs.FileTables.{HasLoaded};
-ghost use Rattle.std.specs.Prelude.{IfOk, IfSome, length, ℕ, ◌<◌, ◌≡◌};
+ghost use Rattle.bb_memory_file.specs.Recorded.{beginning_of};
+ghost use Rattle.std.specs.Prelude.{IfOk, IfSome, [], length, replicate, ℕ, ◌<◌, ◌≡◌};
 
 use crate::format;
 use crate::geometry::{FileGeometry, WORDS_FROM_SLOT_TO_SLOT};
 use crate::party::FileParty;
-use crate::recorded::RecordedWords;
+use crate::recorded::{Hand, RecordedWords};
 use bb_memory_file_machine::steps::{Entry, FileFlag, Slot};
 use std::alloc::{AllocError, Global};
 use std::marker::Model;
 use std::sync::Arc;
 
-/// The words of a file, which its parties share.
+/// The words of a file, which its parties share, and the looks at them from here.
 #[derive(Drop)]
 pub struct FileTable {
     words: Arc<RecordedWords, Global>,
+    looks: Hand,
     geometry: FileGeometry,
 }
 
 impl Model for FileTable {
     ghost use Rattle.bb_memory_file.specs.FileFormat.{IsGeometry};
+    ghost use Rattle.bb_memory_file.specs.FileOperations.{AreLooks};
     ghost use Rattle.bb_memory_file.specs.FileTables.{FileTable};
+    ghost use Rattle.bb_memory_file.specs.Recorded.{IsHand, recorded};
     ghost use Rattle.std.specs.Arc.{arc_value};
 
     ghost Value = { FileTable };
 
-    ghost view = { λ t. record { geometry = t.geometry; words = arc_value t.words } };
+    ghost view = { λ t. record { geometry = t.geometry; words = arc_value t.words; looks = recorded t.looks } };
 
-    ghost invariant = { λ t. IsGeometry t.geometry (arc_value t.words).table.shared.table_id.words };
+    ghost invariant = { λ t. IsGeometry t.geometry (arc_value t.words).table.shared.table_id.words
+        × IsHand (arc_value t.words) t.looks × ∥ AreLooks t.geometry (recorded t.looks) ∥₁ };
 }
 
 impl FileTable {
-    /// Makes the words of a file of this geometry, which begin as these. Fails if memory runs out.
+    /// Makes the words of a file of this geometry, which begin as these. Fails if memory runs out. The first
+    /// request for memory is for a copy of the words, which is freed, and the second is for the row.
     pub fn new(
         alloc: Global,
         words: &[u64],
         geometry: FileGeometry,
     ) -> Result<FileTable, AllocError>
         requires { IsGeometry geometry (length words.now) }
-        ensures { IfOk result (λ table. table.geometry ≡ geometry) }
+        ensures geometry { IfOk result (λ table. table.geometry ≡ geometry) }
+        ensures beginning { IfOk result (λ table. beginning_of table.words ≡ words.now) }
+        ensures empty { IfOk result (λ table. table.looks ≡ []) }
     {
-        let words = RecordedWords::new(alloc, words)?;
-        let Ok(words) = Arc::new(alloc, words) else {
-            return Err(AllocError);
-        };
-        Ok(FileTable { words, geometry })
+        let words = Vec::from_slice(alloc, words)?;
+        FileTable::of(alloc, &words, geometry)
     }
 
     /// Makes the words of a new file of this geometry, which are all 0. Fails if memory runs out. The
@@ -58,10 +63,31 @@ impl FileTable {
         geometry: FileGeometry,
     ) -> Result<FileTable, AllocError>
         requires { IsGeometry geometry words }
-        ensures { IfOk result (λ table. table.geometry ≡ geometry) }
+        ensures geometry { IfOk result (λ table. table.geometry ≡ geometry) }
+        ensures beginning { IfOk result (λ table. beginning_of table.words ≡ replicate words 0) }
+        ensures empty { IfOk result (λ table. table.looks ≡ []) }
     {
         let zeros = Vec::from_elem(alloc, 0, words)?;
-        FileTable::new(alloc, zeros.as_slice(), geometry)
+        FileTable::of(alloc, &zeros, geometry)
+    }
+
+    /// Makes the words of a file, which begin as these. Fails if memory runs out.
+    fn of(alloc: Global, words: &Vec<u64>, geometry: FileGeometry) -> Result<FileTable, AllocError>
+        requires { IsGeometry geometry (length words.now.items) }
+        ensures geometry { IfOk result (λ table. table.geometry ≡ geometry) }
+        ensures beginning { IfOk result (λ table. beginning_of table.words ≡ words.now.items) }
+        ensures empty { IfOk result (λ table. table.looks ≡ []) }
+    {
+        let words = RecordedWords::new(alloc, words)?;
+        let Ok(words) = Arc::new(alloc, words) else {
+            return Err(AllocError);
+        };
+        let looks = words.hand();
+        Ok(FileTable {
+            words,
+            looks,
+            geometry,
+        })
     }
 
     /// Returns the geometry of the file.
@@ -91,45 +117,41 @@ impl FileTable {
     }
 
     /// Returns the flag of a bucket, by a load.
-    pub fn flag(&self, bucket: u32) -> FileFlag
-        requires { bucket < self.now.geometry.buckets }
-        ensures { (word : ℕ) × HasLoaded self.now (flag_at self.now.geometry bucket) word × (result ≡ flag_in word) }
+    pub fn flag(&mut self, bucket: u32) -> FileFlag
+        requires { bucket < self.old.geometry.buckets }
+        ensures { (word : ℕ) × HasLoaded self.old (flag_at self.old.geometry bucket) word self.new
+            × (result ≡ flag_in word) }
     {
-        format::flag_in(self.load(self.geometry.first_flag + bucket as usize))
+        let at = self.geometry.first_flag + bucket as usize;
+        format::flag_in(self.words.load(&mut self.looks, at))
     }
 
     /// Returns the entry of a bucket, by a load.
-    pub fn entry(&self, bucket: u32) -> Entry
-        requires { bucket < self.now.geometry.buckets }
-        ensures { (word : ℕ) × HasLoaded self.now (entry_at self.now.geometry bucket) word
-            × (result ≡ entry_in self.now.geometry.slots word) }
+    pub fn entry(&mut self, bucket: u32) -> Entry
+        requires { bucket < self.old.geometry.buckets }
+        ensures { (word : ℕ) × HasLoaded self.old (entry_at self.old.geometry bucket) word self.new
+            × (result ≡ entry_in self.old.geometry.slots word) }
     {
-        let word = self.load(self.geometry.first_entry + bucket as usize);
-        format::entry_in(self.geometry.slots, word)
+        let at = self.geometry.first_entry + bucket as usize;
+        format::entry_in(self.geometry.slots, self.words.load(&mut self.looks, at))
     }
 
     /// Returns the word of a slot, by a load.
-    pub fn slot(&self, slot: u32) -> Slot
-        requires { slot < self.now.geometry.slots }
-        ensures { (word : ℕ) × HasLoaded self.now (slot_at self.now.geometry slot) word × (result ≡ slot_in word) }
+    pub fn slot(&mut self, slot: u32) -> Slot
+        requires { slot < self.old.geometry.slots }
+        ensures { (word : ℕ) × HasLoaded self.old (slot_at self.old.geometry slot) word self.new
+            × (result ≡ slot_in word) }
     {
-        format::slot_in(self.load(self.geometry.first_slot + WORDS_FROM_SLOT_TO_SLOT * slot as usize))
+        let at = self.geometry.first_slot + WORDS_FROM_SLOT_TO_SLOT * slot as usize;
+        format::slot_in(self.words.load(&mut self.looks, at))
     }
 
     /// Returns the life of a party's number, by a load.
-    pub fn life(&self, party: u32) -> u64
-        requires { party < self.now.geometry.parties }
-        ensures { HasLoaded self.now (life_at self.now.geometry party) result }
+    pub fn life(&mut self, party: u32) -> u64
+        requires { party < self.old.geometry.parties }
+        ensures { HasLoaded self.old (life_at self.old.geometry party) result self.new }
     {
-        self.load(self.geometry.first_life + party as usize)
-    }
-
-    /// Loads a word.
-    fn load(&self, word: usize) -> u64
-        requires { word < self.now.words.table.shared.table_id.words }
-        ensures { HasLoaded self.now word result }
-    {
-        let mut hand = self.words.hand();
-        self.words.load(&mut hand, word)
+        let at = self.geometry.first_life + party as usize;
+        self.words.load(&mut self.looks, at)
     }
 }

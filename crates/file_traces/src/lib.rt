@@ -1,4 +1,4 @@
-//! Traces of the C code of a pool in a file, which `trace.c` of the library for C writes: which
+//! Traces of the compiled code of a pool in a file, which `trace.c` of the library for C writes: which
 //! word or lock each instruction changed. The proved machine follows a trace, and has to change the
 //! same words.
 //!

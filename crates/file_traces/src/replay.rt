@@ -21,8 +21,8 @@ pub enum Difference {
     NotInTurn,
     /// Before the change, the word, the lock or the life wasn't as the line says.
     OtherBefore,
-    /// The machine's process, which is at this place, takes this step with this outcome. The C code
-    /// did something else.
+    /// The machine's process, which is at this place, takes this step with this outcome. The compiled
+    /// code did something else.
     OtherStep {
         place: Place,
         step: FileStep,

@@ -70,6 +70,9 @@ static void expect(bool holds, const char *what, int line) {
 static size_t requested;
 static size_t most = MOST_BYTES;
 
+// How many of the next requests for pages are ended by signals.
+static uint32_t interruptions;
+
 // False if the file system only says that it allocates pages.
 static bool allocates = true;
 
@@ -93,6 +96,10 @@ int fstatvfs(int fd, struct statvfs *to) {
 int posix_fallocate(int fd, off_t at, off_t length) {
     if (!allocates)
         return 0;
+    if (interruptions > 0) {
+        interruptions--;
+        return EINTR;
+    }
     requested += (size_t)length;
     if (requested > most)
         return ENOSPC;
@@ -226,6 +233,9 @@ int fstat(int fd, struct stat *to) {
     return result;
 }
 
+// How often the calls have freed locks.
+static uint32_t unlocks;
+
 // How often the calls have asked for the locks of others, and what is called before and after the
 // next time.
 static uint32_t looks_at_locks;
@@ -244,6 +254,8 @@ int fcntl(int fd, int command, ...) {
     va_start(arguments, command);
     void *argument = va_arg(arguments, void *);
     va_end(arguments);
+    if (command == F_OFD_SETLK)
+        unlocks += ((struct flock *)argument)->l_type == F_UNLCK;
     if (command != F_OFD_GETLK)
         return (int)syscall(SYS_fcntl, fd, command, argument);
     looks_at_locks++;
@@ -452,6 +464,7 @@ static void wrong_files(void) {
     EXPECT(code_of(path, &OPTIONS) == BB_OK);
     others_options();
     EXPECT(stat(path, &stat_of) == 0 && (stat_of.st_mode & 0777) == 0600);
+    EXPECT(info_of(file).options.mode == 0600);
     close_it(file);
     EXPECT(truncate(path, stat_of.st_size - 1) == 0);
     EXPECT(code_of(path, &OPTIONS) == BB_FILE_DAMAGED);
@@ -782,6 +795,9 @@ static void signals(void) {
     EXPECT(setitimer(ITIMER_PROF, &often, NULL) == 0);
     EXPECT(code_of(path, &large) == BB_OK);
     EXPECT(setitimer(ITIMER_PROF, &never, NULL) == 0);
+    remove_it();
+    interruptions = 3;
+    EXPECT(code_of(path, &OPTIONS) == BB_OK && interruptions == 0);
     remove_it();
 }
 
@@ -2203,6 +2219,58 @@ static void waits(void) {
     close_it(file);
 }
 
+// Any slot is full if one is, and empty if one is, whichever it is. So is it with buckets.
+static void any_of_them(void) {
+    bb_pool_file *file = open_it();
+    bb_file_party *party = join_it(file);
+    bb_place places[20];
+    for (uint32_t at = 0; at < 4; at++) {
+        EXPECT(bb_pool_file_wait_full(file, BB_ANY_SLOT, 0) == BB_FILE_TIMED_OUT);
+        const bb_place place = take_one(party);
+        EXPECT(bb_pool_file_post(file, party, at, place, 1) == BB_OK);
+        EXPECT(bb_pool_file_wait_full(file, BB_ANY_SLOT, 0) == BB_OK);
+        EXPECT(bb_pool_file_wait_empty(file, BB_ANY_SLOT, 0) == BB_OK);
+        EXPECT(bb_pool_file_take(file, party, at).place == place);
+        EXPECT(bb_pool_file_done(file, party, at) == BB_OK);
+        EXPECT(bb_file_party_deallocate(party, place) == BB_OK);
+    }
+    for (uint32_t slot = 0; slot < 4; slot++)
+        EXPECT(bb_pool_file_post(file, party, slot, take_one(party), 1) == BB_OK);
+    for (uint32_t at = 0; at < 4; at++) {
+        EXPECT(bb_pool_file_wait_empty(file, BB_ANY_SLOT, 0) == BB_FILE_TIMED_OUT);
+        const bb_place place = bb_pool_file_take(file, party, at).place;
+        EXPECT(bb_pool_file_done(file, party, at) == BB_OK);
+        EXPECT(bb_pool_file_wait_empty(file, BB_ANY_SLOT, 0) == BB_OK);
+        EXPECT(bb_pool_file_post(file, party, at, place, 1) == BB_OK);
+    }
+    EXPECT(bb_file_party_take_many(party, places, 20).number == 16);
+    for (int at = 0; at < 16; at++) {
+        EXPECT(bb_pool_file_wait_bucket(file, 0) == BB_FILE_TIMED_OUT);
+        EXPECT(bb_file_party_deallocate(party, places[at]) == BB_OK);
+        EXPECT(bb_pool_file_wait_bucket(file, 0) == BB_OK);
+        EXPECT(take_one(party) == places[at]);
+    }
+    close_it(file);
+    remove_it();
+}
+
+// A file without slots has no slot to wait for, not even any.
+static void waits_for_no_slot(void) {
+    bb_pool_file_options none = OPTIONS;
+    bb_pool_file *file;
+    int fd = -1;
+    none.slots = 0;
+    requested = 0;
+    EXPECT(bb_pool_file_open(&file, path, &none) == BB_OK && info_of(file).full_slots == 0);
+    EXPECT(bb_pool_file_wait_full(file, BB_ANY_SLOT, 0) == BB_INVALID_ARGUMENT);
+    EXPECT(bb_pool_file_wait_empty(file, BB_ANY_SLOT, 0) == BB_INVALID_ARGUMENT);
+    EXPECT(bb_pool_file_watch(file, &fd) == BB_OK);
+    EXPECT(bb_pool_file_arm(file, fd, BB_ANY_SLOT) == BB_INVALID_ARGUMENT && close(fd) == 0);
+    EXPECT(bb_pool_file_look(file, 0).code == BB_INVALID_ARGUMENT);
+    close_it(file);
+    remove_it();
+}
+
 // Runs a wait. Returns 1 if it lasts as long as one that nobody wakes, which sleeps for a tenth of
 // a second.
 static uint32_t is_late(uint32_t (*wait)(bb_pool_file *, uint32_t, uint32_t), bb_pool_file *file) {
@@ -2922,6 +2990,8 @@ static void reapers(void) {
 static void reaps(void) {
     bb_pool_file *file = open_it();
     bb_file_party *party = join_it(file);
+    // The life of this party is another one than those of the others.
+    EXPECT(bb_pool_file_leave(file, party) == BB_OK && join_it(file) == party);
     const bb_place mine = take_one(party);
     const pid_t living = holder(2);
     const pid_t dying = holder(3);
@@ -2974,7 +3044,7 @@ static void freed_in_child(void) {
     remove_it();
 }
 
-// How many requests for memory a join has begun, and how many of these have ended.
+// How many requests for memory a call has begun, and how many of these have ended.
 static uint32_t begun_requests;
 static uint32_t ended_requests;
 
@@ -2990,6 +3060,40 @@ static void *allocate_slowly(void *context, size_t size, size_t align) {
 static void *join_in_thread(void *file) {
     join_it(file);
     return NULL;
+}
+
+static bb_pool_file *opened;
+
+static void *open_in_thread(void *unused) {
+    (void)unused;
+    requested = 0;
+    EXPECT(bb_pool_file_open(&opened, path, &OPTIONS) == BB_OK);
+    return NULL;
+}
+
+// A fork waits until no thread is in the midst of an open. So a child has a copy of the whole
+// `bb_pool_file`.
+static void forked_beside_an_open(void) {
+    pthread_t thread;
+    opened = NULL;
+    begun_requests = 0;
+    ended_requests = 0;
+    bb_use_memory(allocate_slowly, release_plainly, NULL);
+    EXPECT(pthread_create(&thread, NULL, open_in_thread, NULL) == 0);
+    while (__atomic_load_n(&begun_requests, __ATOMIC_SEQ_CST) == 0)
+        sched_yield();
+    const pid_t child = child_of();
+    if (child == 0) {
+        EXPECT(begun_requests == ended_requests && opened != NULL);
+        EXPECT(bb_pool_file_wait_bucket(opened, 0) == BB_UNINITIALIZED);
+        close_it(opened);
+        _exit(0);
+    }
+    end(child);
+    EXPECT(pthread_join(thread, NULL) == 0);
+    bb_use_memory(allocate_plainly, release_plainly, NULL);
+    close_it(opened);
+    remove_it();
 }
 
 // A fork waits until no thread is in the midst of a join.
@@ -3011,6 +3115,98 @@ static void forked_beside_a_join(void) {
     end(child);
     EXPECT(pthread_join(thread, NULL) == 0);
     bb_use_memory(allocate_plainly, release_plainly, NULL);
+    close_it(file);
+    remove_it();
+}
+
+static void on_alarm(int unused) {
+    static const char text[] = "cases: a call waits for a lock that is never freed\n";
+    (void)unused;
+    if (write(STDERR_FILENO, text, sizeof text - 1) > 0)
+        _exit(1);
+    _exit(2);
+}
+
+// After an open and after a fork, nothing of the files in this process is locked: the next calls
+// don't wait.
+static void unlocked(void) {
+    const struct sigaction action = {.sa_handler = on_alarm};
+    struct sigaction before;
+    bb_pool_file *files[2];
+    const int fd = memfd_create("pool", MFD_CLOEXEC);
+    EXPECT(fd >= 0 && sigaction(SIGALRM, &action, &before) == 0);
+    const unsigned left = alarm(20);
+    for (int at = 0; at < 2; at++)
+        EXPECT(bb_pool_file_open_fd(&files[at], fd, &OPTIONS) == BB_OK);
+    const pid_t child = child_of();
+    if (child == 0)
+        _exit(0);
+    end(child);
+    for (int at = 0; at < 2; at++) {
+        join_it(files[at]);
+        EXPECT(reap(files[at], BB_REAP_HELD) == 0);
+        close_it(files[at]);
+    }
+    alarm(left);
+    EXPECT(sigaction(SIGALRM, &before, NULL) == 0 && close(fd) == 0);
+}
+
+// A close makes the parties leave that have joined, and frees their locks. Then it frees all locks
+// of its own open file. It changes nothing of a party that joined in another one with a number that
+// was free again: because the party here had left, or because a join had failed.
+static void closed_beside_others(void) {
+    bb_pool_file *file = open_it();
+    bb_pool_file *other = open_it();
+    bb_file_party *party = join_it(file);
+    bb_file_party *refused = NULL;
+    take_one(join_it(file));
+    EXPECT(bb_pool_file_leave(file, party) == BB_OK);
+    EXPECT(number_of(join_it(other)) == 0);
+    bb_use_memory(allocate, release, &blocks);
+    memory_requests = 0;
+    to_refuse = 1;
+    EXPECT(bb_pool_file_join(file, &refused) == BB_MALLOC_REFUSED);
+    to_refuse = 0;
+    bb_use_memory(allocate_plainly, release_plainly, NULL);
+    EXPECT(refused == NULL);
+    party = join_it(other);
+    const bb_place place = take_one(party);
+    const uint64_t life = life_of(other, 2);
+    EXPECT(number_of(party) == 2 && info_of(file).alive == 3 && info_of(file).held == 2);
+    unlocks = 0;
+    close_it(file);
+    EXPECT(unlocks == 2);
+    bb_pool_file *third = open_it();
+    EXPECT(is_alive(third, 0, life_of(third, 0)) && is_alive(third, 2, life));
+    EXPECT(reap(third, BB_REAP_DEAD | BB_REAP_LEFT) == 0 && life_of(third, 2) == life);
+    EXPECT(info_of(third).alive == 2 && info_of(third).held == 1 && holds(party, place));
+    close_it(third);
+    close_it(other);
+    remove_it();
+}
+
+// A forked child closes its copy. By then the descriptor is that of another open file, whose locks
+// stay.
+static void closed_in_child(void) {
+    bb_pool_file *file = open_it();
+    take_one(join_it(file));
+    const pid_t child = child_of();
+    if (child == 0) {
+        bb_pool_file *own = open_it();
+        take_one(join_it(own));
+        const uint64_t life = life_of(own, 1);
+        unlocks = 0;
+        close_it(file);
+        EXPECT(unlocks == 0);
+        bb_pool_file *third = open_it();
+        EXPECT(is_alive(third, 1, life) && reap(third, BB_REAP_DEAD | BB_REAP_LEFT) == 0);
+        EXPECT(info_of(third).alive == 2 && info_of(third).lost == 0 && info_of(third).held == 2);
+        close_it(third);
+        close_it(own);
+        _exit(0);
+    }
+    end(child);
+    EXPECT(info_of(file).held == 1 && info_of(file).alive == 1);
     close_it(file);
     remove_it();
 }
@@ -3476,6 +3672,7 @@ int main(int argc, char **argv) {
     alarm(LONGEST);  // a case that fails may wait for what doesn't come
     texts();
     unhandled_forks();
+    unlocked();
     passed();
     watched_memfd();
     for (int at = 1; at < argc; at++) {
@@ -3520,7 +3717,9 @@ int main(int argc, char **argv) {
         wrong_entries();
         by_number();
         one_wins();
+        any_of_them();
         waits();
+        waits_for_no_slot();
         ping();
         woken();
         two_woken();
@@ -3533,7 +3732,10 @@ int main(int argc, char **argv) {
         event_loop();
         reaps();
         forked();
+        closed_beside_others();
+        closed_in_child();
         freed_in_child();
+        forked_beside_an_open();
         forked_beside_a_join();
         orphans();
         executed();

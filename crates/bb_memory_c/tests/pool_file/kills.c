@@ -980,26 +980,38 @@ static bool pause_posted(bb_pool_file *ours, bb_file_party *party, uint32_t step
 }
 
 // While a look is stopped, a party takes the message, is done with it, and posts its bucket with
-// another length: to another slot, to the same one, or to both. The look finds a message that the
-// slot had, with its length.
+// another length: to the same slot, to another one, or to both. Or it posts another bucket to the
+// slot. The look finds a message that the slot had, with its length, or that the slot is empty.
 static bool pause_look(bb_pool_file *ours, bb_file_party *party, uint32_t steps) {
+    enum {
+        TO_THE_SAME,
+        TO_ANOTHER,
+        TO_BOTH,
+        OF_ANOTHER,
+        WAYS
+    };
+
+    const uint32_t later[WAYS] = {33, NO_LENGTH + BB_DETACHED_EMPTY, 33, 22};
+    const uint32_t way = steps % WAYS;
     const bb_chunk chunk = bb_file_party_take(party);
     EXPECT(bb_pool_file_post(ours, party, 0, chunk.place, 44) == BB_OK);
     const pid_t child = start(NOTES_LOOK, 0);
     const bool ended = go(child, steps);
     EXPECT(bb_pool_file_take(ours, party, 0).len == 44);
     EXPECT(bb_pool_file_done(ours, party, 0) == BB_OK);
-    if (steps % 3 > 0) {
+    if (way == TO_ANOTHER || way == TO_BOTH) {
         EXPECT(bb_pool_file_post(ours, party, 1, chunk.place, 17) == BB_OK);
         EXPECT(bb_pool_file_take(ours, party, 1).len == 17);
     }
-    if (steps % 3 == 2)
+    if (way == TO_BOTH)
         EXPECT(bb_pool_file_done(ours, party, 1) == BB_OK);
-    if (steps % 3 != 1)
+    if (way == TO_THE_SAME || way == TO_BOTH)
         EXPECT(bb_pool_file_post(ours, party, 0, chunk.place, 33) == BB_OK);
+    if (way == OF_ANOTHER)
+        EXPECT(bb_pool_file_post(ours, party, 0, bb_file_party_take(party).place, 22) == BB_OK);
     if (!ended)
         go_on(child);
-    EXPECT(*noted == 44 || *noted == (steps % 3 == 1 ? NO_LENGTH + BB_DETACHED_EMPTY : 33));
+    EXPECT(*noted == 44 || *noted == later[way]);
     end_killed(child);
     return ended;
 }

@@ -6,6 +6,7 @@ use bb_memory_file::geometry::FileGeometry;
 use bb_memory_file::joined::{Joined, Refusal, Taken};
 use bb_memory_file::party::FileParty;
 use bb_memory_file::table::FileTable;
+use bb_memory_pool_machine::hint::Hint;
 use std::process::Abort;
 
 /// Three buckets, one slot and two parties.
@@ -27,12 +28,13 @@ fn made(rt: &(impl Abort + AllocGlobal)) -> FileTable
     table.expect(rt, "there is memory for the words")
 }
 
-/// Joins as this number.
+/// Joins as this number. The party's first search begins at bucket 0.
 fn joined(rt: &(impl Abort + AllocGlobal), table: &FileTable, number: u32) -> Joined<FileParty>
     requires { number < table.now.geometry.parties }
 {
     let party = table.party(number).expect(rt, "there are few parties");
-    let joined = Joined::join(party, rt.alloc()).ok();
+    let hint = Hint::first(3, 1, 8, 0);
+    let joined = Joined::join(party, rt.alloc(), hint).ok();
     let joined = joined.expect(rt, "there is memory for the notes").ok();
     joined.expect(rt, "the number's life isn't over")
 }
@@ -67,11 +69,11 @@ fn a_party_refuses_what_it_does_not_hold(rt: HostRuntime) {
     let table = made(rt);
     let mut one = joined(rt, &table, 0);
     let mut other = joined(rt, &table, 1);
-    same(rt, one.allocate(0), Some(0));
-    same(rt, other.allocate(0), Some(1));
+    same(rt, one.allocate(), Some(0));
+    same(rt, other.allocate(), Some(1));
     same(rt, other.deallocate(0), Err(Refusal::NotHeld));
     same(rt, other.deallocate(3), Err(Refusal::NotABucket));
-    same(rt, other.detach(1), Ok(()));
+    same(rt, other.detach(1), Ok(None));
     same(rt, other.attach(0), Ok(false));
     same(rt, one.attach(1), Ok(true));
     same(rt, other.attach(1), Ok(false));
@@ -90,18 +92,17 @@ fn a_message_is_undone_until_its_taker_is_done(rt: HostRuntime) {
         length: 7,
     };
     same(rt, take(&mut taker, 0), Some(Taken::Empty));
-    same(rt, sender.allocate(0), Some(0));
+    same(rt, sender.allocate(), Some(0));
     same(rt, post(&mut sender, 0, 0), Some(Ok(true)));
     same(rt, sender.deallocate(0), Err(Refusal::NotHeld));
     same(rt, take(&mut taker, 0), Some(message));
     same(rt, take(&mut taker, 0), Some(Taken::NotSent));
     same(rt, taker.deallocate(0), Err(Refusal::NotDone));
-    same(rt, taker.detach(0), Ok(()));
+    same(rt, taker.detach(0), Ok(Some(0)));
     same(rt, take(&mut taker, 0), Some(message));
     same(rt, done(&mut sender, 0), Some(false));
     same(rt, done(&mut taker, 0), Some(true));
     same(rt, done(&mut taker, 0), Some(false));
     same(rt, taker.deallocate(0), Ok(()));
-    let (_, freed) = sender.leave();
-    same(rt, freed, 0);
+    same(rt, sender.leave(), 0);
 }

@@ -1,14 +1,16 @@
 //! The words of a file as parties load, exchange and store them.
 ghost use Rattle.bb_memory_file.specs.FileLog.{IsLap, IsSaid};
-ghost use Rattle.std.specs.Prelude.{IfOk, ◌<◌, ◌≡◌};
+ghost use Rattle.bb_memory_file.specs.FileParties.{log_of};
+ghost use Rattle.std.specs.Prelude.{IfOk, [], ◌<◌, ◌≡◌};
 
 use super::checks::{check, same};
-use bb_memory_file::calls::{join, leave};
 use bb_memory_file::geometry::FileGeometry;
+use bb_memory_file::joined::{Joined, reap};
 use bb_memory_file::party::FileParty;
 use bb_memory_file::table::FileTable;
 use bb_memory_file::words::Words;
 use bb_memory_file_machine::steps::{Entry, FileFlag, Slot};
+use bb_memory_pool_machine::hint::Hint;
 use std::alloc::{AllocError, Global};
 use std::process::Abort;
 
@@ -46,6 +48,7 @@ fn made(rt: &(impl Abort + AllocGlobal), words: [u64; 10]) -> FileTable
 /// Makes a party of this number.
 fn party(rt: &impl Abort, table: &FileTable, number: u32) -> FileParty
     requires { number < table.now.geometry.parties }
+    ensures { (log_of result).events ≡ [] }
 {
     let party = table.party(number);
     party.expect(rt, "there are few parties")
@@ -288,9 +291,9 @@ fn a_new_file_is_empty(rt: HostRuntime) {
 }
 
 /// Party 0 holds bucket 0, whose entry names a slot that doesn't have the bucket, and bucket 1, which is
-/// in its slot. It has detached bucket 2.
+/// in its slot. It has detached bucket 2, and is settled then. The next party joins.
 #[test]
-fn a_party_leaves_what_it_holds(rt: HostRuntime) {
+fn a_reap_frees_what_a_party_held(rt: HostRuntime) {
     let rt = &rt;
     let (held_by_0, detached_by_0) = (1, 2);
     let (in_slot_0, in_slot_1) = (30064771073, 30064771074);
@@ -310,11 +313,11 @@ fn a_party_leaves_what_it_holds(rt: HostRuntime) {
             0,
         ],
     );
-    let mut leaver = party(rt, &table, 0);
-    same(rt, leave(&mut leaver), 1);
-    same(rt, leaver.load_life(), 4);
+    same(rt, reap(party(rt, &table, 0), false, false).ok(), Some(1));
+    same(rt, party(rt, &table, 0).load_life(), 5);
+    let joined = Joined::join(party(rt, &table, 1), rt.alloc(), Hint::first(3, 1, 8, 0));
+    check(rt, matches!(joined, Ok(Ok(_))));
     let mut other = party(rt, &table, 1);
-    check(rt, join(&mut other));
     same(rt, other.load_life(), 3);
     same(rt, flag(&mut other, 0), Some(FileFlag::Free));
     same(rt, entry(&mut other, 0), Some(Entry::Nowhere));

@@ -1,6 +1,5 @@
 use Rattle.bb_memory_c.proofs.file.file_slot.Goals as goal
 use Rattle.bb_memory_c_calls.proofs.OpenHandles.{answers}
-use Rattle.std.proofs.Common.{refl}
 
 pub returns-in-Some : goal.returns-in-Some
-returns-in-Some c = answers c.in-Some.ensures.value (c.made_mut.follows.holds _) (c.slot.ensures, refl)
+returns-in-Some c = answers c.in-Some.ensures.value (c.made_mut.follows.holds _) c.slot.ensures

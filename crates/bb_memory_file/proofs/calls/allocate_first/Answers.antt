@@ -7,7 +7,8 @@ use Rattle.std.proofs.Common.{Bool, Some, false, true, ℕ, ◌<◌, ◌≡◌}
 use Rattle.std.specs.Prelude.{MatchBool}
 
 -- what an exchange of the first bucket says
-answers : (old new : FileLog) (hint buckets party : ℕ) (won : Bool) → buckets ≡ old.scene.buckets → hint < buckets → party ≡ old.party →
+answers : (old new : FileLog) (hint buckets party : ℕ) (won : Bool) → buckets ≡ old.scene.buckets → hint < buckets →
+    party ≡ old.party →
     MatchBool won (new ≡ told old (ExchangeFlag hint Free (HeldBy party))) (new ≡ told old (MissFlag hint Free)) →
     MatchBool won (AllocateSays old hint (Some hint) new) (BeginsSearch old hint new)
 answers old new hint buckets party true all below mine is = first_taken old new hint buckets all below party mine is

@@ -1,7 +1,7 @@
 use Rattle.bb_memory_file.proofs.FileSearches.{found_anywhere, found_before, found_behind, search_takes, takes_on}
 use Rattle.bb_memory_file.proofs.calls.allocate_later.Goals as goal
 use Rattle.bb_memory_file.specs.FileCode.{FileLog}
-use Rattle.std.proofs.Common.{Some, ap, arith, sym, ◌∙◌, ◌≡◌, ◌≤◌}
+use Rattle.std.proofs.Common.{Some, ap, arith, ◌∙◌}
 
 pub returns-then-hint-buckets-clause-answer : goal.returns-then-hint-buckets-clause-answer
 returns-then-hint-buckets-clause-answer g c before begun =
@@ -23,7 +23,8 @@ returns-in-Some-clause-answer g c before begun =
 pub returns-in-Some-clause-takes : goal.returns-in-Some-clause-takes
 returns-in-Some-clause-takes g c =
     let all = c.buckets-buckets.ensures in
-    search_takes (g.W.Words.log c.args.words.now) _ _ c.buckets-buckets.result (Some c.in-Some.bucket) (omega (arith, all)) c.in-Some.ensures
+    search_takes (g.W.Words.log c.args.words.now) _ _ c.buckets-buckets.result (Some c.in-Some.bucket)
+    (omega (arith, all)) c.in-Some.ensures
 
 pub returns-clause-answer : goal.returns-clause-answer
 returns-clause-answer g c before begun =
@@ -36,7 +37,7 @@ pub returns-clause-takes : goal.returns-clause-takes
 returns-clause-takes g c =
     let all = c.buckets-buckets.ensures in
     let below = c.if-hint-buckets.false in
-    let same = ap (λ (log : FileLog). log.scene.buckets) c.in_default.ensures.1 in
+    let same = ap (λ (log : FileLog). log.scene.buckets) c.in_default.ensures.0 in
     takes_on (g.W.Words.log c.args.words.now) (g.W.Words.log c.search-2.new.words) (g.W.Words.log c.search-3.new.words) _ _
     c.search-3.result c.in_default.ensures
     (search_takes _ _ 0 c.args.hint c.search-3.result (omega (arith, all, below, same)) c.search-3.ensures)

@@ -4,7 +4,10 @@ use Rattle.bb_memory_file.specs.FileCode.{FileLog}
 use Rattle.std.proofs.Common.{ap, arith}
 
 pub loop-bucket-init : goal.loop-bucket-init
-loop-bucket-init g c = record { searched = searched_none (g.W.Words.log c.args.words.now) c.args.from }
+loop-bucket-init g c = record {
+  searched = searched_none (g.W.Words.log c.args.words.now) c.args.from;
+  most = c.requires.order;
+}
 
 pub exchange_flag-requires-clause-below : goal.exchange_flag-requires-clause-below
 exchange_flag-requires-clause-below g c =
@@ -21,9 +24,10 @@ pub loop-bucket-preserved : goal.loop-bucket-preserved
 loop-bucket-preserved g c = record {
   searched = searched_on (g.W.Words.log c.args.words.now) (g.W.Words.log c.loop-bucket.words) _ c.args.from c.loop-bucket.bucket
       c.loop-bucket.invariant.searched c.if-exchange_flag.ensures;
+  most = (let less = c.loop-bucket-test.true in omega (arith, less));
 }
 
 pub returns : goal.returns
 returns g c =
     searched_all (g.W.Words.log c.args.words.now) (g.W.Words.log c.loop-bucket.words) c.args.from c.args.to c.loop-bucket.bucket
-    c.loop-bucket.invariant.searched c.loop-bucket-test.false
+    c.loop-bucket.invariant.searched c.loop-bucket.invariant.most c.loop-bucket-test.false

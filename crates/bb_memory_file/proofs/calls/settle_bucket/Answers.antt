@@ -19,9 +19,11 @@ pub returns : goal.returns
 returns g c process =
     let old = g.W.Words.log c.args.words.now in
     elim c.match-find.branch [
-      | in-Entered w ↦ cleared process old c.args.bucket c.requires _ _ c.load_flag.result c.load_flag.ensures _ _ w.in-Entered.ensures
+      | in-Entered w ↦ cleared process old c.args.bucket c.requires _ _ c.load_flag.result c.load_flag.ensures _ _
+          w.in-Entered.ensures
           w.store_entry.ensures
           (c.store_flag-2.ensures ∙ ap (λ words. told (g.W.Words.log words) (StoreFlag c.args.bucket Free)) w.words-is)
-      | in-Nowhere w ↦ given_back process old c.args.bucket c.requires _ _ c.load_flag.result c.load_flag.ensures _ w.in-Nowhere.ensures
+      | in-Nowhere w ↦ given_back process old c.args.bucket c.requires _ _ c.load_flag.result c.load_flag.ensures _
+          w.in-Nowhere.ensures
           (c.store_flag-2.ensures ∙ ap (λ words. told (g.W.Words.log words) (StoreFlag c.args.bucket Free)) w.words-is)
     ]

@@ -19,12 +19,12 @@ returns-then-len-size c =
     let slots : c.args.slot < slots_of c.args.self.now = search rules in
     let told = c.in-Ok.ensures in
     post-too-large c.args.self.now c.args.slot c.args.place c.args.len slots c.in-Ok.number told.there told.done (λ fits.
-        elim c.then-len-size.branch [
-          | then-len-size-via-then-len-size w ↦
-              let same : c.size.result ≡ c.args.self.now.places.bucket.size = search rules in
-              absurd (omega (arith, fits.0, same, w.if-len-size.true))
-          | then-len-size-via-else-len-size+then-len w ↦ absurd (omega (arith, fits.1, w.if-len.true))
-        ])
+    elim c.then-len-size.branch [
+      | then-len-size-via-then-len-size w ↦
+          let same : c.size.result ≡ c.args.self.now.places.bucket.size = search rules in
+          absurd (omega (arith, fits.0, same, w.if-len-size.true))
+      | then-len-size-via-else-len-size+then-len w ↦ absurd (omega (arith, fits.1, w.if-len.true))
+    ])
 
 pub invariant_of-self : goal.invariant_of-self
 invariant_of-self c = c.self.invariant
@@ -37,9 +37,9 @@ returns c =
     let same : c.size.result ≡ c.args.self.now.places.bucket.size = search rules in
     let fits : Fits c.args.self.now c.args.len = (omega (arith, same, c.if-len-size.false), omega (arith, c.if-len.false)) in
     let at_view : (told : Result Bool Refusal) → c.post.result ≡ told
-        → Posts log_of c.args.self.now.party c.args.slot c.in-Ok.number c.args.len told c.post.new.self =
+    → Posts log_of c.args.self.now.party c.args.slot c.in-Ok.number c.args.len told c.post.new.self =
     λ told is. subst (λ (f : JoinedFile). Posts log_of f.party c.args.slot c.in-Ok.number c.args.len told c.post.new.self)
-        c.self.view_is (rw is at c.post.ensures) in
+    c.self.view_is (rw is at c.post.ensures) in
     let becomes = ap (λ (f : JoinedFile). record f { party = c.post.new.self }) c.self.view_is in
     subst (λ (after : JoinedFile). TellsPost c.args.self.now c.args.slot c.args.place c.args.len c.match-post.result after)
     (sym becomes) (elim c.match-post.branch [

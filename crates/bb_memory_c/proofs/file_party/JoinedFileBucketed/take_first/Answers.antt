@@ -10,9 +10,12 @@ below : (c : goal.After-chunk-arg-1) → c.in_ok-number.number < c.self.inside.p
 below c =
     let long = rw (← c.self.view_is) at c.invariant.ensures.noted in
     let cached = rw (← c.self.view_is) at c.invariant.ensures.cached in
-    omega (arith, c.self.invariant,
-        allocated-below c.self.inside.party c.in_ok-number.number c.allocate_first.new.self cached (long ∙ c.self.invariant)
-        c.in_ok-number.ensures.taken)
+    omega (
+      arith,
+      c.self.invariant,
+      allocated-below c.self.inside.party c.in_ok-number.number c.allocate_first.new.self cached (long ∙ c.self.invariant)
+          c.in_ok-number.ensures.taken,
+    )
 
 pub chunk-requires-clause-below : goal.chunk-requires-clause-below
 chunk-requires-clause-below c = below c

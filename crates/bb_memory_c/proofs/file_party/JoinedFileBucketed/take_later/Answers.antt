@@ -1,6 +1,4 @@
-use Rattle.bb_memory_c.proofs.FileParties.{allocated-below, allocated-same}
 use Rattle.bb_memory_c.proofs.file_party.JoinedFileBucketed.take_later.Goals as goal
-use Rattle.std.proofs.Common.{Some, arith, refl, rules, sym, ◌<◌, ◌∙◌}
 
 pub allocate_later-requires : goal.allocate_later-requires
 allocate_later-requires c =

@@ -14,8 +14,12 @@ pub chunk-requires-clause-below : goal.chunk-requires-clause-below
 chunk-requires-clause-below c =
     let long = rw (← c.self.view_is) at c.invariant.ensures.noted in
     let cached = rw (← c.self.view_is) at c.invariant.ensures.cached in
-    omega (arith, c.self.invariant, allocated-below c.self.inside.party c.in-Some.number c.allocate.new.self cached
-    (long ∙ c.self.invariant) c.in-Some.ensures)
+    omega (
+      arith,
+      c.self.invariant,
+      allocated-below c.self.inside.party c.in-Some.number c.allocate.new.self cached
+          (long ∙ c.self.invariant) c.in-Some.ensures,
+    )
 
 pub invariant_of-self-2 : goal.invariant_of-self-2
 invariant_of-self-2 c = c.self.invariant
@@ -30,8 +34,13 @@ returns c =
     let process_has = ap (λ (f : JoinedFile). f.places.buckets) c.self.view_is in
     let long = c.invariant.ensures.noted in
     let same : length c.args.self.now.party.notes ≡ buckets_of c.args.self.now.party = omega (arith, long, file_has, process_has, c.self.invariant) in
-    let room : number < c.args.self.now.places.buckets = omega (arith, file_has, process_has, c.self.invariant,
-    allocated-below c.args.self.now.party number c.allocate.new.self c.invariant.ensures.cached same did) in
+    let room : number < c.args.self.now.places.buckets = omega (
+      arith,
+      file_has,
+      process_has,
+      c.self.invariant,
+      allocated-below c.args.self.now.party number c.allocate.new.self c.invariant.ensures.cached same did,
+    ) in
     let becomes = ap (λ (f : JoinedFile). record f { party = c.allocate.new.self }) c.self.view_is in
     let within = subst (λ (f : JoinedFile). IsWithin f.places.bucket c.args.layout) c.self.view_is c.in_ok-admit.ensures in
     (within, (number, room, search rules, (did, becomes)))

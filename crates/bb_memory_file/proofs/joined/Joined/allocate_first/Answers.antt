@@ -16,7 +16,8 @@ invariant_of-self g c =
     let rest = c.pop.new.self.items in
     let last = c.in-Some.bucket in
     let long = length_push rest last in
-    let was = last_cached c.self.inside.notes.items c.self.inside.cached.items rest last c.self.invariant.1 c.in-Some.ensures.items in (
+    let was = last_cached c.self.inside.notes.items c.self.inside.cached.items rest last c.self.invariant.1
+    c.in-Some.ensures.items in (
       after_popped _ c.self.inside.notes.items last c.self.invariant.0 was,
       cached_less c.self.inside.notes.items c.self.inside.cached.items rest last InUse c.self.invariant.1 c.in-Some.ensures.items
           in_use_apart,

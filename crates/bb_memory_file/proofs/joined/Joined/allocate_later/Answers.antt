@@ -2,8 +2,8 @@ use Rattle.bb_memory_file.proofs.FileCaches.{cached_still_none, in_use_apart}
 use Rattle.bb_memory_file.proofs.FileNotes.{after_allocate, after_no_allocate}
 use Rattle.bb_memory_file.proofs.FileTakings.{later_took, none_left}
 use Rattle.bb_memory_file.proofs.joined.Joined.allocate_later.Goals as goal
-use Rattle.bb_memory_file.specs.FileNotes.{InUse, JoinedParty, MissesFirst}
-use Rattle.std.proofs.Common.{[], arith, subst, sym, ◌≡◌}
+use Rattle.bb_memory_file.specs.FileNotes.{InUse}
+use Rattle.std.proofs.Common.{[], ◌≡◌}
 
 pub invariant_of-self : goal.invariant_of-self
 invariant_of-self g c = (

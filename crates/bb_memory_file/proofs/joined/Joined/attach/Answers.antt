@@ -2,15 +2,16 @@ use Rattle.bb_memory_file.proofs.FileCaches.{cached_while, in_use_apart, unheld_
 use Rattle.bb_memory_file.proofs.FileNotes.{after_attach, after_no_attach}
 use Rattle.bb_memory_file.proofs.joined.Joined.attach.Goals as goal
 use Rattle.bb_memory_file.specs.FileNotes.{InUse, Unheld}
-use Rattle.std.proofs.Common.{Some, inl, refl, ◌≡◌}
+use Rattle.std.proofs.Common.{Some, inl, inr, refl, rules, ◌≡◌}
 use Rattle.std.specs.Prelude.{slice_get}
 
 pub invariant_of-self : goal.invariant_of-self
 invariant_of-self g c =
     let was : slice_get c.args.self.now.notes c.args.bucket ≡ Some Unheld = cc in (
       after_attach _ _ c.self.inside.notes.items c.self.invariant.0 c.args.bucket (rw (← c.self.view_is) at was)
-    c.if-is_attached.ensures,
-      cached_while c.self.inside.notes.items c.self.inside.cached.items c.args.bucket Unheld InUse c.self.invariant.1 (rw (← c.self.view_is) at was) unheld_apart in_use_apart,
+          c.if-is_attached.ensures,
+      cached_while c.self.inside.notes.items c.self.inside.cached.items c.args.bucket Unheld InUse c.self.invariant.1
+          (rw (← c.self.view_is) at was) unheld_apart in_use_apart,
       c.self.invariant.2,
       c.self.invariant.3,
       c.self.invariant.4,
@@ -20,7 +21,7 @@ pub invariant_of-self-else-is_attached : goal.invariant_of-self-else-is_attached
 invariant_of-self-else-is_attached g c =
     let was : slice_get c.args.self.now.notes c.args.bucket ≡ Some Unheld = cc in (
       after_no_attach _ _ c.self.inside.notes.items c.self.invariant.0 c.args.bucket (rw (← c.self.view_is) at was)
-    c.if-is_attached.ensures,
+          c.if-is_attached.ensures,
       c.self.invariant.1,
       c.self.invariant.2,
       c.self.invariant.3,
@@ -42,3 +43,6 @@ returns-else-is_attached g c =
       (rw (← c.self.view_is) at was),
       (c.if-is_attached.ensures, refl),
     ))
+
+pub returns-in_default : goal.returns-in_default
+returns-in_default g c = inr ((search rules), (search rules))

@@ -1,12 +1,12 @@
 use Rattle.bb_memory_file.proofs.FileFlushes.{flushed_with, less_first, less_second}
 use Rattle.bb_memory_file.proofs.joined.Joined.cache.Goals.{else-most-buckets, then-most-buckets}
 use Rattle.bb_memory_file.proofs.joined.Joined.cache.Goals as goal
-use Rattle.bb_memory_file.specs.FileNotes.{Flushes, JoinedParty}
-use Rattle.std.proofs.Common.{ap, refl, subst, sym, ℕ, ◌∙◌, ◌≡◌}
+use Rattle.bb_memory_file.specs.FileNotes.{AreCached, Flushes, JoinedParty}
+use Rattle.std.proofs.Common.{List, ap, arith, rules, subst, sym, ℕ, ◌∙◌, ◌≡◌}
 use Rattle.std.specs.Prelude.{if◌then◌else◌, nat_lt}
 
-pub returns : goal.returns
-returns g c =
+pub returns-clause-caches : goal.returns-clause-caches
+returns-clause-caches g c =
     let old = c.args.self.now in
     let all = (g.W.Words.log old.words).scene.buckets in
     let same : c.buckets-buckets.result ≡ all =
@@ -31,3 +31,15 @@ returns g c =
       cached = c.in_ok-room.room.items;
       most = most;
     })) least later
+
+pub invariant_of-self : goal.invariant_of-self
+invariant_of-self g c =
+    let none : c.self-2.inside.cached.items ≡ c.in_ok-room.room.items =
+    ap (λ (p : JoinedParty g.row.W.Denot). p.cached) (c.self-2.view_is ∙ c.flush.ensures.party)
+    ∙ sym c.in_ok-room.ensures.items in (
+      c.self-2.invariant.0,
+      subst (λ (cached : List ℕ). AreCached c.self-2.inside.notes.items cached) none c.self-2.invariant.1,
+      rw c.in_ok-room.ensures.items (omega arith),
+      c.in_ok-room.ensures.room,
+      (search rules),
+    )

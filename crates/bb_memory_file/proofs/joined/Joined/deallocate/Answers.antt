@@ -12,7 +12,8 @@ invariant_of-self g c =
       after_cached _ c.self.inside.notes.items c.args.bucket c.self.invariant.0 was,
       subst (λ (xs : List ℕ). AreCached (slice_set c.self.inside.notes.items c.args.bucket Cached) xs)
           (sym c.push_reserved.ensures.items)
-          (cached_more c.self.inside.notes.items c.self.inside.cached.items c.args.bucket InUse c.self.invariant.1 was in_use_apart),
+          (cached_more c.self.inside.notes.items c.self.inside.cached.items c.args.bucket InUse c.self.invariant.1 was
+          in_use_apart),
       grind (arith, common_steps),
       grind (arith, common_steps),
       c.self.invariant.4,
@@ -61,3 +62,7 @@ returns-else-len-self g c = rw (← c.self.view_is) (
     );
   },
 )
+
+pub push_reserved-requires : goal.push_reserved-requires
+push_reserved-requires g c =
+    let less = c.if-len-self.true in let is = c.len.ensures in let room = c.self.invariant.3 in omega (arith, less, is, room)

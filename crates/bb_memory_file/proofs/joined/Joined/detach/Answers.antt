@@ -16,13 +16,14 @@ index_mut-requires g c =
 
 pub invariant_of-self : goal.invariant_of-self
 invariant_of-self g c = (
-      after_detach _ _ c.self.inside.notes.items c.self.invariant.0 c.args.bucket
-    (rw (← c.self.view_is) at c.in_ok-check-in_default.ensures.held) c.detach.ensures,
-      cached_while c.self.inside.notes.items c.self.inside.cached.items c.args.bucket InUse Unheld c.self.invariant.1 (rw (← c.self.view_is) at c.in_ok-check-in_default.ensures.held) in_use_apart unheld_apart,
-      c.self.invariant.2,
-      c.self.invariant.3,
-      c.self.invariant.4,
-    )
+  after_detach _ _ c.self.inside.notes.items c.self.invariant.0 c.args.bucket
+      (rw (← c.self.view_is) at c.in_ok-check-in_default.ensures.held) c.detach.ensures,
+  cached_while c.self.inside.notes.items c.self.inside.cached.items c.args.bucket InUse Unheld c.self.invariant.1
+      (rw (← c.self.view_is) at c.in_ok-check-in_default.ensures.held) in_use_apart unheld_apart,
+  c.self.invariant.2,
+  c.self.invariant.3,
+  c.self.invariant.4,
+)
 
 pub returns-in_ok-check-in_default : goal.returns-in_ok-check-in_default
 returns-in_ok-check-in_default g c = rw (← c.self.view_is) (

@@ -9,27 +9,28 @@ use Rattle.std.specs.Prelude.{slice_get}
 
 pub invariant_of-self : goal.invariant_of-self
 invariant_of-self g c = (
-      after_look _ _ c.self.inside.notes.items c.args.slot _ c.self.invariant.0 c.load_slot.ensures.told,
-      c.self.invariant.1,
-      c.self.invariant.2,
-      c.self.invariant.3,
-      c.self.invariant.4,
-    )
+  after_look _ _ c.self.inside.notes.items c.args.slot _ c.self.invariant.0 c.load_slot.ensures.told,
+  c.self.invariant.1,
+  c.self.invariant.2,
+  c.self.invariant.3,
+  c.self.invariant.4,
+)
 
 pub invariant_of-self-2 : goal.invariant_of-self-2
 invariant_of-self-2 g c = (
-      after_look _ _ c.self.inside.notes.items c.args.slot _ c.self.invariant.0 c.load_slot.ensures.told,
-      c.self.invariant.1,
-      c.self.invariant.2,
-      c.self.invariant.3,
-      c.self.invariant.4,
-    )
+  after_look _ _ c.self.inside.notes.items c.args.slot _ c.self.invariant.0 c.load_slot.ensures.told,
+  c.self.invariant.1,
+  c.self.invariant.2,
+  c.self.invariant.3,
+  c.self.invariant.4,
+)
 
 pub done-requires-clause-below : goal.done-requires-clause-below
 done-requires-clause-below g c =
     let was : slice_get c.self.inside.notes.items c.in-Message.bucket ≡ Some Undone = cc in
     below_by _ c.self.inside.notes.items
-    (after_look _ _ c.self.inside.notes.items c.args.slot _ c.self.invariant.0 c.load_slot.ensures.told) c.in-Message.bucket Undone was
+    (after_look _ _ c.self.inside.notes.items c.args.slot _ c.self.invariant.0 c.load_slot.ensures.told) c.in-Message.bucket
+    Undone was
 
 pub done-requires-clause-its : goal.done-requires-clause-its
 done-requires-clause-its g c =
@@ -46,9 +47,10 @@ pub invariant_of-self-3 : goal.invariant_of-self-3
 invariant_of-self-3 g c =
     let was : slice_get c.self.inside.notes.items c.in-Message.bucket ≡ Some Undone = cc in (
       after_done _ _ c.self.inside.notes.items
-    (after_look _ _ c.self.inside.notes.items c.args.slot _ c.self.invariant.0 c.load_slot.ensures.told) c.in-Message.bucket
-    c.args.slot c.in-Message.lap was c.done.ensures,
-      cached_while c.self.inside.notes.items c.self.inside.cached.items c.in-Message.bucket Undone InUse c.self.invariant.1 was undone_apart in_use_apart,
+          (after_look _ _ c.self.inside.notes.items c.args.slot _ c.self.invariant.0 c.load_slot.ensures.told) c.in-Message.bucket
+          c.args.slot c.in-Message.lap was c.done.ensures,
+      cached_while c.self.inside.notes.items c.self.inside.cached.items c.in-Message.bucket Undone InUse c.self.invariant.1
+          was undone_apart in_use_apart,
       c.self.invariant.2,
       c.self.invariant.3,
       c.self.invariant.4,
@@ -56,12 +58,12 @@ invariant_of-self-3 g c =
 
 pub invariant_of-self-in_default-note : goal.invariant_of-self-in_default-note
 invariant_of-self-in_default-note g c = (
-      after_look _ _ c.self.inside.notes.items c.args.slot _ c.self.invariant.0 c.load_slot.ensures.told,
-      c.self.invariant.1,
-      c.self.invariant.2,
-      c.self.invariant.3,
-      c.self.invariant.4,
-    )
+  after_look _ _ c.self.inside.notes.items c.args.slot _ c.self.invariant.0 c.load_slot.ensures.told,
+  c.self.invariant.1,
+  c.self.invariant.2,
+  c.self.invariant.3,
+  c.self.invariant.4,
+)
 
 pub returns : goal.returns
 returns g c =

@@ -11,9 +11,11 @@ loop-smaller g c = fewer g.row.W.Denot g.W.Words.log c.loop.self c.free_last.new
 pub loop-preserved : goal.loop-preserved
 loop-preserved g c = (
   c.loop-test.ensures.1 ∷ c.loop.invariant.0,
-  flushed_on g.W.Words.log c.args.self.now c.loop.invariant.0 c.loop.self c.free_last.new.self c.loop.invariant.1 c.loop-test.ensures,
+  flushed_on g.W.Words.log c.args.self.now c.loop.invariant.0 c.loop.self c.free_last.new.self c.loop.invariant.1
+      c.loop-test.ensures,
 )
 
 pub returns : goal.returns
 returns g c =
-    flushed_all g.W.Words.log c.args.self.now c.loop.invariant.0 c.loop.self c.free_last.new.self c.loop.invariant.1 c.loop-test.ensures
+    flushed_all g.W.Words.log c.args.self.now c.loop.invariant.0 c.loop.self c.free_last.new.self c.loop.invariant.1
+    c.loop-test.ensures

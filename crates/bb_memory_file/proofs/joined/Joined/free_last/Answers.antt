@@ -29,7 +29,8 @@ invariant_of-self-2 g c =
     let rest = c.pop.new.self.items in
     let last = c.in-Some.bucket in
     let long = length_push rest last in
-    let was = last_cached c.self.inside.notes.items c.self.inside.cached.items rest last c.self.invariant.1 c.in-Some.ensures.items in (
+    let was = last_cached c.self.inside.notes.items c.self.inside.cached.items rest last c.self.invariant.1
+    c.in-Some.ensures.items in (
       after_deallocate _ _ c.self.inside.notes.items c.self.invariant.0 last Cached was c.deallocate.ensures,
       cached_less c.self.inside.notes.items c.self.inside.cached.items rest last Unheld c.self.invariant.1 c.in-Some.ensures.items
           unheld_apart,

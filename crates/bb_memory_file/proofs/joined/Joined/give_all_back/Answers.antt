@@ -1,6 +1,6 @@
+use Rattle.bb_memory_file.proofs.FileCaches.{cached_none}
 use Rattle.bb_memory_file.proofs.FileNotes.{after_all}
 use Rattle.bb_memory_file.proofs.joined.Joined.give_all_back.Goals as goal
-use Rattle.bb_memory_file.proofs.FileCaches.{cached_none}
 use Rattle.bb_memory_file.specs.FileNotes.{AreCached, IsJoined, Note, Unheld}
 use Rattle.std.proofs.Common.{List, [], arith, length, rules, subst, sym, ◌≡◌}
 use Rattle.std.proofs.lemmas.Grind.{common_steps}

@@ -2,7 +2,7 @@ use Rattle.bb_memory_file.proofs.FileCounts.{counted_all, counted_most, counts_u
 use Rattle.bb_memory_file.proofs.joined.Joined.held.Goals.{in-InUse, in_default}
 use Rattle.bb_memory_file.proofs.joined.Joined.held.Goals as goal
 use Rattle.bb_memory_file.specs.FileNotes.{JoinedParty, Note}
-use Rattle.std.proofs.Common.{List, Some, ap, arith, length, refl, subst, sym, ◌<◌, ◌∙◌, ◌≡◌}
+use Rattle.std.proofs.Common.{Some, ap, arith, length, refl, sym, ◌∙◌, ◌≡◌}
 use Rattle.std.proofs.lemmas.Option.{slice_get-get_or}
 use Rattle.std.specs.Prelude.{slice_get}
 

@@ -4,7 +4,7 @@ use Rattle.bb_memory_file.proofs.joined.Joined.join.Goals as goal
 use Rattle.bb_memory_file.specs.FileCode.{FileLog}
 use Rattle.bb_memory_file.specs.FileNames.{Flags}
 use Rattle.bb_memory_file.specs.FileNotes.{AreCached, IsJoined, Note, Unheld}
-use Rattle.std.proofs.Common.{List, [], ap, arith, inr, refl, rules, subst, sym, ◌∙◌, ◌≡◌}
+use Rattle.std.proofs.Common.{List, [], ap, arith, inr, refl, subst, sym, ◌∙◌, ◌≡◌}
 use Rattle.std.proofs.lemmas.Grind.{common_steps}
 use Rattle.std.specs.Prelude.{replicate}
 
@@ -17,7 +17,8 @@ pub invariant_of-result : goal.invariant_of-result
 invariant_of-result g c =
     let buckets = (g.W.Words.log c.args.words).scene.buckets in
     let same : c.in-Ok.notes.items ≡ replicate buckets Unheld =
-    c.in-Ok.ensures ∙ ap (λ n. replicate n Unheld) (c.buckets.ensures ∙ ap (λ (log : FileLog). log.scene.buckets) (c.in-Some.ensures 0).0) in (
+    c.in-Ok.ensures ∙ ap (λ n. replicate n Unheld)
+    (c.buckets.ensures ∙ ap (λ (log : FileLog). log.scene.buckets) (c.in-Some.ensures 0).0) in (
       subst (λ (notes : List Note). IsJoined (g.W.Words.log c.join.new.words) notes) (sym same)
           (after_join (g.W.Words.log c.args.words) (g.W.Words.log c.join.new.words) c.requires
           (λ process. c.join.ensures process (g.W.Words.log c.args.words) c.in-Some.field-0 (c.in-Some.ensures process))),
@@ -31,7 +32,8 @@ pub returns-clause-joined : goal.returns-clause-joined
 returns-clause-joined g c =
     let buckets = (g.W.Words.log c.args.words).scene.buckets in
     let same : c.in-Ok.notes.items ≡ replicate buckets Unheld =
-    c.in-Ok.ensures ∙ ap (λ n. replicate n Unheld) (c.buckets.ensures ∙ ap (λ (log : FileLog). log.scene.buckets) (c.in-Some.ensures 0).0) in (
+    c.in-Ok.ensures ∙ ap (λ n. replicate n Unheld)
+    (c.buckets.ensures ∙ ap (λ (log : FileLog). log.scene.buckets) (c.in-Some.ensures 0).0) in (
       (λ process. c.join.ensures process (g.W.Words.log c.args.words) c.in-Some.field-0 (c.in-Some.ensures process)),
       (λ i. record {
         words = c.join.new.words;

@@ -16,23 +16,24 @@ index_mut-requires g c =
 
 pub invariant_of-self : goal.invariant_of-self
 invariant_of-self g c = (
-      after_post _ _ c.self.inside.notes.items c.self.invariant.0 c.args.bucket c.args.slot c.args.length
-    (rw (← c.self.view_is) at c.in_ok-check.ensures.held) c.if-is_posted.ensures,
-      cached_while c.self.inside.notes.items c.self.inside.cached.items c.args.bucket InUse Unheld c.self.invariant.1 (rw (← c.self.view_is) at c.in_ok-check.ensures.held) in_use_apart unheld_apart,
-      c.self.invariant.2,
-      c.self.invariant.3,
-      c.self.invariant.4,
-    )
+  after_post _ _ c.self.inside.notes.items c.self.invariant.0 c.args.bucket c.args.slot c.args.length
+      (rw (← c.self.view_is) at c.in_ok-check.ensures.held) c.if-is_posted.ensures,
+  cached_while c.self.inside.notes.items c.self.inside.cached.items c.args.bucket InUse Unheld c.self.invariant.1
+      (rw (← c.self.view_is) at c.in_ok-check.ensures.held) in_use_apart unheld_apart,
+  c.self.invariant.2,
+  c.self.invariant.3,
+  c.self.invariant.4,
+)
 
 pub invariant_of-self-else-is_posted : goal.invariant_of-self-else-is_posted
 invariant_of-self-else-is_posted g c = (
-      after_no_post _ _ c.self.inside.notes.items c.self.invariant.0 c.args.bucket c.args.slot c.args.length
-    (rw (← c.self.view_is) at c.in_ok-check.ensures.held) c.if-is_posted.ensures,
-      c.self.invariant.1,
-      c.self.invariant.2,
-      c.self.invariant.3,
-      c.self.invariant.4,
-    )
+  after_no_post _ _ c.self.inside.notes.items c.self.invariant.0 c.args.bucket c.args.slot c.args.length
+      (rw (← c.self.view_is) at c.in_ok-check.ensures.held) c.if-is_posted.ensures,
+  c.self.invariant.1,
+  c.self.invariant.2,
+  c.self.invariant.3,
+  c.self.invariant.4,
+)
 
 pub returns-then-is_posted : goal.returns-then-is_posted
 returns-then-is_posted g c = rw (c.if-is_posted.true, ← c.self.view_is) (

@@ -14,23 +14,24 @@ index_mut-requires g c =
 
 pub invariant_of-self : goal.invariant_of-self
 invariant_of-self g c = (
-      after_put_back _ _ c.self.inside.notes.items c.self.invariant.0 c.args.bucket c.in-In.slot c.in-In.lap
-    (rw (← c.self.view_is) at c.requires) c.in-In.ensures,
-      cached_while c.self.inside.notes.items c.self.inside.cached.items c.args.bucket Undone Unheld c.self.invariant.1 (rw (← c.self.view_is) at c.requires) undone_apart unheld_apart,
-      c.self.invariant.2,
-      c.self.invariant.3,
-      c.self.invariant.4,
-    )
+  after_put_back _ _ c.self.inside.notes.items c.self.invariant.0 c.args.bucket c.in-In.slot c.in-In.lap
+      (rw (← c.self.view_is) at c.requires) c.in-In.ensures,
+  cached_while c.self.inside.notes.items c.self.inside.cached.items c.args.bucket Undone Unheld c.self.invariant.1
+      (rw (← c.self.view_is) at c.requires) undone_apart unheld_apart,
+  c.self.invariant.2,
+  c.self.invariant.3,
+  c.self.invariant.4,
+)
 
 pub invariant_of-self-in-Entered : goal.invariant_of-self-in-Entered
 invariant_of-self-in-Entered g c = (
-      after_entered _ _ c.self.inside.notes.items c.self.invariant.0 c.args.bucket (rw (← c.self.view_is) at c.requires)
-    c.in-Entered.ensures,
-      c.self.invariant.1,
-      c.self.invariant.2,
-      c.self.invariant.3,
-      c.self.invariant.4,
-    )
+  after_entered _ _ c.self.inside.notes.items c.self.invariant.0 c.args.bucket (rw (← c.self.view_is) at c.requires)
+      c.in-Entered.ensures,
+  c.self.invariant.1,
+  c.self.invariant.2,
+  c.self.invariant.3,
+  c.self.invariant.4,
+)
 
 pub index_mut-requires-in-Nowhere : goal.index_mut-requires-in-Nowhere
 index_mut-requires-in-Nowhere g c =
@@ -38,13 +39,14 @@ index_mut-requires-in-Nowhere g c =
 
 pub invariant_of-self-in-Nowhere : goal.invariant_of-self-in-Nowhere
 invariant_of-self-in-Nowhere g c = (
-      after_nowhere _ _ c.self.inside.notes.items c.self.invariant.0 c.args.bucket (rw (← c.self.view_is) at c.requires)
-    c.in-Nowhere.ensures,
-      cached_while c.self.inside.notes.items c.self.inside.cached.items c.args.bucket Undone InUse c.self.invariant.1 (rw (← c.self.view_is) at c.requires) undone_apart in_use_apart,
-      c.self.invariant.2,
-      c.self.invariant.3,
-      c.self.invariant.4,
-    )
+  after_nowhere _ _ c.self.inside.notes.items c.self.invariant.0 c.args.bucket (rw (← c.self.view_is) at c.requires)
+      c.in-Nowhere.ensures,
+  cached_while c.self.inside.notes.items c.self.inside.cached.items c.args.bucket Undone InUse c.self.invariant.1
+      (rw (← c.self.view_is) at c.requires) undone_apart in_use_apart,
+  c.self.invariant.2,
+  c.self.invariant.3,
+  c.self.invariant.4,
+)
 
 pub returns-in-In : goal.returns-in-In
 returns-in-In g c = rw (← c.self.view_is) (

@@ -4,49 +4,50 @@ use Rattle.bb_memory_file.proofs.joined.Joined.take.Goals as goal
 use Rattle.bb_memory_file.specs.FileCalls.{IsReceive}
 use Rattle.bb_memory_file.specs.FileCalls.received as received
 use Rattle.bb_memory_file.specs.FileCode.{FileLog}
-use Rattle.bb_memory_file.specs.FileNotes.{Undone, Unheld}
-use Rattle.std.proofs.Common.{Some, inr, refl, subst, ◌≡◌}
+use Rattle.bb_memory_file.specs.FileNotes.{IsHeldNote, Undone, Unheld}
+use Rattle.std.proofs.Common.{None, Some, inl, inr, refl, rules, subst, ◌≡◌}
 use Rattle.std.specs.Prelude.{slice_get}
 
 pub invariant_of-self : goal.invariant_of-self
 invariant_of-self g c = (
-      after_look _ _ c.self.inside.notes.items c.args.slot _ c.self.invariant.0 c.load_slot.ensures.told,
-      c.self.invariant.1,
-      c.self.invariant.2,
-      c.self.invariant.3,
-      c.self.invariant.4,
-    )
+  after_look _ _ c.self.inside.notes.items c.args.slot _ c.self.invariant.0 c.load_slot.ensures.told,
+  c.self.invariant.1,
+  c.self.invariant.2,
+  c.self.invariant.3,
+  c.self.invariant.4,
+)
 
 pub invariant_of-self-2 : goal.invariant_of-self-2
 invariant_of-self-2 g c = (
-      after_look _ _ c.self.inside.notes.items c.args.slot _ c.self.invariant.0 c.load_slot.ensures.told,
-      c.self.invariant.1,
-      c.self.invariant.2,
-      c.self.invariant.3,
-      c.self.invariant.4,
-    )
+  after_look _ _ c.self.inside.notes.items c.args.slot _ c.self.invariant.0 c.load_slot.ensures.told,
+  c.self.invariant.1,
+  c.self.invariant.2,
+  c.self.invariant.3,
+  c.self.invariant.4,
+)
 
 pub invariant_of-self-in-None : goal.invariant_of-self-in-None
 invariant_of-self-in-None g c = (
-      after_look _ _ c.self.inside.notes.items c.args.slot _ c.self.invariant.0 c.load_slot.ensures.told,
-      c.self.invariant.1,
-      c.self.invariant.2,
-      c.self.invariant.3,
-      c.self.invariant.4,
-    )
+  after_look _ _ c.self.inside.notes.items c.args.slot _ c.self.invariant.0 c.load_slot.ensures.told,
+  c.self.invariant.1,
+  c.self.invariant.2,
+  c.self.invariant.3,
+  c.self.invariant.4,
+)
 
 pub receive-requires-clause-below : goal.receive-requires-clause-below
 receive-requires-clause-below g c =
     let was : slice_get c.self.inside.notes.items c.in-Message.bucket ≡ Some Unheld = cc in
     below_by _ c.self.inside.notes.items
-    (after_look _ _ c.self.inside.notes.items c.args.slot _ c.self.invariant.0 c.load_slot.ensures.told) c.in-Message.bucket Unheld was
+    (after_look _ _ c.self.inside.notes.items c.args.slot _ c.self.invariant.0 c.load_slot.ensures.told) c.in-Message.bucket
+    Unheld was
 
 pub invariant_of-self-in-NotSent : goal.invariant_of-self-in-NotSent
 invariant_of-self-in-NotSent g c =
     let was : slice_get c.self.inside.notes.items c.in-Message.bucket ≡ Some Unheld = cc in (
       after_not_sent _ _ c.self.inside.notes.items
-    (after_look _ _ c.self.inside.notes.items c.args.slot _ c.self.invariant.0 c.load_slot.ensures.told) c.in-Message.bucket
-    c.args.slot c.in-Message.lap c.args.size was c.in-NotSent.ensures,
+          (after_look _ _ c.self.inside.notes.items c.args.slot _ c.self.invariant.0 c.load_slot.ensures.told) c.in-Message.bucket
+          c.args.slot c.in-Message.lap c.args.size was c.in-NotSent.ensures,
       c.self.invariant.1,
       c.self.invariant.2,
       c.self.invariant.3,
@@ -57,8 +58,8 @@ pub invariant_of-self-in-Wrong : goal.invariant_of-self-in-Wrong
 invariant_of-self-in-Wrong g c =
     let was : slice_get c.self.inside.notes.items c.in-Message.bucket ≡ Some Unheld = cc in (
       after_wrong _ _ c.self.inside.notes.items
-    (after_look _ _ c.self.inside.notes.items c.args.slot _ c.self.invariant.0 c.load_slot.ensures.told) c.in-Message.bucket
-    c.args.slot c.in-Message.lap c.args.size was c.in-Wrong.ensures,
+          (after_look _ _ c.self.inside.notes.items c.args.slot _ c.self.invariant.0 c.load_slot.ensures.told) c.in-Message.bucket
+          c.args.slot c.in-Message.lap c.args.size was c.in-Wrong.ensures,
       c.self.invariant.1,
       c.self.invariant.2,
       c.self.invariant.3,
@@ -74,9 +75,10 @@ pub invariant_of-self-in-Message-receive : goal.invariant_of-self-in-Message-rec
 invariant_of-self-in-Message-receive g c =
     let was : slice_get c.self.inside.notes.items c.in-Message.bucket ≡ Some Unheld = cc in (
       after_message _ _ c.self.inside.notes.items
-    (after_look _ _ c.self.inside.notes.items c.args.slot _ c.self.invariant.0 c.load_slot.ensures.told) c.in-Message.bucket
-    c.args.slot c.in-Message.lap c.args.size was _ c.in-Message-receive.ensures,
-      cached_while c.self.inside.notes.items c.self.inside.cached.items c.in-Message.bucket Unheld Undone c.self.invariant.1 was unheld_apart undone_apart,
+          (after_look _ _ c.self.inside.notes.items c.args.slot _ c.self.invariant.0 c.load_slot.ensures.told) c.in-Message.bucket
+          c.args.slot c.in-Message.lap c.args.size was _ c.in-Message-receive.ensures,
+      cached_while c.self.inside.notes.items c.self.inside.cached.items c.in-Message.bucket Unheld Undone c.self.invariant.1
+          was unheld_apart undone_apart,
       c.self.invariant.2,
       c.self.invariant.3,
       c.self.invariant.4,
@@ -84,12 +86,12 @@ invariant_of-self-in-Message-receive g c =
 
 pub invariant_of-self-in_default-note : goal.invariant_of-self-in_default-note
 invariant_of-self-in_default-note g c = (
-      after_look _ _ c.self.inside.notes.items c.args.slot _ c.self.invariant.0 c.load_slot.ensures.told,
-      c.self.invariant.1,
-      c.self.invariant.2,
-      c.self.invariant.3,
-      c.self.invariant.4,
-    )
+  after_look _ _ c.self.inside.notes.items c.args.slot _ c.self.invariant.0 c.load_slot.ensures.told,
+  c.self.invariant.1,
+  c.self.invariant.2,
+  c.self.invariant.3,
+  c.self.invariant.4,
+)
 
 pub returns-in-NotSent : goal.returns-in-NotSent
 returns-in-NotSent g c =
@@ -135,4 +137,25 @@ returns-in-Message-receive g c =
             (c.in-Message-receive.ensures process)),
         refl,
       ),
+    )
+
+pub returns-in_default : goal.returns-in_default
+returns-in_default g c = rw (← c.self.view_is) (c.in_default.field-0, c.in_default.ensures.told, refl)
+
+pub returns-in-None : goal.returns-in-None
+returns-in-None g c =
+    let none : slice_get c.self.inside.notes.items c.in-Message.bucket ≡ None = cc in
+    rw (← c.self.view_is) (
+      c.in-Message.lap,
+      c.in-Message.bucket,
+      inl (none, c.in-Message.ensures.told, refl),
+    )
+
+pub returns-in_default-note : goal.returns-in_default-note
+returns-in_default-note g c =
+    let held : IsHeldNote (slice_get c.self.inside.notes.items c.in-Message.bucket) = search rules in
+    rw (← c.self.view_is) (
+      c.in-Message.lap,
+      c.in-Message.bucket,
+      inl (held, c.in-Message.ensures.told, refl),
     )
