@@ -37,20 +37,12 @@ pub moment_of : (first second third : History) → IsMoment first second → IsM
 moment_of first second _ one now = one
 moment_of first second _ one (earlier step history two) = earlier step history (moment_of first second history one two)
 
-pub moment_before : (step : FileStep) (first second : History) → IsMoment (step ∷ first) second → IsMoment first second
-moment_before step first second later = moment_of first (step ∷ first) second (earlier step first now) later
-
 -- of two moments of a history, one is a moment of the other
 pub cases_moment : (first second history : History) → IsMoment first history → IsMoment second history →
     IsMoment first second ⊎ IsMoment second first
 cases_moment first second _ now two = inr two
 cases_moment first second _ (earlier step history one) now = inl (earlier step history one)
 cases_moment first second _ (earlier step history one) (earlier same other two) = cases_moment first second history one two
-
-pub obeyed : (rules : Rules) (queue : FileQueue) (moment history : History) → IsMoment moment history →
-    Obey rules queue history → Obey rules queue moment
-obeyed rules queue moment _ now obey = obey
-obeyed rules queue moment _ (earlier step history before) (last, obey) = obeyed rules queue moment history before obey
 
 -- between two moments, what has happened between two others that are nearer to each other
 pub happened : (scene : FileScene) (first second third fourth : History) (outcome : FileOutcome) → IsMoment first second →

@@ -108,8 +108,5 @@ fewer_rounds a b depth less = let fewer = lt_of_mul-lt-mul_right depth {m = a} {
 pub round_after : (a depth : ℕ) → (a + 1) * depth ≡ a * depth + depth
 round_after a depth = omega arith
 
-pub rounds_after : (a depth : ℕ) → (a + 2) * depth ≡ a * depth + depth + depth
-rounds_after a depth = omega arith
-
 pub rounds_most : (a b depth : ℕ) → a ≤ b → a * depth ≤ b * depth
 rounds_most a b depth most = mul-le-mul_right depth most

@@ -9,6 +9,7 @@ use bb_memory_base::steps::PoolStep::{
 use bb_memory_base::steps::{
     BumpOutcome, BumpStep, BumpWorld, PoolWorld, bump_theorem, pool_theorem,
 };
+use bb_memory_file_machine::order::{queue_order_law, queue_variants_law};
 use bb_memory_file_machine::steps::{file_steps_law, file_theorem, file_variants_theorem};
 use test_marks::refuse_memory;
 
@@ -122,5 +123,7 @@ fn the_theorems_do_nothing(rt: HostRuntime) {
     file_theorem();
     file_steps_law();
     file_variants_theorem();
+    queue_order_law();
+    queue_variants_law();
     none_requested(&rt);
 }
