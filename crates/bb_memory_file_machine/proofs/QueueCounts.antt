@@ -52,7 +52,7 @@ posts_grow queue moment _ (earlier step history past) =
 
 -- FILLED SLOTS
 
-never_filling : (word : Option Slot) → is_filling word word ≡ false
+pub never_filling : (word : Option Slot) → is_filling word word ≡ false
 never_filling None = refl
 never_filling (Some (Empty lap)) = refl
 never_filling (Some (Message lap bucket)) = refl
