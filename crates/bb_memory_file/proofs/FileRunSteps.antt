@@ -2,16 +2,19 @@
 use Rattle.bb_memory_file.proofs.FileKnows.{after_one, may_be_after, may_be_rests}
 use Rattle.bb_memory_file.specs.FileCode.{Brings, Event, FileLog, MayBe}
 use Rattle.bb_memory_file.specs.FileNames.{FileOutcome, FileStep, Place, Refused}
-use Rattle.bb_memory_file.specs.FileRuns.{Act, IsTrue, Locks, Operates, acted, actor, own, steps_of, words_after}
+use Rattle.bb_memory_file.specs.FileRuns.{Act, Follows, IsTrue, Locks, Operates, acted, actor, own, steps_of, words_after, looks_on, moves_on, steps_on}
 use Rattle.bb_memory_file_machine.proofs.FileInvariant.{Sound}
 use Rattle.bb_memory_file_machine.proofs.FileSteps.{holds_always}
 use Rattle.bb_memory_file_machine.proofs.FileTheorem.{buckets_always}
+use Rattle.bb_memory_file_machine.proofs.QueueHistories.{history_of}
 use Rattle.bb_memory_file_machine.specs.FileLaws.{IsPlace}
 use Rattle.bb_memory_file_machine.specs.FileMachine.{FileChange, FileMove, FileScene, FileState, FileWords, change_at, change_by, file_after, file_step, left_by, move_at, opening_state, outcomes_of, process_of}
+use Rattle.bb_memory_file_machine.specs.FileQueues.{History, words_at}
 use Rattle.bb_memory_lists.proofs.SliceGets.{slice_get-set_apart, slice_get-set_same}
 use Rattle.bb_memory_pool_machine.proofs.PoolSteps.{test_same}
-use Rattle.std.proofs.Common.{Bool, List, None, Some, [], ap, false, inl, inr, length, refl, subst, sym, true, ℕ, ◌++◌, ◌<◌, ◌∙◌, ◌∷◌, ◌≡◌, ◌≢◌}
+use Rattle.std.proofs.Common.{Bool, List, None, Some, [], ap, false, inl, inr, length, refl, reverse, subst, sym, true, ℕ, ◌++◌, ◌<◌, ◌∙◌, ◌∷◌, ◌≡◌, ◌≢◌}
 use Rattle.std.proofs.lemmas.Bool.{ne_eqb}
+use Rattle.std.proofs.lemmas.List.{reverse-append}
 use Rattle.std.proofs.lemmas.List.Elements.{Contains-push_cases}
 use Rattle.std.specs.Prelude.{Contains, if◌then◌else◌, map, slice_get, ◌==◌}
 
@@ -115,9 +118,20 @@ pub record At (scene : FileScene) (acts : List Act) (process : ℕ) (mine : List
   pub steps : List FileStep
   pub allowed : ¬ Contains (outcomes_of (opening_state scene) steps) Refused
   pub words : (left_by scene steps).words ≡ words_after scene acts
+  pub follows : Follows scene acts (reverse steps)
   pub fine : Fine scene acts steps process mine here
   pub others : (other : ℕ) → other < scene.processes → other ≢ process →
       Fine scene acts steps other (taken other) (places other)
+
+-- one more step of the machine is the first of its history
+one_more : (scene : FileScene) (acts : List Act) (steps : List FileStep) (step : FileStep) →
+    (left_by scene (steps ++ step ∷ [])).words ≡ words_after scene acts →
+    (words_at scene (step ∷ reverse steps) ≡ words_after scene acts → Follows scene acts (step ∷ reverse steps)) →
+    Follows scene acts (reverse (steps ++ step ∷ []))
+one_more scene acts steps step words follow =
+    let turned : reverse (steps ++ step ∷ []) ≡ step ∷ reverse steps = reverse-append steps (step ∷ []) in
+    subst (λ (h : History). Follows scene acts h) (sym turned)
+    (follow (ap (words_at scene) (sym turned) ∙ ap (λ (s : FileState). s.words) (sym (history_of scene (steps ++ step ∷ []))) ∙ words))
 
 -- a step of a process at this place isn't refused, leaves these words, and brings the process there
 goes : (state : FileState) (step : FileStep) (here : Place) (words : FileWords) (there : Place) →
@@ -166,8 +180,9 @@ module _ (scene : FileScene) (acts : List Act) (process : ℕ) (mine : List File
   advance : (later : List Act) (step : FileStep) (words : FileWords) (there : Place) → process_of step ≡ process →
       ((other : ℕ) → other ≢ process → own other later ≡ own other acts) → Brings (move_at state.words here step) words there →
       words ≡ words_after scene later → Knows scene (own process later) process words →
+      (words_at scene (step ∷ reverse at.steps) ≡ words_after scene later → Follows scene later (step ∷ reverse at.steps)) →
       At scene later process (step ∷ mine) there taken places
-  advance later step words there own_step_is rest brings same knows =
+  advance later step words there own_step_is rest brings same knows follow =
       let is : IsPlace state (process_of step) here = subst (λ (p : ℕ). IsPlace state p here) (sym own_step_is) at.fine.place in
       let made = goes state step here words there is brings in
       let new : FileState = (file_step state step).state in
@@ -177,6 +192,7 @@ module _ (scene : FileScene) (acts : List Act) (process : ℕ) (mine : List File
         steps = at.steps ++ step ∷ [];
         allowed = none_refused scene at.steps step at.allowed made.0;
         words = sym left ∙ same;
+        follows = one_more scene later at.steps step (sym left ∙ same) follow;
         fine = record {
           place = subst (λ (s : FileState). IsPlace s process there) come
               (subst (λ (p : ℕ). IsPlace new p there) own_step_is made.2);
@@ -195,6 +211,7 @@ module _ (scene : FileScene) (acts : List Act) (process : ℕ) (mine : List File
       At scene acts process (step ∷ mine) there taken places
   on_move step there own_step_is brings =
       advance acts step state.words there own_step_is (λ other apart. refl) brings at.words at.fine.knows
+      (moves_on acts (reverse at.steps) step at.follows)
 
 -- the process that acts may find the words that the act leaves
 knows_acted : (scene : FileScene) (acts : List Act) (steps : List FileStep) (act : Act) →
@@ -216,6 +233,7 @@ module _ (scene : FileScene) (act : Act) (acts : List Act) (mine : List FileStep
       advance scene acts (actor act) mine here taken places at (act ∷ acts) step (acted (left_by scene at.steps).words act) there
       own_step_is (own_other act acts) brings (ap (λ (w : FileWords). acted w act) at.words)
       (knows_acted scene acts at.steps act at.words is at.fine.knows)
+      (steps_on act acts (reverse at.steps) step at.follows)
 
   -- an act that is no step, since it changes no word
   pub on_look : acted (left_by scene at.steps).words act ≡ (left_by scene at.steps).words →
@@ -224,6 +242,8 @@ module _ (scene : FileScene) (act : Act) (acts : List Act) (mine : List FileStep
     steps = at.steps;
     allowed = at.allowed;
     words = sym same ∙ ap (λ (w : FileWords). acted w act) at.words;
+    follows = looks_on act acts (reverse at.steps) at.follows
+        (ap (λ (w : FileWords). acted w act) (sym at.words) ∙ same ∙ at.words);
     fine = record {
       place = at.fine.place;
       took = at.fine.took;

@@ -5,14 +5,14 @@ use Rattle.bb_memory_file.specs.FileCode.{Brings, Event, FileLog, Finds, MayBe, 
 use Rattle.bb_memory_file.specs.FileCode as code
 use Rattle.bb_memory_file.specs.FileLog.{fresh_log}
 use Rattle.bb_memory_file.specs.FileNames.{Counting, Dead, FileStep, Kill, Lock, Outside, Place, Refused, Release, Unlock}
-use Rattle.bb_memory_file.specs.FileRuns.{Act, AreTrue, Dies, Frees, IsMachines, IsRun, IsTrue, Life, Locks, MayUnlock, Operates, Unlocks, actor, acts_of, own, words_after}
+use Rattle.bb_memory_file.specs.FileRuns.{Act, Follows, AreTrue, Dies, Frees, IsMachines, IsRun, IsTrue, Life, Locks, MayUnlock, Operates, Unlocks, actor, acts_of, own, words_after, opens}
 use Rattle.bb_memory_file.specs.FileRuns as runs
 use Rattle.bb_memory_file_machine.specs.FileLaws.{IsLock}
 use Rattle.bb_memory_file_machine.specs.FileMachine.{FileScene, FileWords, finds_own, is_own, left_by, move_at, opening_state, outcomes_of, with_lock}
 use Rattle.bb_memory_lists.proofs.ListEntries.{contains-none}
 use Rattle.bb_memory_lists.proofs.SliceGets.{slice_get-replicate}
 use Rattle.bb_memory_pool_machine.proofs.PoolSteps.{test_same}
-use Rattle.std.proofs.Common.{Bool, List, None, Some, [], ap, false, inl, inr, refl, subst, sym, true, ℕ, ◌++◌, ◌<◌, ◌∙◌, ◌∷◌, ◌≡◌}
+use Rattle.std.proofs.Common.{Bool, List, None, Some, [], ap, false, inl, inr, refl, reverse, subst, sym, true, ℕ, ◌++◌, ◌<◌, ◌∙◌, ◌∷◌, ◌≡◌}
 use Rattle.std.proofs.lemmas.Bool.{eqb-false, eqb-true, ne_eqb}
 use Rattle.std.specs.Prelude.{Contains, if◌then◌else◌, map, slice_get, ◌==◌}
 
@@ -198,6 +198,7 @@ record State (scene : FileScene) (acts : List Act) (taken : ℕ → List FileSte
   steps : List FileStep
   allowed : ¬ Contains (outcomes_of (opening_state scene) steps) Refused
   words : (left_by scene steps).words ≡ words_after scene acts
+  follows : Follows scene acts (reverse steps)
   each : (process : ℕ) → process < scene.processes → Fine scene acts steps process (taken process) (places process)
 
 -- each process is fine at first
@@ -238,6 +239,7 @@ module _ (scene : FileScene) (act : Act) (acts : List Act) (taken : ℕ → List
     steps = state.steps;
     allowed = state.allowed;
     words = state.words;
+    follows = state.follows;
     fine = subst (λ (b : Bool). Fine scene acts state.steps (actor act) (if b then mine else taken (actor act))
         (if b then here else places (actor act))) (test_same (actor act) (actor act) refl) (state.each (actor act) below);
     others = λ other less apart.
@@ -259,6 +261,7 @@ module _ (scene : FileScene) (acts : List Act) (process : ℕ) (taken : ℕ → 
     steps = now.steps;
     allowed = now.allowed;
     words = now.words;
+    follows = now.follows;
     each = λ other less. fine_of other less (other == process) refl;
   }
 
@@ -269,6 +272,7 @@ all_acts scene [] are taken places lives = record {
   steps = [];
   allowed = contains-none Refused;
   words = refl;
+  follows = opens;
   each = λ process below. fine_first scene process (taken process) (places process) below (lives process);
 }
 all_acts scene (act ∷ acts) are taken places lives =
@@ -289,6 +293,7 @@ is_machines scene acts taken places run =
       steps = state.steps;
       allowed = state.allowed;
       words = state.words;
+      follows = state.follows;
       processes = λ process below. (state.each process below).place;
       own = λ process below. (state.each process below).took;
     }

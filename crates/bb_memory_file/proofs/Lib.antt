@@ -10,6 +10,7 @@ pub mod FileMade
 pub mod FileMessages
 pub mod FileNotes
 pub mod FileProcesses
+pub mod FileQueueRuns
 pub mod FileRecords
 pub mod FileRows
 pub mod FileRunSteps

@@ -10,7 +10,8 @@ use Rattle.bb_memory_file.specs.FileLog.{FileLog, fresh_log}
 use Rattle.bb_memory_file.specs.FileNames.{Counting, Dead, FileStep, Flags, Kill, Lock, Outside, Place, Refused, Release, Settled, Unlock}
 use Rattle.bb_memory_file_machine.specs.FileLaws.{IsLock, IsPlace}
 use Rattle.bb_memory_file_machine.specs.FileMachine.{FileScene, FileWords, left_by, opening_state, outcomes_of, process_of, with_lock}
-use Rattle.std.specs.Prelude.{Contains, List, None, Some, [], if◌then◌else◌, map, slice_get, ℕ, ◌++◌, ◌<◌, ◌==◌, ◌∷◌, ◌≡◌, ◌⊎◌}
+use Rattle.bb_memory_file_machine.specs.FileQueues.{History, words_at}
+use Rattle.std.specs.Prelude.{Contains, List, None, Some, [], if◌then◌else◌, map, reverse, slice_get, ℕ, ◌++◌, ◌<◌, ◌==◌, ◌∷◌, ◌≡◌, ◌⊎◌}
 
 -- ACTS
 
@@ -109,12 +110,24 @@ steps_of process [] = []
 steps_of process (step ∷ steps) =
     if process_of step == process then steps_of process steps ++ step ∷ [] else steps_of process steps
 
--- Some steps of the machine, from the opening, leave the words and locks that the run leaves, and bring
--- each process to its place. None is refused, and those of each process are the steps of its life, in
+-- The history takes the machine through the words of the run: after each act, the words and locks are
+-- those after some step of the history, or an act that changes no word came between two steps.
+pub data Follows (scene : FileScene) : List Act → History → Type 0 where
+  opens : Follows scene [] []
+  looks_on : (act : Act) (acts : List Act) (history : History) → Follows scene acts history →
+      words_after scene (act ∷ acts) ≡ words_after scene acts → Follows scene (act ∷ acts) history
+  steps_on : (act : Act) (acts : List Act) (history : History) (step : FileStep) → Follows scene acts history →
+      words_at scene (step ∷ history) ≡ words_after scene (act ∷ acts) → Follows scene (act ∷ acts) (step ∷ history)
+  moves_on : (acts : List Act) (history : History) (step : FileStep) → Follows scene acts history →
+      words_at scene (step ∷ history) ≡ words_after scene acts → Follows scene acts (step ∷ history)
+
+-- Some steps of the machine, from the opening, leave the words and locks that the run leaves, after each
+-- of its acts and at the end, and bring each process to its place. None is refused, and those of each process are the steps of its life, in
 -- order.
 pub record IsMachines (scene : FileScene) (acts : List Act) (taken : ℕ → List FileStep) (places : ℕ → Place) : Type 0 where
   pub steps : List FileStep
   pub allowed : ¬ Contains (outcomes_of (opening_state scene) steps) Refused
   pub words : (left_by scene steps).words ≡ words_after scene acts
+  pub follows : Follows scene acts (reverse steps)
   pub processes : (process : ℕ) → process < scene.processes → IsPlace (left_by scene steps) process (places process)
   pub own : (process : ℕ) → process < scene.processes → steps_of process steps ≡ taken process

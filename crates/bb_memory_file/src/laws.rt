@@ -4,13 +4,15 @@ ghost use Rattle.bb_memory_file.specs.FileFormat.{IsGeometry};
 ghost use Rattle.bb_memory_file.specs.FileNames.{FileStep, Place};
 ghost use Rattle.bb_memory_file.specs.FileOperations.{IsMade};
 ghost use Rattle.bb_memory_file.specs.FileParties.{among, scene_of, with_processes};
+ghost use Rattle.bb_memory_file.specs.FileQueueRuns.{ActsObey};
 ghost use Rattle.bb_memory_file.specs.FileRecords.{AreLives, IsMachinesRow, IsRecord, IsTold};
 ghost use Rattle.bb_memory_file.specs.FileRows.{IsEvent, Says};
 ghost use Rattle.bb_memory_file.specs.FileRuns.{Act, IsMachines, IsRun};
 ghost use Rattle.bb_memory_file.specs.Recorded.{IsFoundIn, Run, WordEvent};
 ghost use Rattle.bb_memory_file.specs.declared.geometry.FileGeometry.{FileGeometry};
 ghost use Rattle.bb_memory_file_machine.specs.FileMachine.{FileScene, FileWords, opening_state};
-ghost use Rattle.std.specs.Prelude.{List, Option, length, replicate, ℕ, ◌<◌};
+ghost use Rattle.bb_memory_file_machine.specs.FileQueues.{FileQueue, Obey, queue_rules};
+ghost use Rattle.std.specs.Prelude.{List, Option, length, replicate, reverse, ℕ, ◌<◌};
 
 /// States that the code is the machine: whatever processes do to a file by these calls, in any order
 /// of their operations, killed anywhere, some steps of the machine leave the same words and locks,
@@ -20,6 +22,16 @@ ghost use Rattle.std.specs.Prelude.{List, Option, length, replicate, ℕ, ◌<�
 pub fn file_code_theorem()
     ensures machine { (scene : FileScene) (acts : List Act) (taken : ℕ → List FileStep) (places : ℕ → Place)
         → IsRun scene acts taken places → IsMachines scene acts taken places }
+{}
+
+/// States that the steps of the machine obey the rules of a queue if the acts of the run do. So each
+/// clause of `queue_order_law` is one about the code whose acts obey them. The function does nothing:
+/// its contract is the law.
+pub fn queue_runs_law()
+    ensures obeys { (queue : FileQueue) (acts : List Act) (taken : ℕ → List FileStep) (places : ℕ → Place)
+        → IsRun queue.scene acts taken places → ActsObey queue acts
+        → (machines : IsMachines queue.scene acts taken places)
+        × Obey queue_rules queue (reverse machines.steps) }
 {}
 
 /// States that the operations on a file's row of words are events on the words of the machine: each

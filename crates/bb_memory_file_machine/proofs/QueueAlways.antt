@@ -6,7 +6,7 @@ use Rattle.bb_memory_file_machine.proofs.QueueLaps.{Fits, follows_below, round_a
 use Rattle.bb_memory_file_machine.proofs.QueueSteps.{Leaves, QueueChange, ends_one, may_empty, may_fill, posts_one, queue_change, rests, without}
 use Rattle.bb_memory_file_machine.specs.FileLaws.{IsSlot}
 use Rattle.bb_memory_file_machine.specs.FileMachine.{Empty, FileStep, FileWords, Message, Slot}
-use Rattle.bb_memory_file_machine.specs.FileQueues.{AreInOrder, FileQueue, History, IsMoment, IsSlotOf, Obey, Posted, StepObeys, earlier, fills, lap_of, messages, next_lap, now, posts, queue_rules, slot_of, state_after}
+use Rattle.bb_memory_file_machine.specs.FileQueues.{AreInOrder, FileQueue, History, IsMoment, IsSlotOf, Obey, Posted, StepObeys, earlier, fills, lap_of, messages, next_lap, now, posts, queue_rules, slot_of, state_after, words_at}
 use Rattle.bb_memory_lists.proofs.ListEntries.{contains-filter}
 use Rattle.std.proofs.Common.{Contains, List, Some, [], ap, arith, inl, inr, not, subst, sym, true, ℕ, ◌%◌, ◌*◌, ◌++◌, ◌+◌, ◌/◌, ◌<◌, ◌∙◌, ◌∷◌, ◌≡◌, ◌≢◌, ◌≤◌}
 use Rattle.std.proofs.lemmas.Bool.{cases_eq, eq-eqb, ne_eqb}
@@ -35,7 +35,7 @@ module _ (queue : FileQueue) (positive : 0 < queue.depth) (history : History) (h
     later = (state_after queue.scene after).words
 
     after_rest : ((slot : ℕ) → IsSlotOf queue slot → slice_get later.slots slot ≡ slice_get words.slots slot) →
-        ((slot : ℕ) → IsSlotOf queue slot → fills queue.scene slot after ≡ fills queue.scene slot history) →
+        ((slot : ℕ) → IsSlotOf queue slot → fills (words_at queue.scene) slot after ≡ fills (words_at queue.scene) slot history) →
         posts queue after ≡ posts queue history → messages queue after ≡ messages queue history → IsQueue queue positive after
     after_rest same counts next held = record {
       most = λ slot its.
@@ -66,12 +66,12 @@ module _ (queue : FileQueue) (positive : 0 < queue.depth) (history : History) (h
 
     module _ (slot lap bucket : ℕ) (its : IsSlotOf queue slot) (empty : IsSlot words slot (Empty lap))
         (there : IsSlot later slot (Message lap bucket)) (leaves : Leaves queue history step slot)
-        (count : fills queue.scene slot after ≡ fills queue.scene slot history + 1)
+        (count : fills (words_at queue.scene) slot after ≡ fills (words_at queue.scene) slot history + 1)
         (next : posts queue after ≡ posts queue history + 1)
         (held : messages queue after ≡ messages queue history ++ record { ticket = posts queue history; bucket = bucket } ∷ [])
         (turns : posts queue history ≡ turn queue positive slot history) where
       abbrev many : ℕ
-      many = fills queue.scene slot history
+      many = fills (words_at queue.scene) slot history
 
       abbrev new : Posted
       new = record { ticket = posts queue history; bucket = bucket }
@@ -94,7 +94,7 @@ module _ (queue : FileQueue) (positive : 0 < queue.depth) (history : History) (h
           let most = holds.most other others in
           elim (cases_eq (posts queue history) (turn queue positive other history)) [
             | inl same ↦ absurd (apart (same_slot queue positive slot other its others
-                (same_from_place many (slot % queue.depth) (fills queue.scene other history) (other % queue.depth) queue.depth
+                (same_from_place many (slot % queue.depth) (fills (words_at queue.scene) other history) (other % queue.depth) queue.depth
                 below (mod_below other queue.depth positive) (sym turns ∙ same)).1))
             | inr differ ↦ omega (arith, most, differ)
           ]
@@ -119,14 +119,14 @@ module _ (queue : FileQueue) (positive : 0 < queue.depth) (history : History) (h
             let least = holds.least other others in omega (arith, rounds, least, next)
       ]
 
-      fits_posted : Fits (Message lap bucket) (fills queue.scene slot after)
+      fits_posted : Fits (Message lap bucket) (fills (words_at queue.scene) slot after)
       fits_posted = (many, count, holds.words slot its (Empty lap) empty)
 
       words_posted : (other : ℕ) → IsSlotOf queue other → (word : Slot) → IsSlot later other word →
-          Fits word (fills queue.scene other after)
+          Fits word (fills (words_at queue.scene) other after)
       words_posted other others word is = elim (cases_eq slot other) [
-        | inl same ↦ subst (λ (s : ℕ). Fits word (fills queue.scene s after)) same
-            (subst (λ (w : Slot). Fits w (fills queue.scene slot after))
+        | inl same ↦ subst (λ (s : ℕ). Fits word (fills (words_at queue.scene) s after)) same
+            (subst (λ (w : Slot). Fits w (fills (words_at queue.scene) slot after))
             (one_value later.slots slot (Message lap bucket) word there (ap (slice_get later.slots) same ∙ is)) fits_posted)
         | inr apart ↦ subst (Fits word) (sym (leaves.counts other others apart))
             (holds.words other others word (sym (leaves.words other others apart) ∙ is))
@@ -135,7 +135,7 @@ module _ (queue : FileQueue) (positive : 0 < queue.depth) (history : History) (h
       placed_new : IsPlaced queue positive after new
       placed_new = record {
         word = ap (slice_get later.slots) slot_is ∙ there ∙ ap (λ (l : ℕ). Some (Message l bucket)) (sym lap_is);
-        count = ap (λ (s : ℕ). fills queue.scene s after) slot_is ∙ count ∙ ap (λ (n : ℕ). n + 1) (sym round_is);
+        count = ap (λ (s : ℕ). fills (words_at queue.scene) s after) slot_is ∙ count ∙ ap (λ (n : ℕ). n + 1) (sym round_is);
       }
 
       placed_posted : (posted : Posted) → Contains (messages queue after) posted → IsPlaced queue positive after posted
@@ -192,27 +192,27 @@ module _ (queue : FileQueue) (positive : 0 < queue.depth) (history : History) (h
 
     module _ (slot lap bucket next_lap_is : ℕ) (its : IsSlotOf queue slot) (was : IsSlot words slot (Message lap bucket))
         (there : IsSlot later slot (Empty next_lap_is)) (leaves : Leaves queue history step slot)
-        (count : fills queue.scene slot after ≡ fills queue.scene slot history)
+        (count : fills (words_at queue.scene) slot after ≡ fills (words_at queue.scene) slot history)
         (next : posts queue after ≡ posts queue history)
         (held : messages queue after ≡ without queue slot (messages queue history))
         (follows : next_lap_is ≡ next_lap lap) where
-      counts_ended : (other : ℕ) → IsSlotOf queue other → fills queue.scene other after ≡ fills queue.scene other history
+      counts_ended : (other : ℕ) → IsSlotOf queue other → fills (words_at queue.scene) other after ≡ fills (words_at queue.scene) other history
       counts_ended other others = elim (cases_eq slot other) [
-        | inl same ↦ subst (λ (s : ℕ). fills queue.scene s after ≡ fills queue.scene s history) same count
+        | inl same ↦ subst (λ (s : ℕ). fills (words_at queue.scene) s after ≡ fills (words_at queue.scene) s history) same count
         | inr apart ↦ leaves.counts other others apart
       ]
 
-      fits_ended : Fits (Empty next_lap_is) (fills queue.scene slot after)
+      fits_ended : Fits (Empty next_lap_is) (fills (words_at queue.scene) slot after)
       fits_ended =
           let fits = holds.words slot its (Message lap bucket) was in
           follows ∙ ap next_lap fits.2 ∙ follows_below fits.0 ∙ ap (λ (n : ℕ). n % 2 ^ 30) (sym fits.1)
           ∙ ap (λ (n : ℕ). n % 2 ^ 30) (sym count)
 
       words_ended : (other : ℕ) → IsSlotOf queue other → (word : Slot) → IsSlot later other word →
-          Fits word (fills queue.scene other after)
+          Fits word (fills (words_at queue.scene) other after)
       words_ended other others word is = elim (cases_eq slot other) [
-        | inl same ↦ subst (λ (s : ℕ). Fits word (fills queue.scene s after)) same
-            (subst (λ (w : Slot). Fits w (fills queue.scene slot after))
+        | inl same ↦ subst (λ (s : ℕ). Fits word (fills (words_at queue.scene) s after)) same
+            (subst (λ (w : Slot). Fits w (fills (words_at queue.scene) slot after))
             (one_value later.slots slot (Empty next_lap_is) word there (ap (slice_get later.slots) same ∙ is)) fits_ended)
         | inr apart ↦ subst (Fits word) (sym (leaves.counts other others apart))
             (holds.words other others word (sym (leaves.words other others apart) ∙ is))

@@ -8,7 +8,7 @@ use Rattle.bb_memory_file_machine.proofs.QueueLaps.{Fits, due_above, due_at, due
 use Rattle.bb_memory_file_machine.proofs.QueueOrder.{near_above, near_below}
 use Rattle.bb_memory_file_machine.specs.FileLaws.{IsFlag, IsSlot}
 use Rattle.bb_memory_file_machine.specs.FileMachine.{Empty, FileScene, FileStep, Message, SentTo, Slot}
-use Rattle.bb_memory_file_machine.specs.FileQueues.{FileQueue, HasSeen, History, IsFilled, IsLater, IsSlotOf, IsWhole, MayFill, MayPass, MayTake, Obey, Posted, Waits, fills, lap_before, lap_of, lap_said, messages, now, outcome_after, over, posts, queue_rules, slot_before, slot_of, state_after, unsent}
+use Rattle.bb_memory_file_machine.specs.FileQueues.{FileQueue, HasSeen, History, IsFilled, IsLater, IsSlotOf, IsWhole, MayFill, MayPass, MayTake, Obey, Posted, Waits, fills, lap_before, lap_of, lap_said, messages, now, outcome_after, over, posts, queue_rules, slot_before, slot_of, state_after, unsent, words_at}
 use Rattle.bb_memory_lists.proofs.SliceGets.{length-set_at}
 use Rattle.std.proofs.Common.{Bool, Contains, Some, [], ap, arith, div-add-mod', false, inl, inr, length, lt_of_mul-lt-mul_right, refl, subst, sym, true, ℕ, ◌%◌, ◌*◌, ◌+◌, ◌-◌, ◌/◌, ◌<◌, ◌∙◌, ◌∷◌, ◌≡◌, ◌≢◌, ◌≤◌}
 use Rattle.std.proofs.lemmas.Bool.{cases_lt, cases_order}
@@ -35,7 +35,7 @@ slots_always scene (step ∷ history) =
 
 -- a look at this very moment
 abbrev pub look_now : (scene : FileScene) (history : History) (slot : ℕ) (word : Slot) →
-    IsSlot (state_after scene history).words slot word → HasSeen scene history slot word
+    IsSlot (state_after scene history).words slot word → HasSeen (words_at scene) history slot word
 look_now scene history slot word is = record { moment = history; past = now; seen = is; recent = omega arith }
 
 -- WORDS
@@ -107,7 +107,7 @@ module _ (queue : FileQueue) (positive : 0 < queue.depth) where
     slot = slot_of queue next
 
     abbrev many : ℕ
-    many = fills queue.scene slot history
+    many = fills (words_at queue.scene) slot history
 
     its_slot : IsSlotOf queue slot
     its_slot = slot_in_queue queue positive next
@@ -125,14 +125,14 @@ module _ (queue : FileQueue) (positive : 0 < queue.depth) where
         (omega (arith, least, turns, parts, round_after (next / queue.depth) queue.depth)) in omega (arith, one, two)
 
     pub post_at : (lap : ℕ) → IsWhole queue → IsSlot (state_after queue.scene history).words slot (Empty lap) →
-        MayFill queue history slot lap
+        MayFill (words_at queue.scene) queue history slot lap
     post_at lap whole empty =
         let before = slot_before queue slot in
         let is_before = before_of queue positive slot its_slot in
         let found = word_of history whole (slot_before queue slot) is_before.its in
         let fits = holds.words (slot_before queue slot) is_before.its found.0 found.1 in
         let lap_is : lap ≡ many % 2 ^ 30 = holds.words slot its_slot (Empty lap) empty in
-        let too = fills queue.scene (slot_before queue slot) history in
+        let too = fills (words_at queue.scene) (slot_before queue slot) history in
         let most_too = holds.most (slot_before queue slot) is_before.its in
         let least_too = holds.least (slot_before queue slot) is_before.its in
         let turns = slot_in_turn queue positive next in
@@ -145,7 +145,7 @@ module _ (queue : FileQueue) (positive : 0 < queue.depth) where
         let below : lap_before lap slot (slot_before queue slot) < 2 ^ 30 =
         subst (λ (l : ℕ). lap_before l slot (slot_before queue slot) < 2 ^ 30) (sym lap_is)
         (lap_bound many slot (slot_before queue slot)) in
-        let due : due_at many slot (slot_before queue slot) ≡ fills queue.scene (slot_before queue slot) history =
+        let due : due_at many slot (slot_before queue slot) ≡ fills (words_at queue.scene) (slot_before queue slot) history =
         elim is_before.turns [
           | inl (less, one) ↦
               let due_is = due_below many slot before less in
@@ -165,7 +165,7 @@ module _ (queue : FileQueue) (positive : 0 < queue.depth) where
           word = found.0;
           look = look_now queue.scene history (slot_before queue slot) found.0 found.1;
           filled = elim (seen_due (lap_before lap slot (slot_before queue slot)) (due_at many slot (slot_before queue slot))
-              (fills queue.scene (slot_before queue slot) history) below follows found.0 fits (inl due)) [
+              (fills (words_at queue.scene) (slot_before queue slot) history) below follows found.0 fits (inl due)) [
                 | inl later ↦ filled_later (lap_before lap slot (slot_before queue slot)) found.0 later
                 | inr same ↦ filled_due (lap_before lap slot (slot_before queue slot)) found.0 same.0 same.1
               ];
@@ -178,7 +178,7 @@ module _ (queue : FileQueue) (positive : 0 < queue.depth) where
         let posted = listed.posted in
         let placed = holds.placed listed.posted listed.there in
         let counts : listed.posted.ticket / queue.depth + 1 ≡ next / queue.depth =
-        sym placed.count ∙ ap (λ (s : ℕ). fills queue.scene s history) listed.its_slot ∙ many_is in
+        sym placed.count ∙ ap (λ (s : ℕ). fills (words_at queue.scene) s history) listed.its_slot ∙ many_is in
         let mods : listed.posted.ticket % queue.depth ≡ next % queue.depth =
         sym (slot_in_turn queue positive listed.posted.ticket) ∙ ap (λ (s : ℕ). s % queue.depth) listed.its_slot
         ∙ slot_in_turn queue positive next in
@@ -190,7 +190,7 @@ module _ (queue : FileQueue) (positive : 0 < queue.depth) where
 
   pub may_post : (history : History) (lap : ℕ) → IsWhole queue → Obey queue_rules queue history →
       IsSlot (state_after queue.scene history).words (slot_of queue (posts queue history)) (Empty lap) →
-      MayFill queue history (slot_of queue (posts queue history)) lap
+      MayFill (words_at queue.scene) queue history (slot_of queue (posts queue history)) lap
   may_post history lap whole obey empty = post_at history (queue_always queue positive history obey) lap whole empty
 
   pub is_full : (history : History) (lap bucket : ℕ) → Obey queue_rules queue history →
@@ -220,7 +220,7 @@ module _ (queue : FileQueue) (positive : 0 < queue.depth) where
 
     module _ (other : ℕ) (others : IsSlotOf queue other) where
       -- a message in another slot at the lap before is older, so it isn't sent
-      older_unsent : (bucket : ℕ) → other ≢ at → due_at before at other ≡ fills queue.scene other history →
+      older_unsent : (bucket : ℕ) → other ≢ at → due_at before at other ≡ fills (words_at queue.scene) other history →
           IsSlot (state_after queue.scene history).words other (Message (lap_before lap at other) bucket) →
           ¬ IsFlag (state_after queue.scene history).words bucket (SentTo other (lap_before lap at other))
       older_unsent bucket apart due is sent =
@@ -239,7 +239,7 @@ module _ (queue : FileQueue) (positive : 0 < queue.depth) where
           } in
           let newer = oldest listed.posted waits_too in
           let count : due_at before at other ≡ older.ticket / queue.depth + 1 =
-          due ∙ ap (λ (s : ℕ). fills queue.scene s history) (sym listed.its_slot) ∙ placed.count in
+          due ∙ ap (λ (s : ℕ). fills (words_at queue.scene) s history) (sym listed.its_slot) ∙ placed.count in
           let turns : other % queue.depth ≡ older.ticket % queue.depth =
           ap (λ (s : ℕ). s % queue.depth) (sym listed.its_slot) ∙ slot_in_turn queue positive listed.posted.ticket in
           let own = slot_in_turn queue positive posted.ticket in
@@ -261,29 +261,29 @@ module _ (queue : FileQueue) (positive : 0 < queue.depth) where
                 absurd (omega (arith, newer, rounds, one, below, parts, other_parts))
           ]
 
-      due_near : other ≢ at → (due_at before at other ≡ fills queue.scene other history)
-          ⊎ (fills queue.scene other history ≡ due_at before at other + 1)
+      due_near : other ≢ at → (due_at before at other ≡ fills (words_at queue.scene) other history)
+          ⊎ (fills (words_at queue.scene) other history ≡ due_at before at other + 1)
       due_near apart = elim (cases_order other at) [
         | inl same ↦ absurd (apart same)
         | inr (inl less) ↦
             let near = near_below queue positive history holds_now (queue_moments queue positive history obey) posted waits.listed
             other others apart less in
             let due = due_below before at other less in
-            one_or_more (due_at before at other) (fills queue.scene other history) (omega (arith, near.0, due))
+            one_or_more (due_at before at other) (fills (words_at queue.scene) other history) (omega (arith, near.0, due))
             (omega (arith, near.1, due))
         | inr (inr less) ↦
             let near = near_above queue positive history holds_now (queue_moments queue positive history obey) posted waits.listed
             other others apart less in
             let due = due_above before at other (omega (arith, less)) in
-            one_or_more (due_at before at other) (fills queue.scene other history) (omega (arith, near.0, due))
+            one_or_more (due_at before at other) (fills (words_at queue.scene) other history) (omega (arith, near.0, due))
             (omega (arith, near.1, due))
       ]
 
-      may_pass : other ≢ at → MayPass queue history history other (lap_before lap at other)
+      may_pass : other ≢ at → MayPass (words_at queue.scene) history history other (lap_before lap at other)
       may_pass apart =
           let found = word_of history whole other others in
           let fits = holds_now.words other others found.0 found.1 in
-          elim (seen_due (lap_before lap at other) (due_at before at other) (fills queue.scene other history)
+          elim (seen_due (lap_before lap at other) (due_at before at other) (fills (words_at queue.scene) other history)
           (lap_bound before at other) (follows_before before at other) found.0 fits (due_near apart)) [
             | inl later ↦ over found.0 (look_now queue.scene history other found.0 found.1) later
             | inr same ↦
@@ -292,7 +292,7 @@ module _ (queue : FileQueue) (positive : 0 < queue.depth) where
                 now (older_unsent same.0 apart (sym same.2) message)
           ]
 
-    pub take_now : MayTake queue history (slot_of queue posted.ticket) posted.bucket (lap_of queue posted.ticket)
+    pub take_now : MayTake (words_at queue.scene) queue history (slot_of queue posted.ticket) posted.bucket (lap_of queue posted.ticket)
     take_now = record {
       look = look_now queue.scene history at (Message lap posted.bucket) (holds_now.placed posted waits.listed).word;
       others = λ other others apart. may_pass other others apart;

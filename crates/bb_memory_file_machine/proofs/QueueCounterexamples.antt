@@ -4,7 +4,7 @@ use Rattle.bb_memory_file_machine.proofs.FileEffects.{one_value}
 use Rattle.bb_memory_file_machine.specs.FileLaws.{IsSlot}
 use Rattle.bb_memory_file_machine.specs.FileMachine.{Allocate, Count, Deallocate, Done, Empty, FileOutcome, FileScene, FileStep, Fill, Lock, Message, Next, OnSlot, Post, Receives, Slot, Take}
 use Rattle.bb_memory_file_machine.specs.FileQueueVariants.{GoesRound, LosesOrder, empty_any_lap, fill_any_lap, fill_unlooked, take_any, take_past_empty, take_unlooked}
-use Rattle.bb_memory_file_machine.specs.FileQueues.{FileQueue, HasHappened, HasSeen, History, IsFilled, IsLater, IsMoment, IsSlotOf, MayEmpty, MayFill, MayPass, MayTake, Obey, Rules, StepObeys, earlier, fills, lap_before, lap_said, next_lap, now, outcome_after, over, queue_rules, slot_before, state_after, unsent}
+use Rattle.bb_memory_file_machine.specs.FileQueues.{FileQueue, HasHappened, HasSeen, History, IsFilled, IsLater, IsMoment, IsSlotOf, MayEmpty, MayFill, MayPass, MayTake, Obey, Rules, StepObeys, earlier, fills, lap_before, lap_said, next_lap, now, outcome_after, over, queue_rules, slot_before, state_after, unsent, words_at}
 use Rattle.std.proofs.Common.{[], ap, arith, inl, inr, length, refl, subst, suc, sym, true, zero, ℕ, ◌++◌, ◌+◌, ◌-◌, ◌<◌, ◌∙◌, ◌∷◌, ◌≡◌, ◌≢◌, ◌≤◌}
 use Rattle.std.proofs.lemmas.Bool.{ltb-true}
 use Rattle.std.specs.Prelude.{nat_lt, ◌^◌, ◌⊎◌}
@@ -56,22 +56,22 @@ bucket_of outcome = 0
 -- RULES
 
 abbrev seen_at : (scene : FileScene) (moment history : History) (slot : ℕ) (word : Slot) → IsMoment moment history →
-    IsSlot (state_after scene moment).words slot word → nat_lt (fills scene slot history) (fills scene slot moment + 2 ^ 29) ≡ true →
-    HasSeen scene history slot word
+    IsSlot (state_after scene moment).words slot word → nat_lt (fills (words_at scene) slot history) (fills (words_at scene) slot moment + 2 ^ 29) ≡ true →
+    HasSeen (words_at scene) history slot word
 seen_at scene moment history slot word past is few = record {
   moment = moment;
   past = past;
   seen = is;
-  recent = ltb-true (fills scene slot history) (fills scene slot moment + 2 ^ 29) few;
+  recent = ltb-true (fills (words_at scene) slot history) (fills (words_at scene) slot moment + 2 ^ 29) few;
 }
 
 few_now : (n : ℕ) → n < n + 2 ^ 29
 few_now n = omega arith
 
 abbrev seen_now : (scene : FileScene) (history : History) (slot : ℕ) (word : Slot) → IsSlot (state_after scene history).words slot word →
-    HasSeen scene history slot word
+    HasSeen (words_at scene) history slot word
 seen_now scene history slot word is =
-    record { moment = history; past = now; seen = is; recent = few_now (fills scene slot history) }
+    record { moment = history; past = now; seen = is; recent = few_now (fills (words_at scene) slot history) }
 
 next_later : (lap : ℕ) → IsLater lap (next_lap lap)
 next_later lap = (1, omega arith, omega arith, refl)
@@ -85,12 +85,12 @@ filling rules history process slot lap said may other its too =
     subst (λ (s : ℕ). rules.fill two history s lap) same may
 
 may_fill : (history : History) (slot lap : ℕ) (word : Slot) → IsSlot (state_after small history).words (slot_before two slot) word →
-    IsFilled (lap_before lap slot (slot_before two slot)) word → MayFill two history slot lap
+    IsFilled (lap_before lap slot (slot_before two slot)) word → MayFill (words_at small) two history slot lap
 may_fill history slot lap word is filled =
     record { word = word; look = seen_now small history (slot_before two slot) word is; filled = filled }
 
 may_empty : (history : History) (slot lap bucket : ℕ) → IsSlot (state_after small history).words slot (Message lap bucket) →
-    MayEmpty two history slot (next_lap lap)
+    MayEmpty (words_at small history) slot (next_lap lap)
 may_empty history slot lap bucket is found other too =
     let words = one_value (state_after small history).words.slots slot (Message lap bucket) (Message found other) is too in
     let laps : lap ≡ found = cc in ap next_lap laps
@@ -103,19 +103,19 @@ either P first second (suc (suc slot)) its = absurd (omega (arith, its))
 -- a receiver takes the message in one slot, and has seen that the other is at a later lap
 take_first : (history : History) (bucket lap : ℕ) (word : Slot) → IsSlot (state_after small history).words 0 (Message lap bucket) →
     IsSlot (state_after small history).words 1 word → IsLater (lap_before lap 0 1) (lap_said word) →
-    MayTake two history 0 bucket lap
+    MayTake (words_at small) two history 0 bucket lap
 take_first history bucket lap word is other later = record {
   look = seen_now small history 0 (Message lap bucket) is;
-  others = λ slot its. either (λ (s : ℕ). s ≢ 0 → MayPass two history history s (lap_before lap 0 s)) (λ apart. absurd (apart refl))
+  others = λ slot its. either (λ (s : ℕ). s ≢ 0 → MayPass (words_at small) history history s (lap_before lap 0 s)) (λ apart. absurd (apart refl))
       (λ apart. over word (seen_now small history 1 word other) later) slot its;
 }
 
 take_second : (history : History) (bucket lap : ℕ) (word : Slot) → IsSlot (state_after small history).words 1 (Message lap bucket) →
     IsSlot (state_after small history).words 0 word → IsLater (lap_before lap 1 0) (lap_said word) →
-    MayTake two history 1 bucket lap
+    MayTake (words_at small) two history 1 bucket lap
 take_second history bucket lap word is other later = record {
   look = seen_now small history 1 (Message lap bucket) is;
-  others = λ slot its. either (λ (s : ℕ). s ≢ 1 → MayPass two history history s (lap_before lap 1 s))
+  others = λ slot its. either (λ (s : ℕ). s ≢ 1 → MayPass (words_at small) history history s (lap_before lap 1 s))
       (λ apart. over word (seen_now small history 0 word other) later) (λ apart. absurd (apart refl)) slot its;
 }
 
@@ -160,7 +160,7 @@ receiving rules history slot bucket lap next take empty obey = (tt, ((λ its sai
 abbrev both : History
 both = posted 1 1 0 (posted 0 0 0 held)
 
-module _ (rules : Rules) (fill : (history : History) (slot lap : ℕ) → MayFill two history slot lap → rules.fill two history slot lap)
+module _ (rules : Rules) (fill : (history : History) (slot lap : ℕ) → MayFill (words_at small) two history slot lap → rules.fill two history slot lap)
   where
     one_obeys : Obey rules two (posted 0 0 0 held)
     one_obeys = posting rules held 0 0 0 refl
@@ -179,9 +179,9 @@ third = returned 0 (received 0 0 0 1 both)
 abbrev round : History
 round = received 0 0 1 2 (received 1 1 0 1 (posted 0 0 1 third))
 
-module _ (rules : Rules) (fill : (history : History) (slot lap : ℕ) → MayFill two history slot lap → rules.fill two history slot lap)
-    (take : (history : History) (slot bucket lap : ℕ) → MayTake two history slot bucket lap → rules.take two history slot bucket lap)
-    (empty : (history : History) (slot next : ℕ) → MayEmpty two history slot next → rules.empty two history slot next) where
+module _ (rules : Rules) (fill : (history : History) (slot lap : ℕ) → MayFill (words_at small) two history slot lap → rules.fill two history slot lap)
+    (take : (history : History) (slot bucket lap : ℕ) → MayTake (words_at small) two history slot bucket lap → rules.take two history slot bucket lap)
+    (empty : (history : History) (slot next : ℕ) → MayEmpty (words_at small history) slot next → rules.empty two history slot next) where
   third_obeys : Obey rules two third
   third_obeys = (
     tt,
@@ -298,7 +298,7 @@ any_lap_loses = record {
 -- TAKES
 
 -- the receiver takes the second message, and the first one waits
-module _ (rules : Rules) (fill : (history : History) (slot lap : ℕ) → MayFill two history slot lap → rules.fill two history slot lap)
+module _ (rules : Rules) (fill : (history : History) (slot lap : ℕ) → MayFill (words_at small) two history slot lap → rules.fill two history slot lap)
     (take : rules.take two both 1 1 0) where
   second_loses : LosesOrder rules
   second_loses = record {
@@ -333,7 +333,7 @@ since_unsent = moment_since (Next 0 ∷ Fill 0 0 ∷ Post 0 0 1 1 7 ∷ Next 0 �
 pub take_unlooked_loses : LosesOrder take_unlooked
 take_unlooked_loses = second_loses take_unlooked (λ history slot lap may. may) (
   seen_now small both 1 (Message 0 1) refl,
-  (λ slot its. either (λ (s : ℕ). s ≢ 1 → MayPass two both [] s (lap_before 0 1 s))
+  (λ slot its. either (λ (s : ℕ). s ≢ 1 → MayPass (words_at small) both [] s (lap_before 0 1 s))
       (λ apart. unsent 0 (seen_at small unsent_yet both 0 (Message 0 0) since_unsent refl refl) unsent_yet now
       (moment_since unsent_yet []) since_unsent (λ is. absurd (cc)))
       (λ apart. absurd (apart refl)) slot its),
@@ -343,7 +343,7 @@ pub past_empty_loses : LosesOrder take_past_empty
 past_empty_loses = second_loses take_past_empty (λ history slot lap may. may) (
   seen_now small both 1 (Message 0 1) refl,
   (λ slot its. either
-      (λ (s : ℕ). s ≢ 1 → MayPass two both both s (lap_before 0 1 s) ⊎ HasSeen small both s (Empty (lap_before 0 1 s)))
+      (λ (s : ℕ). s ≢ 1 → MayPass (words_at small) both both s (lap_before 0 1 s) ⊎ HasSeen (words_at small) both s (Empty (lap_before 0 1 s)))
       (λ apart. inr (seen_at small held both 0 (Empty 0) (moment_since (posted 1 1 0 (posted 0 0 0 [])) held) refl refl))
       (λ apart. absurd (apart refl)) slot its),
 )

@@ -2,7 +2,7 @@
 use Rattle.bb_memory_file_machine.proofs.QueueHistories.{SlotChange, change_after, empties_one, fills_one, keeps, sent_in, sent_or_received}
 use Rattle.bb_memory_file_machine.specs.FileLaws.{IsFlag, IsHolder, IsSlot}
 use Rattle.bb_memory_file_machine.specs.FileMachine.{Done, Empty, FileOutcome, FileScene, FileStep, FileWords, Fill, Message, OnSlot, Receives, SentTo, Slot}
-use Rattle.bb_memory_file_machine.specs.FileQueues.{AreInOrder, FileQueue, HasHappened, History, IsMoment, Posted, counted, earlier, filled_after, filled_by, fills, if_filled, now, outcome_after, posts, state_after}
+use Rattle.bb_memory_file_machine.specs.FileQueues.{AreInOrder, FileQueue, HasHappened, History, IsMoment, Posted, counted, earlier, filled_after, filled_by, fills, if_filled, now, outcome_after, posts, state_after, words_at, is_filling}
 use Rattle.bb_memory_lists.proofs.ListEntries.{contains-behind, contains-first, contains-none}
 use Rattle.bb_memory_lists.proofs.SliceGets.{slice_get-set_apart, slice_get-set_same}
 use Rattle.std.proofs.Common.{Bool, Contains, List, None, Option, Some, [], ap, arith, false, filter, inl, inr, length, refl, suc, sym, true, zero, ℕ, ◌++◌, ◌+◌, ◌/◌, ◌<◌, ◌∙◌, ◌∷◌, ◌≡◌, ◌≢◌, ◌≤◌}
@@ -33,11 +33,12 @@ counted_more test count None = omega arith
 counted_more test count (Some slot) = counted_if count (test slot)
 
 pub fills_grow : (scene : FileScene) (slot : ℕ) (moment history : History) → IsMoment moment history →
-    fills scene slot moment ≤ fills scene slot history
+    fills (words_at scene) slot moment ≤ fills (words_at scene) slot history
 fills_grow scene slot moment _ now = omega arith
 fills_grow scene slot moment _ (earlier step history past) =
     let before = fills_grow scene slot moment history past in
-    let more = counted_more (λ filled. filled == slot) (fills scene slot history) (filled_after scene history step) in
+    let more = counted_if (fills (words_at scene) slot history)
+    (is_filling (slice_get (words_at scene history).slots slot) (slice_get (words_at scene (step ∷ history)).slots slot)) in
     omega (arith, before, more)
 
 pub posts_grow : (queue : FileQueue) (moment history : History) → IsMoment moment history →
@@ -50,6 +51,11 @@ posts_grow queue moment _ (earlier step history past) =
     omega (arith, before, more)
 
 -- FILLED SLOTS
+
+pub never_filling : (word : Option Slot) → is_filling word word ≡ false
+never_filling None = refl
+never_filling (Some (Empty lap)) = refl
+never_filling (Some (Message lap bucket)) = refl
 
 pub filled_no : (words : FileWords) (outcome : FileOutcome) → ((slot : ℕ) → ¬ (outcome ≡ OnSlot slot)) →
     filled_by words outcome ≡ None
@@ -78,45 +84,74 @@ module _ (scene : FileScene) (history : History) (step : FileStep) where
   apart_from slot other word slots apart =
       ap (λ (s : List Slot). slice_get s other) slots ∙ slice_get-set_apart words.slots slot other word apart
 
+  -- COUNTS OF FILLS
+
+  abbrev if_more : ℕ → Bool → ℕ
+  if_more slot more = if more then fills (words_at scene) slot history + 1 else fills (words_at scene) slot history
+
+  fills_by : (slot : ℕ) (before after : Option Slot) → slice_get words.slots slot ≡ before → slice_get later.slots slot ≡ after →
+      fills (words_at scene) slot (step ∷ history) ≡ if_more slot (is_filling before after)
+  fills_by slot before after was is =
+      ap (λ (w : Option Slot). if_more slot (is_filling w (slice_get later.slots slot))) was
+      ∙ ap (λ (w : Option Slot). if_more slot (is_filling before w)) is
+
+  pub fills_kept : (slot : ℕ) → slice_get later.slots slot ≡ slice_get words.slots slot →
+      fills (words_at scene) slot (step ∷ history) ≡ fills (words_at scene) slot history
+  fills_kept slot same =
+      fills_by slot (slice_get words.slots slot) (slice_get words.slots slot) refl same
+      ∙ ap (if_more slot) (never_filling (slice_get words.slots slot))
+
+  pub fills_more : (slot lap found bucket : ℕ) → IsSlot words slot (Empty lap) → IsSlot later slot (Message found bucket) →
+      fills (words_at scene) slot (step ∷ history) ≡ fills (words_at scene) slot history + 1
+  fills_more slot lap found bucket was is = fills_by slot (Some (Empty lap)) (Some (Message found bucket)) was is
+
+  pub fills_emptied : (slot lap bucket next : ℕ) → IsSlot words slot (Message lap bucket) → IsSlot later slot (Empty next) →
+      fills (words_at scene) slot (step ∷ history) ≡ fills (words_at scene) slot history
+  fills_emptied slot lap bucket next was is = fills_by slot (Some (Message lap bucket)) (Some (Empty next)) was is
+
   -- EACH SLOT
 
   -- what a step does to one slot: it keeps the word, fills the slot, or empties it
   pub data OneChange (slot : ℕ) : Type 0 where
     kept : slice_get later.slots slot ≡ slice_get words.slots slot →
-        fills scene slot (step ∷ history) ≡ fills scene slot history → OneChange slot
+        fills (words_at scene) slot (step ∷ history) ≡ fills (words_at scene) slot history → OneChange slot
     filled : (process lap bucket : ℕ) → step ≡ Fill process lap → outcome_after scene history step ≡ OnSlot slot →
         IsSlot words slot (Empty lap) → IsSlot later slot (Message lap bucket) →
-        fills scene slot (step ∷ history) ≡ fills scene slot history + 1 → OneChange slot
+        fills (words_at scene) slot (step ∷ history) ≡ fills (words_at scene) slot history + 1 → OneChange slot
     emptied : (process party lap bucket next : ℕ) → step ≡ Done process party slot bucket next →
         outcome_after scene history step ≡ OnSlot slot → IsHolder words bucket party →
         IsSlot words slot (Message lap bucket) → IsSlot later slot (Empty next) →
-        fills scene slot (step ∷ history) ≡ fills scene slot history → OneChange slot
+        fills (words_at scene) slot (step ∷ history) ≡ fills (words_at scene) slot history → OneChange slot
 
   one_of : (slot : ℕ) → SlotChange words step (outcome_after scene history step) later.slots → OneChange slot
-  one_of slot (keeps slots other) = kept (ap (λ (s : List Slot). slice_get s slot) slots)
-      (counted_none (λ filled. filled == slot) (fills scene slot history) (filled_after scene history step)
-      (filled_no later (outcome_after scene history step) other))
+  one_of slot (keeps slots other) =
+      let same : slice_get later.slots slot ≡ slice_get words.slots slot = ap (λ (s : List Slot). slice_get s slot) slots in
+      kept same (fills_kept slot same)
   one_of slot (fills_one process at bucket lap step_is outcome empty slots) =
       let there : IsSlot later at (Message lap bucket) = replaced at (Empty lap) (Message lap bucket) empty slots in
       elim (cases_eq at slot) [
-        | inl same ↦ filled process lap bucket step_is (outcome ∙ ap OnSlot same)
-            (ap (slice_get words.slots) (sym same) ∙ empty) (ap (slice_get later.slots) (sym same) ∙ there)
-            (counted_one (λ filled. filled == slot) (fills scene slot history) at (filled_after scene history step)
-            (filled_on at (Message lap bucket) outcome there) (eq-eqb at slot same))
-        | inr apart ↦ kept (apart_from at slot (Message lap bucket) slots apart)
-            (counted_not (λ filled. filled == slot) (fills scene slot history) at (filled_after scene history step)
-            (filled_on at (Message lap bucket) outcome there) (ne_eqb at slot apart))
+        | inl same ↦
+            let was : IsSlot words slot (Empty lap) = ap (slice_get words.slots) (sym same) ∙ empty in
+            let is : IsSlot later slot (Message lap bucket) = ap (slice_get later.slots) (sym same) ∙ there in
+            filled process lap bucket step_is (outcome ∙ ap OnSlot same) was is (fills_more slot lap lap bucket was is)
+        | inr apart ↦
+            let same : slice_get later.slots slot ≡ slice_get words.slots slot =
+            apart_from at slot (Message lap bucket) slots apart in
+            kept same (fills_kept slot same)
       ]
   one_of slot (empties_one process party at bucket lap next step_is outcome is held slots) =
       let there : IsSlot later at (Empty next) = replaced at (Message lap bucket) (Empty next) is slots in
-      let count : fills scene slot (step ∷ history) ≡ fills scene slot history =
-      counted_none (λ filled. filled == slot) (fills scene slot history) (filled_after scene history step)
-      (filled_on at (Empty next) outcome there) in
       elim (cases_eq at slot) [
-        | inl same ↦ emptied process party lap bucket next
-            (step_is ∙ ap (λ (s : ℕ). Done process party s bucket next) same) (outcome ∙ ap OnSlot same) held
-            (ap (slice_get words.slots) (sym same) ∙ is) (ap (slice_get later.slots) (sym same) ∙ there) count
-        | inr apart ↦ kept (apart_from at slot (Empty next) slots apart) count
+        | inl same ↦
+            let was : IsSlot words slot (Message lap bucket) = ap (slice_get words.slots) (sym same) ∙ is in
+            let now_is : IsSlot later slot (Empty next) = ap (slice_get later.slots) (sym same) ∙ there in
+            emptied process party lap bucket next
+            (step_is ∙ ap (λ (s : ℕ). Done process party s bucket next) same) (outcome ∙ ap OnSlot same) held was now_is
+            (fills_emptied slot lap bucket next was now_is)
+        | inr apart ↦
+            let same : slice_get later.slots slot ≡ slice_get words.slots slot =
+            apart_from at slot (Empty next) slots apart in
+            kept same (fills_kept slot same)
       ]
 
   pub change_at : (slot : ℕ) → OneChange slot
@@ -124,7 +159,7 @@ module _ (scene : FileScene) (history : History) (step : FileStep) where
 
 -- a slot that wasn't filled since has the message that it had
 pub same_message : (scene : FileScene) (slot lap bucket : ℕ) (moment history : History) → IsMoment moment history →
-    fills scene slot history ≤ fills scene slot moment →
+    fills (words_at scene) slot history ≤ fills (words_at scene) slot moment →
     IsSlot (state_after scene history).words slot (Message lap bucket) →
     IsSlot (state_after scene moment).words slot (Message lap bucket)
 same_message scene slot lap bucket moment _ now most is = is
@@ -141,7 +176,7 @@ same_message scene slot lap bucket moment _ (earlier step history past) most is 
 pub waits_or_received : (scene : FileScene) (slot lap bucket : ℕ) (moment history : History) → IsMoment moment history →
     IsFlag (state_after scene moment).words bucket (SentTo slot lap) →
     (IsFlag (state_after scene history).words bucket (SentTo slot lap)
-    × (fills scene slot history ≡ fills scene slot moment))
+    × (fills (words_at scene) slot history ≡ fills (words_at scene) slot moment))
     ⊎ ((party : ℕ) × HasHappened scene moment history (Receives slot bucket party))
 waits_or_received scene slot lap bucket moment _ now sent = inl (sent, refl)
 waits_or_received scene slot lap bucket moment _ (earlier step history past) sent =

@@ -3,7 +3,7 @@ use Rattle.bb_memory_file_machine.proofs.QueueCounts.{fills_grow}
 use Rattle.bb_memory_file_machine.proofs.QueueLaps.{Bounds, Fits, due_above, due_at, due_below, fewer_rounds, filled_then, follows_before, round_after, rounds_most}
 use Rattle.bb_memory_file_machine.specs.FileLaws.{IsSlot}
 use Rattle.bb_memory_file_machine.specs.FileMachine.{Empty, Message, Slot}
-use Rattle.bb_memory_file_machine.specs.FileQueues.{AreInOrder, FileQueue, HasSeen, History, IsFilled, IsMoment, IsSlotOf, MayFill, Posted, fills, lap_before, lap_of, messages, posts, slot_before, slot_of, state_after}
+use Rattle.bb_memory_file_machine.specs.FileQueues.{AreInOrder, FileQueue, HasSeen, History, IsFilled, IsMoment, IsSlotOf, MayFill, Posted, fills, lap_before, lap_of, messages, posts, slot_before, slot_of, state_after, words_at}
 use Rattle.bb_memory_lists.proofs.ListEntries.{contains-none}
 use Rattle.bb_memory_lists.proofs.SliceGets.{slice_get-replicated}
 use Rattle.std.proofs.Common.{Bool, Contains, [], ap, arith, div-add-mod', false, inl, inr, refl, subst, sym, true, ℕ, ◌%◌, ◌*◌, ◌+◌, ◌-◌, ◌/◌, ◌<◌, ◌∙◌, ◌≡◌, ◌≢◌, ◌≤◌}
@@ -45,12 +45,12 @@ module _ (queue : FileQueue) (positive : 0 < queue.depth) where
 
   -- the ticket of the message that fills the slot next
   abbrev pub turn : ℕ → History → ℕ
-  turn slot history = fills queue.scene slot history * queue.depth + slot % queue.depth
+  turn slot history = fills (words_at queue.scene) slot history * queue.depth + slot % queue.depth
 
   pub record IsPlaced (history : History) (posted : Posted) : Type 0 where
     pub word : IsSlot (state_after queue.scene history).words (slot_of queue posted.ticket)
         (Message (lap_of queue posted.ticket) posted.bucket)
-    pub count : fills queue.scene (slot_of queue posted.ticket) history ≡ posted.ticket / queue.depth + 1
+    pub count : fills (words_at queue.scene) (slot_of queue posted.ticket) history ≡ posted.ticket / queue.depth + 1
 
   pub record IsListed (history : History) (slot bucket : ℕ) : Type 0 where
     pub posted : Posted
@@ -62,7 +62,7 @@ module _ (queue : FileQueue) (positive : 0 < queue.depth) where
     pub most : (slot : ℕ) → IsSlotOf queue slot → posts queue history ≤ turn slot history
     pub least : (slot : ℕ) → IsSlotOf queue slot → turn slot history < posts queue history + queue.depth
     pub words : (slot : ℕ) → IsSlotOf queue slot → (word : Slot) → IsSlot (state_after queue.scene history).words slot word →
-        Fits word (fills queue.scene slot history)
+        Fits word (fills (words_at queue.scene) slot history)
     pub order : AreInOrder 0 (messages queue history) (posts queue history)
     pub placed : (posted : Posted) → Contains (messages queue history) posted → IsPlaced history posted
     pub listed : (slot lap bucket : ℕ) → IsSlotOf queue slot →
@@ -86,10 +86,10 @@ module _ (queue : FileQueue) (positive : 0 < queue.depth) where
   module _ (history : History) (holds : IsQueue history) (slot other : ℕ) (its : IsSlotOf queue slot) (others : IsSlotOf queue other)
     where
       abbrev many : ℕ
-      many = fills queue.scene slot history
+      many = fills (words_at queue.scene) slot history
 
       abbrev too : ℕ
-      too = fills queue.scene other history
+      too = fills (words_at queue.scene) other history
 
       turn_below : other % queue.depth < slot % queue.depth → (many ≤ too) × (too ≤ many + 1)
       turn_below less =
@@ -175,18 +175,18 @@ module _ (queue : FileQueue) (positive : 0 < queue.depth) where
       (slot lap : ℕ) (its : IsSlotOf queue slot) (empty : IsSlot (state_after queue.scene history).words slot (Empty lap))
     where
       abbrev filled_so : ℕ
-      filled_so = fills queue.scene slot history
+      filled_so = fills (words_at queue.scene) slot history
 
       lap_is : lap ≡ filled_so % 2 ^ 30
       lap_is = holds.words slot its (Empty lap) empty
 
-      module _ (before : ℕ) (is_before : IsBefore slot before) (word : Slot) (look : HasSeen queue.scene history before word)
+      module _ (before : ℕ) (is_before : IsBefore slot before) (word : Slot) (look : HasSeen (words_at queue.scene) history before word)
           (is : IsFilled (lap_before lap slot before) word) where
         abbrev counted_then : ℕ
-        counted_then = fills queue.scene before look.moment
+        counted_then = fills (words_at queue.scene) before look.moment
 
         abbrev counted_now : ℕ
-        counted_now = fills queue.scene before history
+        counted_now = fills (words_at queue.scene) before history
 
         bounds : (due : ℕ) → due ≡ due_at filled_so slot before → counted_now ≤ due + 1 → due ≤ counted_now + 1 →
             Bounds (lap_before lap slot before) due counted_then counted_now
@@ -230,5 +230,5 @@ module _ (queue : FileQueue) (positive : 0 < queue.depth) where
                   omega (arith, most, least, most_too, least_too, turns, zero, rounds)
             ]
 
-      pub next_ticket : MayFill queue history slot lap → posts queue history ≡ turn slot history
+      pub next_ticket : MayFill (words_at queue.scene) queue history slot lap → posts queue history ≡ turn slot history
       next_ticket may = next_is (slot_before queue slot) (before_of slot its) may.word may.look may.filled

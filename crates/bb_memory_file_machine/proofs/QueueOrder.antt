@@ -8,7 +8,7 @@ use Rattle.bb_memory_file_machine.proofs.QueueLaps.{Bounds, due_above, due_at, d
 use Rattle.bb_memory_file_machine.proofs.QueueSteps.{may_fill}
 use Rattle.bb_memory_file_machine.specs.FileLaws.{IsFlag, IsPlace, IsSlot}
 use Rattle.bb_memory_file_machine.specs.FileMachine.{Dead, Empty, FileStep, Fill, Message, OnSlot, Posting, Receives, Sending, SentTo, Take}
-use Rattle.bb_memory_file_machine.specs.FileQueues.{AreInOrder, FileQueue, HasSeen, History, IsMoment, IsPost, IsReceipt, IsReceived, IsSlotOf, MayTake, Obey, Posted, StepObeys, Waits, earlier, fills, lap_before, lap_of, messages, now, outcome_after, over, posts, queue_rules, slot_of, state_after, unsent}
+use Rattle.bb_memory_file_machine.specs.FileQueues.{AreInOrder, FileQueue, HasSeen, History, IsMoment, IsPost, IsReceipt, IsReceived, IsSlotOf, MayTake, Obey, Posted, StepObeys, Waits, earlier, fills, lap_before, lap_of, messages, now, outcome_after, over, posts, queue_rules, slot_of, state_after, unsent, words_at}
 use Rattle.std.proofs.Common.{Contains, Some, ap, arith, div-add-mod', inl, inr, length, lt_of_mul-lt-mul_right, refl, subst, sym, ℕ, ◌%◌, ◌*◌, ◌+◌, ◌-◌, ◌/◌, ◌<◌, ◌∙◌, ◌∷◌, ◌≡◌, ◌≢◌, ◌≤◌}
 use Rattle.std.proofs.lemmas.Bool.{cases_order}
 use Rattle.std.proofs.lemmas.Nat.{mod_below}
@@ -69,7 +69,7 @@ module _ (queue : FileQueue) (positive : 0 < queue.depth) where
       let holds = queue_always queue positive history obey.1 in
       let turns = next_ticket queue positive history holds (queue_moments queue positive history obey.1) slot lap its
       posting.empty (may_fill queue history (Fill process lap) process slot lap refl said obey.0 its) in
-      let ticket = slot_of_turn queue positive slot (fills queue.scene slot history) (posts queue history) its turns in
+      let ticket = slot_of_turn queue positive slot (fills (words_at queue.scene) slot history) (posts queue history) its turns in
       (sym ticket.0, holds.words slot its (Empty lap) posting.empty ∙ ap (λ (n : ℕ). n % 2 ^ 30) (sym ticket.1))
 
   pub received_always : (history : History) (step : FileStep) (slot bucket party : ℕ) → Obey queue_rules queue history →
@@ -113,7 +113,7 @@ module _ (queue : FileQueue) (positive : 0 < queue.depth) where
     -- how often another slot was filled
     module _ (other : ℕ) (others : IsSlotOf queue other) (apart : other ≢ slot) where
       abbrev many : ℕ
-      many = fills queue.scene other history
+      many = fills (words_at queue.scene) other history
 
       pub near_below : other < slot → (before + 1 ≤ many) × (many ≤ before + 2)
       near_below less =
@@ -179,7 +179,7 @@ module _ (queue : FileQueue) (positive : 0 < queue.depth) where
 
     -- the lap of an older message that still waits
     older_due : (older : Posted) → older.ticket < younger.ticket →
-        fills queue.scene (slot_of queue older.ticket) history ≡ older.ticket / queue.depth + 1 →
+        fills (words_at queue.scene) (slot_of queue older.ticket) history ≡ older.ticket / queue.depth + 1 →
         (slot_of queue older.ticket ≢ slot)
         × (due_at before slot (slot_of queue older.ticket) ≡ older.ticket / queue.depth + 1)
     older_due older less count =
@@ -192,7 +192,7 @@ module _ (queue : FileQueue) (positive : 0 < queue.depth) where
         let other_parts = div-add-mod' older.ticket queue.depth in
         let apart : slot_of queue older.ticket ≢ slot =
         (λ same. let counts : older.ticket / queue.depth + 1 ≡ before + 1 =
-        sym count ∙ ap (λ (s : ℕ). fills queue.scene s history) same ∙ placed.count in
+        sym count ∙ ap (λ (s : ℕ). fills (words_at queue.scene) s history) same ∙ placed.count in
         let rounds = ap (λ (n : ℕ). n * queue.depth) counts in
         let one = round_after (older.ticket / queue.depth) queue.depth in
         let two = round_after before queue.depth in
@@ -228,7 +228,7 @@ module _ (queue : FileQueue) (positive : 0 < queue.depth) where
         ]
 
     -- an older message that waits when a receiver sees the younger one is received before that one
-    older_received : (at one round : ℕ) → at ≡ slot → round ≡ lap → (may : MayTake queue history at one round) →
+    older_received : (at one round : ℕ) → at ≡ slot → round ≡ lap → (may : MayTake (words_at queue.scene) queue history at one round) →
         (moment : History) (older : Posted) → IsMoment moment may.look.moment → Waits queue moment older →
         older.ticket < younger.ticket → IsReceived queue moment history older
     older_received at one round at_is round_is may moment older before_look waits less =
@@ -239,24 +239,24 @@ module _ (queue : FileQueue) (positive : 0 < queue.depth) where
         elim (waits_or_received queue.scene other (lap_of queue older.ticket) older.bucket moment history past waits.sent) [
           | inr received ↦ received
           | inl still ↦
-              let count : fills queue.scene (slot_of queue older.ticket) history ≡ older.ticket / queue.depth + 1 =
+              let count : fills (words_at queue.scene) (slot_of queue older.ticket) history ≡ older.ticket / queue.depth + 1 =
               still.1 ∙ was.count in
               let due = older_due older less count in
               let message = sent_in queue.scene history older.bucket other (lap_of queue older.ticket) still.0 in
-              let many_is : fills queue.scene other history ≡ due_at before slot other = count ∙ sym due.1 in
+              let many_is : fills (words_at queue.scene) other history ≡ due_at before slot other = count ∙ sym due.1 in
               let laps : lap_before lap slot other ≡ lap_before round at other =
               ap (λ (l : ℕ). lap_before l slot other) (sym round_is) ∙ ap (λ (s : ℕ). lap_before round s other) (sym at_is) in
               elim (may.others other others (λ same. due.0 (same ∙ at_is))) [
                 | over word look later ↦
-                    let counted = fills queue.scene other look.moment in
+                    let counted = fills (words_at queue.scene) other look.moment in
                     let grown = fills_grow queue.scene other look.moment history look.past in
                     let b : Bounds (lap_before round at other) (due_at before slot other) counted
-                    (fills queue.scene other history) =
-                    subst (λ (l : ℕ). Bounds l (due_at before slot other) (fills queue.scene other look.moment)
-                    (fills queue.scene other history)) laps
-                    (bounds_of other others due.0 (fills queue.scene other look.moment) grown look.recent) in
+                    (fills (words_at queue.scene) other history) =
+                    subst (λ (l : ℕ). Bounds l (due_at before slot other) (fills (words_at queue.scene) other look.moment)
+                    (fills (words_at queue.scene) other history)) laps
+                    (bounds_of other others due.0 (fills (words_at queue.scene) other look.moment) grown look.recent) in
                     let none = over_then (lap_before round at other) (due_at before slot other)
-                    (fills queue.scene other look.moment) (fills queue.scene other history) b word
+                    (fills (words_at queue.scene) other look.moment) (fills (words_at queue.scene) other history) b word
                     ((moments look.moment look.past).words other others word look.seen) later many_is in
                     let then_there = same_message queue.scene other (lap_of queue older.ticket) older.bucket look.moment history
                     look.past (omega (arith, none.0, many_is)) message in
@@ -265,13 +265,13 @@ module _ (queue : FileQueue) (positive : 0 < queue.depth) where
                     (Message (lap_of queue older.ticket) older.bucket) look.seen then_there))
                 | unsent found look second since_look since_take until not_sent ↦
                     let grown = fills_grow queue.scene other look.moment history look.past in
-                    let b : Bounds (lap_before round at other) (due_at before slot other) (fills queue.scene other look.moment)
-                    (fills queue.scene other history) =
-                    subst (λ (l : ℕ). Bounds l (due_at before slot other) (fills queue.scene other look.moment)
-                    (fills queue.scene other history)) laps
-                    (bounds_of other others due.0 (fills queue.scene other look.moment) grown look.recent) in
+                    let b : Bounds (lap_before round at other) (due_at before slot other) (fills (words_at queue.scene) other look.moment)
+                    (fills (words_at queue.scene) other history) =
+                    subst (λ (l : ℕ). Bounds l (due_at before slot other) (fills (words_at queue.scene) other look.moment)
+                    (fills (words_at queue.scene) other history)) laps
+                    (bounds_of other others due.0 (fills (words_at queue.scene) other look.moment) grown look.recent) in
                     let same = message_then (lap_before round at other) (due_at before slot other)
-                    (fills queue.scene other look.moment) (fills queue.scene other history) b (lap_before round at other) found
+                    (fills (words_at queue.scene) other look.moment) (fills (words_at queue.scene) other history) b (lap_before round at other) found
                     ((moments look.moment look.past).words other others (Message (lap_before round at other) found) look.seen)
                     refl in
                     let then_there = same_message queue.scene other (lap_of queue older.ticket) older.bucket look.moment history
@@ -296,21 +296,21 @@ module _ (queue : FileQueue) (positive : 0 < queue.depth) where
         ]
 
     -- the younger message was posted when the receiver saw it
-    posted_then : (look : HasSeen queue.scene history slot (Message lap younger.bucket)) →
+    posted_then : (look : HasSeen (words_at queue.scene) history slot (Message lap younger.bucket)) →
         younger.ticket < posts queue look.moment
     posted_then look =
         let grown = fills_grow queue.scene slot look.moment history look.past in
         let own = slot_in_turn queue positive younger.ticket in
         let parts = div-add-mod' younger.ticket queue.depth in
         let count = placed.count in
-        let b : Bounds lap (before + 1) (fills queue.scene slot look.moment) (fills queue.scene slot history) = record {
+        let b : Bounds lap (before + 1) (fills (words_at queue.scene) slot look.moment) (fills (words_at queue.scene) slot history) = record {
           grown = grown;
           recent = look.recent;
           most = omega (arith, count);
           least = omega (arith, count);
           follows = follows_below before;
         } in
-        let same = message_then lap (before + 1) (fills queue.scene slot look.moment) (fills queue.scene slot history) b lap
+        let same = message_then lap (before + 1) (fills (words_at queue.scene) slot look.moment) (fills (words_at queue.scene) slot history) b lap
         younger.bucket
         ((moments look.moment look.past).words slot its_slot (Message lap younger.bucket) look.seen) refl in
         let least = (moments look.moment look.past).least slot its_slot in
@@ -336,7 +336,7 @@ module _ (queue : FileQueue) (positive : 0 < queue.depth) where
 
   pub looked_always : (history moment : History) (process party slot bucket lap : ℕ) (older younger : Posted) →
       Obey queue_rules queue history → IsReceipt queue history (Take process party slot bucket lap) younger →
-      (may : MayTake queue history slot bucket lap) → IsMoment moment may.look.moment → Waits queue moment older →
+      (may : MayTake (words_at queue.scene) queue history slot bucket lap) → IsMoment moment may.look.moment → Waits queue moment older →
       older.ticket < younger.ticket → IsReceived queue moment history older
   looked_always history moment process party slot bucket lap older younger obey receipt may before_look waits less =
       let holds = queue_always queue positive history obey in
@@ -353,7 +353,7 @@ module _ (queue : FileQueue) (positive : 0 < queue.depth) where
       let moments = queue_moments queue positive history obey.1 in
       let take = take_is history step younger holds receipt in
       let its = slot_in_queue queue positive younger.ticket in
-      let may : MayTake queue history (slot_of queue younger.ticket) younger.bucket (lap_of queue younger.ticket) =
+      let may : MayTake (words_at queue.scene) queue history (slot_of queue younger.ticket) younger.bucket (lap_of queue younger.ticket) =
       subst (StepObeys queue_rules queue history) take.1 obey.0 its
       (sym (ap (outcome_after queue.scene history) take.1) ∙ receipt.outcome) in
       let below = order_below (messages queue moment) 0 (posts queue moment) older (moments moment past).order waits.listed in
@@ -371,7 +371,7 @@ module _ (queue : FileQueue) (positive : 0 < queue.depth) where
   -- a slot with a message isn't filled
   count_kept : (history : History) (step : FileStep) (slot lap bucket : ℕ) →
       IsSlot (state_after queue.scene history).words slot (Message lap bucket) →
-      fills queue.scene slot (step ∷ history) ≡ fills queue.scene slot history
+      fills (words_at queue.scene) slot (step ∷ history) ≡ fills (words_at queue.scene) slot history
   count_kept history step slot lap bucket is = elim (change_at queue.scene history step slot) [
     | kept same count ↦ count
     | filled process other found step_is outcome empty there count ↦ let words = sym empty ∙ is in absurd (cc)
@@ -383,11 +383,11 @@ module _ (queue : FileQueue) (positive : 0 < queue.depth) where
       (there : IsPlace (state_after queue.scene start) process (Sending party slot bucket lap)) where
     data Since (history : History) : Type 0 where
       sends_still : IsPlace (state_after queue.scene history) process (Sending party slot bucket lap) →
-          fills queue.scene slot history ≡ fills queue.scene slot start → Since history
+          fills (words_at queue.scene) slot history ≡ fills (words_at queue.scene) slot start → Since history
       dead : IsPlace (state_after queue.scene history) process Dead → Since history
       sent_at : (moment : History) → IsMoment start moment → IsMoment moment history →
           IsFlag (state_after queue.scene moment).words bucket (SentTo slot lap) →
-          fills queue.scene slot moment ≡ fills queue.scene slot start → Since history
+          fills (words_at queue.scene) slot moment ≡ fills (words_at queue.scene) slot start → Since history
 
     since : (history : History) → IsMoment start history → Since history
     since _ now = sends_still there refl
@@ -413,7 +413,7 @@ module _ (queue : FileQueue) (positive : 0 < queue.depth) where
   waits_at : (start moment : History) (posted : Posted) → IsQueue queue positive start → IsQueue queue positive moment →
       Contains (messages queue start) posted →
       IsFlag (state_after queue.scene moment).words posted.bucket (SentTo (slot_of queue posted.ticket) (lap_of queue posted.ticket)) →
-      fills queue.scene (slot_of queue posted.ticket) moment ≡ fills queue.scene (slot_of queue posted.ticket) start →
+      fills (words_at queue.scene) (slot_of queue posted.ticket) moment ≡ fills (words_at queue.scene) (slot_of queue posted.ticket) start →
       Waits queue moment posted
   waits_at start moment posted first then_holds has sent count =
       let message = sent_in queue.scene moment posted.bucket (slot_of queue posted.ticket) (lap_of queue posted.ticket) sent in
@@ -422,7 +422,7 @@ module _ (queue : FileQueue) (positive : 0 < queue.depth) where
       let other = listed.posted in
       let counts : other.ticket / queue.depth + 1 ≡ posted.ticket / queue.depth + 1 =
       sym (then_holds.placed listed.posted listed.there).count
-      ∙ ap (λ (s : ℕ). fills queue.scene s moment) listed.its_slot ∙ count ∙ (first.placed posted has).count in
+      ∙ ap (λ (s : ℕ). fills (words_at queue.scene) s moment) listed.its_slot ∙ count ∙ (first.placed posted has).count in
       let turns : other.ticket % queue.depth ≡ posted.ticket % queue.depth =
       sym (slot_in_turn queue positive listed.posted.ticket)
       ∙ ap (λ (s : ℕ). s % queue.depth) listed.its_slot ∙ slot_in_turn queue positive posted.ticket in

@@ -6,7 +6,7 @@ use Rattle.bb_memory_file_machine.proofs.QueueHistories.{posting_of, sent_in, ta
 use Rattle.bb_memory_file_machine.proofs.QueueInvariant.{before_of}
 use Rattle.bb_memory_file_machine.specs.FileLaws.{IsSlot}
 use Rattle.bb_memory_file_machine.specs.FileMachine.{Done, Empty, FileStep, Fill, Message, OnSlot, Receives, Slot, Take}
-use Rattle.bb_memory_file_machine.specs.FileQueues.{FileQueue, History, IsLater, IsSlotOf, MayEmpty, MayFill, MayTake, Obey, StepObeys, lap_rule, lap_said, next_lap, outcome_after, queue_rules, slot_before, state_after}
+use Rattle.bb_memory_file_machine.specs.FileQueues.{FileQueue, History, IsLater, IsSlotOf, MayEmpty, MayFill, MayTake, Obey, StepObeys, lap_rule, lap_said, next_lap, outcome_after, queue_rules, slot_before, state_after, words_at}
 use Rattle.bb_memory_lists.proofs.SliceGets.{slice_get-replicated}
 use Rattle.std.proofs.Common.{Bool, Some, [], ap, arith, false, refl, subst, sym, true, ℕ, ◌%◌, ◌+◌, ◌-◌, ◌/◌, ◌<◌, ◌∙◌, ◌∷◌, ◌≡◌}
 use Rattle.std.proofs.lemmas.Bool.{le-ltb}
@@ -24,7 +24,7 @@ module _ (queue : FileQueue) (single : queue.depth ≡ 1) where
 
   may_empty : (history : History) (step : FileStep) (process party slot bucket next : ℕ) → step ≡ Done process party slot bucket next →
       outcome_after queue.scene history step ≡ OnSlot slot → StepObeys lap_rule queue history step → IsSlotOf queue slot →
-      MayEmpty queue history slot next
+      MayEmpty (words_at queue.scene history) slot next
   may_empty history step process party slot bucket next step_is said obeys its =
       subst (StepObeys lap_rule queue history) step_is obeys its
       (sym (ap (outcome_after queue.scene history) step_is) ∙ said)
@@ -53,7 +53,7 @@ module _ (queue : FileQueue) (single : queue.depth ≡ 1) where
   later_than_before lap false small is = (1, omega arith, omega arith, omega (arith, small))
 
   fill_alone : (history : History) (slot lap : ℕ) → Obey lap_rule queue history → IsSlotOf queue slot →
-      IsSlot (state_after queue.scene history).words slot (Empty lap) → MayFill queue history slot lap
+      IsSlot (state_after queue.scene history).words slot (Empty lap) → MayFill (words_at queue.scene) queue history slot lap
   fill_alone history slot lap obey its empty =
       let same : slot ≡ slot_before queue slot =
       same_slot slot (slot_before queue slot) its (before_of queue positive slot its).its in
@@ -67,7 +67,7 @@ module _ (queue : FileQueue) (single : queue.depth ≡ 1) where
 
   take_alone : (history : History) (process party slot bucket lap : ℕ) → IsSlotOf queue slot →
       outcome_after queue.scene history (Take process party slot bucket lap) ≡ Receives slot bucket party →
-      MayTake queue history slot bucket lap
+      MayTake (words_at queue.scene) queue history slot bucket lap
   take_alone history process party slot bucket lap its said =
       let take = take_of queue.scene history (Take process party slot bucket lap) slot bucket party said in
       let steps = take.2 in

@@ -1,9 +1,9 @@
 -- Each step that obeys the rules of a queue keeps what holds for the queue.
-use Rattle.bb_memory_file_machine.proofs.QueueCounts.{apart_from, counted_none, counted_not, counted_one, filled_no, filled_on, replaced}
+use Rattle.bb_memory_file_machine.proofs.QueueCounts.{apart_from, counted_none, counted_not, counted_one, fills_emptied, fills_kept, fills_more, filled_no, filled_on, replaced}
 use Rattle.bb_memory_file_machine.proofs.QueueHistories.{SlotChange, change_after, empties_one, fills_one, keeps}
 use Rattle.bb_memory_file_machine.specs.FileLaws.{IsSlot}
 use Rattle.bb_memory_file_machine.specs.FileMachine.{Done, Empty, FileOutcome, FileStep, FileWords, Fill, Message, OnSlot, Slot}
-use Rattle.bb_memory_file_machine.specs.FileQueues.{FileQueue, History, IsSlotOf, MayEmpty, MayFill, Posted, StepObeys, changed_by, changed_in, filled_after, fills, messages, outcome_after, posts, queue_rules, slot_of, state_after}
+use Rattle.bb_memory_file_machine.specs.FileQueues.{FileQueue, History, IsSlotOf, MayEmpty, MayFill, Posted, StepObeys, changed_by, changed_in, filled_after, fills, messages, outcome_after, posts, queue_rules, slot_of, state_after, words_at}
 use Rattle.std.proofs.Common.{Bool, List, None, Option, Some, [], ap, filter, inl, inr, not, refl, subst, sym, ℕ, ◌++◌, ◌+◌, ◌/◌, ◌∙◌, ◌∷◌, ◌≡◌, ◌≢◌}
 use Rattle.std.proofs.lemmas.Bool.{cases_eq, eq-eqb, ne_eqb}
 use Rattle.std.specs.Prelude.{if◌then◌else◌, slice_get, ◌==◌}
@@ -52,19 +52,19 @@ module _ (queue : FileQueue) where
       pub words : (other : ℕ) → IsSlotOf queue other → slot ≢ other →
           slice_get later.slots other ≡ slice_get (state_after queue.scene history).words.slots other
       pub counts : (other : ℕ) → IsSlotOf queue other → slot ≢ other →
-          fills queue.scene other (step ∷ history) ≡ fills queue.scene other history
+          fills (words_at queue.scene) other (step ∷ history) ≡ fills (words_at queue.scene) other history
 
     pub data QueueChange : Type 0 where
       -- the slots of the queue stay as they are
       rests : ((slot : ℕ) → IsSlotOf queue slot → slice_get later.slots slot ≡ slice_get words.slots slot) →
-          ((slot : ℕ) → IsSlotOf queue slot → fills queue.scene slot (step ∷ history) ≡ fills queue.scene slot history) →
+          ((slot : ℕ) → IsSlotOf queue slot → fills (words_at queue.scene) slot (step ∷ history) ≡ fills (words_at queue.scene) slot history) →
           posts queue (step ∷ history) ≡ posts queue history → messages queue (step ∷ history) ≡ messages queue history →
           QueueChange
       -- a message is posted
       posts_one : (process slot lap bucket : ℕ) → IsSlotOf queue slot → step ≡ Fill process lap →
           outcome_after queue.scene history step ≡ OnSlot slot → IsSlot words slot (Empty lap) →
           IsSlot later slot (Message lap bucket) → Leaves slot →
-          fills queue.scene slot (step ∷ history) ≡ fills queue.scene slot history + 1 →
+          fills (words_at queue.scene) slot (step ∷ history) ≡ fills (words_at queue.scene) slot history + 1 →
           posts queue (step ∷ history) ≡ posts queue history + 1 →
           messages queue (step ∷ history)
           ≡ messages queue history ++ record { ticket = posts queue history; bucket = bucket } ∷ [] → QueueChange
@@ -72,7 +72,7 @@ module _ (queue : FileQueue) where
       ends_one : (process party slot lap bucket next : ℕ) → IsSlotOf queue slot → step ≡ Done process party slot bucket next →
           outcome_after queue.scene history step ≡ OnSlot slot → IsSlot words slot (Message lap bucket) →
           IsSlot later slot (Empty next) → Leaves slot →
-          fills queue.scene slot (step ∷ history) ≡ fills queue.scene slot history →
+          fills (words_at queue.scene) slot (step ∷ history) ≡ fills (words_at queue.scene) slot history →
           posts queue (step ∷ history) ≡ posts queue history →
           messages queue (step ∷ history) ≡ without queue slot (messages queue history) → QueueChange
 
@@ -89,7 +89,7 @@ module _ (queue : FileQueue) where
     queue_change_of (keeps slots other) =
         let none : found ≡ None = filled_no later outcome other in
         rests (λ slot its. ap (λ (s : List Slot). slice_get s slot) slots)
-        (λ slot its. counted_none (λ filled. filled == slot) (fills queue.scene slot history) found none)
+        (λ slot its. fills_kept queue.scene history step slot (ap (λ (s : List Slot). slice_get s slot) slots))
         (counted_none is_its (posts queue history) found none)
         (changed_no (posts queue history) later outcome (messages queue history) other)
     queue_change_of (fills_one process at bucket lap step_is said empty slots) =
@@ -98,12 +98,12 @@ module _ (queue : FileQueue) where
         let one : found ≡ Some at = filled_on queue.scene history step at (Message lap bucket) said there in
         let apart : (slot : ℕ) → at ≢ slot → slice_get later.slots slot ≡ slice_get words.slots slot =
         λ slot. apart_from queue.scene history step at slot (Message lap bucket) slots in
-        let others : (slot : ℕ) → at ≢ slot → fills queue.scene slot (step ∷ history) ≡ fills queue.scene slot history =
-        λ slot other. counted_not (λ filled. filled == slot) (fills queue.scene slot history) at found one (ne_eqb at slot other) in
+        let others : (slot : ℕ) → at ≢ slot → fills (words_at queue.scene) slot (step ∷ history) ≡ fills (words_at queue.scene) slot history =
+        λ slot other. fills_kept queue.scene history step slot (apart slot other) in
         elim (cases_eq (at / queue.depth) queue.number) [
           | inl its ↦ posts_one process at lap bucket its step_is said empty there
               record { words = λ slot in_queue. apart slot; counts = λ slot in_queue. others slot }
-              (counted_one (λ filled. filled == at) (fills queue.scene at history) at found one (eq-eqb at at refl))
+              (fills_more queue.scene history step at lap lap bucket empty there)
               (counted_one is_its (posts queue history) at found one (eq-eqb (at / queue.depth) queue.number its))
               (changed_on (posts queue history) at (Message lap bucket) later outcome (messages queue history) said there its)
           | inr not_its ↦ rests (λ slot its. apart slot (other_slot at slot not_its its))
@@ -117,8 +117,12 @@ module _ (queue : FileQueue) where
         let none : found ≡ None = filled_on queue.scene history step at (Empty next) said there in
         let apart : (slot : ℕ) → at ≢ slot → slice_get later.slots slot ≡ slice_get words.slots slot =
         λ slot. apart_from queue.scene history step at slot (Empty next) slots in
-        let count : (slot : ℕ) → fills queue.scene slot (step ∷ history) ≡ fills queue.scene slot history =
-        λ slot. counted_none (λ filled. filled == slot) (fills queue.scene slot history) found none in
+        let count : (slot : ℕ) → fills (words_at queue.scene) slot (step ∷ history) ≡ fills (words_at queue.scene) slot history =
+        λ slot. elim (cases_eq at slot) [
+          | inl same ↦ subst (λ (s : ℕ). fills (words_at queue.scene) s (step ∷ history) ≡ fills (words_at queue.scene) s history) same
+              (fills_emptied queue.scene history step at lap bucket next is there)
+          | inr other ↦ fills_kept queue.scene history step slot (apart slot other)
+        ] in
         let next_is : posts queue (step ∷ history) ≡ posts queue history =
         counted_none is_its (posts queue history) found none in
         elim (cases_eq (at / queue.depth) queue.number) [
@@ -135,13 +139,13 @@ module _ (queue : FileQueue) where
     -- RULES
 
     pub may_fill : (process slot lap : ℕ) → step ≡ Fill process lap → outcome ≡ OnSlot slot →
-        StepObeys queue_rules queue history step → IsSlotOf queue slot → MayFill queue history slot lap
+        StepObeys queue_rules queue history step → IsSlotOf queue slot → MayFill (words_at queue.scene) queue history slot lap
     may_fill process slot lap step_is said obeys its =
         subst (StepObeys queue_rules queue history) step_is obeys slot its
         (sym (ap (outcome_after queue.scene history) step_is) ∙ said)
 
     pub may_empty : (process party slot bucket next : ℕ) → step ≡ Done process party slot bucket next → outcome ≡ OnSlot slot →
-        StepObeys queue_rules queue history step → IsSlotOf queue slot → MayEmpty queue history slot next
+        StepObeys queue_rules queue history step → IsSlotOf queue slot → MayEmpty (words_at queue.scene history) slot next
     may_empty process party slot bucket next step_is said obeys its =
         subst (StepObeys queue_rules queue history) step_is obeys its
         (sym (ap (outcome_after queue.scene history) step_is) ∙ said)

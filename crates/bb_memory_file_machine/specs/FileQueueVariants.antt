@@ -1,7 +1,7 @@
 -- Rules that differ from those of a queue at one kind of step, and how each loses the order.
 use Rattle.bb_memory_file_machine.specs.FileLaws.{IsFlag}
 use Rattle.bb_memory_file_machine.specs.FileMachine.{Empty, FileStep, Message, Receives, SentTo}
-use Rattle.bb_memory_file_machine.specs.FileQueues.{FileQueue, HasHappened, HasSeen, History, IsMoment, IsSlotOf, MayFill, MayPass, Obey, Posted, Rules, lap_before, messages, outcome_after, posts, queue_rules, slot_before, state_after}
+use Rattle.bb_memory_file_machine.specs.FileQueues.{FileQueue, HasHappened, HasSeen, History, IsMoment, IsSlotOf, MayFill, MayPass, Obey, Posted, Rules, lap_before, messages, outcome_after, posts, queue_rules, slot_before, state_after, words_at}
 use Rattle.std.specs.Prelude.{Contains, [], ℕ, ◌<◌, ◌∷◌, ◌≡◌, ◌≢◌, ◌≤◌, ◌⊎◌}
 
 -- POSTS
@@ -13,8 +13,8 @@ fill_unlooked = record queue_rules { fill = λ queue history slot lap. Unit {0} 
 -- a sender fills a slot once it has seen a message in the slot before, whatever its lap
 abbrev pub fill_any_lap : Rules
 fill_any_lap = record queue_rules {
-  fill = λ queue history slot lap. MayFill queue history slot lap
-      ⊎ ((found bucket : ℕ) × HasSeen queue.scene history (slot_before queue slot) (Message found bucket));
+  fill = λ queue history slot lap. MayFill (words_at queue.scene) queue history slot lap
+      ⊎ ((found bucket : ℕ) × HasSeen (words_at queue.scene) history (slot_before queue slot) (Message found bucket));
 }
 
 -- TAKES
@@ -27,17 +27,17 @@ take_any = record queue_rules { take = λ queue history slot bucket lap. Unit {0
 -- that it takes
 abbrev pub take_unlooked : Rules
 take_unlooked = record queue_rules {
-  take = λ queue history slot bucket lap. HasSeen queue.scene history slot (Message lap bucket)
-      × ((other : ℕ) → IsSlotOf queue other → other ≢ slot → MayPass queue history [] other (lap_before lap slot other));
+  take = λ queue history slot bucket lap. HasSeen (words_at queue.scene) history slot (Message lap bucket)
+      × ((other : ℕ) → IsSlotOf queue other → other ≢ slot → MayPass (words_at queue.scene) history [] other (lap_before lap slot other));
 }
 
 -- a receiver passes a slot in which it has found no message yet
 abbrev pub take_past_empty : Rules
 take_past_empty = record queue_rules {
-  take = λ queue history slot bucket lap. (look : HasSeen queue.scene history slot (Message lap bucket))
+  take = λ queue history slot bucket lap. (look : HasSeen (words_at queue.scene) history slot (Message lap bucket))
       × ((other : ℕ) → IsSlotOf queue other → other ≢ slot →
-      MayPass queue history look.moment other (lap_before lap slot other)
-      ⊎ HasSeen queue.scene history other (Empty (lap_before lap slot other)));
+      MayPass (words_at queue.scene) history look.moment other (lap_before lap slot other)
+      ⊎ HasSeen (words_at queue.scene) history other (Empty (lap_before lap slot other)));
 }
 
 -- DONE

@@ -6,7 +6,7 @@
 -- the slot. No word of the file says which ticket is next: senders and receivers look at the slots.
 use Rattle.bb_memory_file_machine.specs.FileLaws.{IsFlag, IsSlot}
 use Rattle.bb_memory_file_machine.specs.FileMachine.{Done, Empty, FileOutcome, FileScene, FileState, FileStep, FileWords, Fill, Message, OnSlot, Receives, Sends, SentTo, Slot, Take, file_step, opening_state}
-use Rattle.std.specs.Prelude.{Bool, Contains, List, None, Option, Some, [], filter, if◌then◌else◌, nat_lt, not, slice_get, ℕ, ◌%◌, ◌*◌, ◌++◌, ◌+◌, ◌-◌, ◌/◌, ◌<◌, ◌==◌, ◌^◌, ◌∷◌, ◌≡◌, ◌≢◌, ◌≤◌, ◌⊎◌}
+use Rattle.std.specs.Prelude.{Bool, Contains, List, None, Option, Some, [], false, filter, if◌then◌else◌, nat_lt, not, slice_get, true, ℕ, ◌%◌, ◌*◌, ◌++◌, ◌+◌, ◌-◌, ◌/◌, ◌<◌, ◌==◌, ◌^◌, ◌∷◌, ◌≡◌, ◌≢◌, ◌≤◌, ◌⊎◌}
 
 -- HISTORIES
 
@@ -23,10 +23,15 @@ state_after scene (step ∷ history) = (file_step (state_after scene history) st
 abbrev pub outcome_after : FileScene → History → FileStep → FileOutcome
 outcome_after scene history step = (file_step (state_after scene history) step).outcome
 
--- the first history is a moment of the second: it has the same steps, up to some step
-pub data IsMoment (moment : History) : History → Type 0 where
+-- the words after these steps
+abbrev pub words_at : FileScene → History → FileWords
+words_at scene history = (state_after scene history).words
+
+-- the first list is a moment of the second, as one history is of another: it has the same items, up to
+-- some item
+pub data IsMoment {X : Type 0} (moment : List X) : List X → Type 0 where
   now : IsMoment moment moment
-  earlier : (step : FileStep) (history : History) → IsMoment moment history → IsMoment moment (step ∷ history)
+  earlier : (item : X) (list : List X) → IsMoment moment list → IsMoment moment (item ∷ list)
 
 -- between the moment and the end of the history, a step has this outcome
 pub record HasHappened (scene : FileScene) (moment history : History) (outcome : FileOutcome) : Type 0 where
@@ -78,12 +83,6 @@ filled_after scene history step = filled_by (state_after scene (step ∷ history
 abbrev pub counted : (ℕ → Bool) → ℕ → Option ℕ → ℕ
 counted test count None = count
 counted test count (Some slot) = if test slot then count + 1 else count
-
--- how many times the slot was filled
-abbrev pub fills : FileScene → ℕ → History → ℕ
-fills scene slot [] = 0
-fills scene slot (step ∷ history) =
-    counted (λ filled. filled == slot) (fills scene slot history) (filled_after scene history step)
 
 -- how many messages were posted to the queue: the ticket of the next one
 abbrev pub posts : FileQueue → History → ℕ
@@ -151,45 +150,55 @@ lap_before lap slot other = if nat_lt other slot then lap else (lap + (2 ^ 30 - 
 abbrev pub slot_before : FileQueue → ℕ → ℕ
 slot_before queue slot = if slot % queue.depth == 0 then slot + queue.depth - 1 else slot - 1
 
--- LOOKS
+-- WHAT A PROCESS HAS SEEN
+
+-- a slot with the first of these words is filled if it has the second one next
+abbrev pub is_filling : Option Slot → Option Slot → Bool
+is_filling (Some (Empty lap)) (Some (Message found bucket)) = true
+is_filling before after = false
+
+-- how many times the slot was filled, if these are the words at each moment
+abbrev pub fills : {X : Type 0} → (List X → FileWords) → ℕ → List X → ℕ
+fills words slot [] = 0
+fills words slot (item ∷ list) =
+    if is_filling (slice_get (words list).slots slot) (slice_get (words (item ∷ list)).slots slot)
+    then fills words slot list + 1 else fills words slot list
 
 -- A process has seen this word in the slot, at some moment since which the slot has been filled fewer
--- than so many times: by then its laps haven't come round.
-pub record HasSeen (scene : FileScene) (history : History) (slot : ℕ) (word : Slot) : Type 0 where
-  pub moment : History
-  pub past : IsMoment moment history
-  pub seen : IsSlot (state_after scene moment).words slot word
-  pub recent : fills scene slot history < fills scene slot moment + 2 ^ 29
+-- than so many times: by then its laps haven't come round. `words` are the words at each moment of the
+-- list, which is a history, or what else has happened.
+pub record HasSeen {X : Type 0} (words : List X → FileWords) (list : List X) (slot : ℕ) (word : Slot) : Type 0 where
+  pub moment : List X
+  pub past : IsMoment moment list
+  pub seen : IsSlot (words moment) slot word
+  pub recent : fills words slot list < fills words slot moment + 2 ^ 29
 
 -- A sender may fill the slot at this lap: it has seen that the slot before was filled, too, so that no
 -- slot is left out.
-pub record MayFill (queue : FileQueue) (history : History) (slot lap : ℕ) : Type 0 where
+pub record MayFill {X : Type 0} (words : List X → FileWords) (queue : FileQueue) (list : List X) (slot lap : ℕ) : Type 0 where
   pub word : Slot
-  pub look : HasSeen queue.scene history (slot_before queue slot) word
+  pub look : HasSeen words list (slot_before queue slot) word
   pub filled : IsFilled (lap_before lap slot (slot_before queue slot)) word
 
 -- A receiver may pass the message that a slot has or had at this lap. It has seen that the slot is at a
 -- later lap: then a party was done with the message. Or it has seen the message, and has seen later on,
 -- and after the moment at which it saw the message that it takes, that the bucket isn't sent.
-pub data MayPass (queue : FileQueue) (history moment : History) (slot lap : ℕ) : Type 0 where
-  over : (word : Slot) → HasSeen queue.scene history slot word → IsLater lap (lap_said word) →
-      MayPass queue history moment slot lap
-  unsent : (bucket : ℕ) (look : HasSeen queue.scene history slot (Message lap bucket)) (second : History) →
-      IsMoment look.moment second → IsMoment moment second → IsMoment second history →
-      ¬ IsFlag (state_after queue.scene second).words bucket (SentTo slot lap) →
-      MayPass queue history moment slot lap
+pub data MayPass {X : Type 0} (words : List X → FileWords) (list moment : List X) (slot lap : ℕ) : Type 0 where
+  over : (word : Slot) → HasSeen words list slot word → IsLater lap (lap_said word) → MayPass words list moment slot lap
+  unsent : (bucket : ℕ) (look : HasSeen words list slot (Message lap bucket)) (second : List X) →
+      IsMoment look.moment second → IsMoment moment second → IsMoment second list →
+      ¬ IsFlag (words second) bucket (SentTo slot lap) → MayPass words list moment slot lap
 
 -- A receiver may take the message in this slot: it has seen the message there, and may pass each message
 -- that comes before.
-pub record MayTake (queue : FileQueue) (history : History) (slot bucket lap : ℕ) : Type 0 where
-  pub look : HasSeen queue.scene history slot (Message lap bucket)
+pub record MayTake {X : Type 0} (words : List X → FileWords) (queue : FileQueue) (list : List X) (slot bucket lap : ℕ) : Type 0 where
+  pub look : HasSeen words list slot (Message lap bucket)
   pub others : (other : ℕ) → IsSlotOf queue other → other ≢ slot →
-      MayPass queue history look.moment other (lap_before lap slot other)
+      MayPass words list look.moment other (lap_before lap slot other)
 
 -- a party that is done with the message of a slot lets the slot go on with the next lap
-abbrev pub MayEmpty : FileQueue → History → ℕ → ℕ → Type 0
-MayEmpty queue history slot next = (lap bucket : ℕ) →
-    IsSlot (state_after queue.scene history).words slot (Message lap bucket) → next ≡ next_lap lap
+abbrev pub MayEmpty : FileWords → ℕ → ℕ → Type 0
+MayEmpty words slot next = (lap bucket : ℕ) → IsSlot words slot (Message lap bucket) → next ≡ next_lap lap
 
 -- RULES
 
@@ -202,7 +211,11 @@ pub record Rules : Type 1 where
 
 -- the rules that keep the messages in order
 abbrev pub queue_rules : Rules
-queue_rules = record { fill = MayFill; take = MayTake; empty = MayEmpty }
+queue_rules = record {
+  fill = λ queue. MayFill (words_at queue.scene) queue;
+  take = λ queue. MayTake (words_at queue.scene) queue;
+  empty = λ queue history. MayEmpty (words_at queue.scene history);
+}
 
 -- the rule about laps alone
 abbrev pub lap_rule : Rules

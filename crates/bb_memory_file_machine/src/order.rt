@@ -1,7 +1,7 @@
 //! The theorem about queues over the slots of a file: their messages keep their order.
 ghost use Rattle.bb_memory_file_machine.specs.FileLaws.{IsFlag, IsSlot};
 ghost use Rattle.bb_memory_file_machine.specs.FileMachine.{Empty, Fill, FileScene, FileStep, Message, OnSlot, Receives, SentTo, Take, left_by};
-ghost use Rattle.bb_memory_file_machine.specs.FileQueues.{AreInOrder, FileQueue, History, IsMoment, IsPost, IsReceipt, IsReceived, IsSentAgain, IsSlotOf, IsWhole, MayFill, MayTake, Obey, Posted, Waits, lap_of, lap_rule, messages, outcome_after, posts, queue_rules, slot_of, state_after};
+ghost use Rattle.bb_memory_file_machine.specs.FileQueues.{AreInOrder, FileQueue, History, IsMoment, IsPost, IsReceipt, IsReceived, IsSentAgain, IsSlotOf, IsWhole, MayFill, MayTake, Obey, Posted, Waits, lap_of, lap_rule, messages, outcome_after, posts, queue_rules, slot_of, state_after, words_at};
 ghost use Rattle.bb_memory_file_machine.specs.FileQueueVariants.{GoesRound, LosesOrder, empty_any_lap, fill_any_lap, fill_unlooked, take_any, take_past_empty, take_unlooked};
 ghost use Rattle.std.specs.Prelude.{Contains, List, length, reverse, ℕ, ◌+◌, ◌-◌, ◌<◌, ◌∷◌, ◌≡◌, ◌≤◌};
 
@@ -63,7 +63,7 @@ pub fn queue_order_law()
     ensures looked { (queue : FileQueue) (history moment : History) (process party slot bucket lap : ℕ)
         (older younger : Posted) → 0 < queue.depth → Obey queue_rules queue history
         → IsReceipt queue history (Take process party slot bucket lap) younger
-        → (may : MayTake queue history slot bucket lap) → IsMoment moment may.look.moment
+        → (may : MayTake (words_at queue.scene) queue history slot bucket lap) → IsMoment moment may.look.moment
         → Waits queue moment older → older.ticket < younger.ticket
         → IsReceived queue moment history older }
 
@@ -80,7 +80,7 @@ pub fn queue_order_law()
     ensures may_post { (queue : FileQueue) (history : History) (lap : ℕ) → 0 < queue.depth → IsWhole queue
         → Obey queue_rules queue history
         → IsSlot (state_after queue.scene history).words (slot_of queue (posts queue history)) (Empty lap)
-        → MayFill queue history (slot_of queue (posts queue history)) lap }
+        → MayFill (words_at queue.scene) queue history (slot_of queue (posts queue history)) lap }
 
     // If that slot isn't empty, the queue still holds the message that was posted as many posts before as
     // the queue has slots.
@@ -94,7 +94,7 @@ pub fn queue_order_law()
     ensures may_take { (queue : FileQueue) (history : History) (posted : Posted) → 0 < queue.depth → IsWhole queue
         → Obey queue_rules queue history → Waits queue history posted
         → ((older : Posted) → Waits queue history older → posted.ticket ≤ older.ticket)
-        → MayTake queue history (slot_of queue posted.ticket) posted.bucket (lap_of queue posted.ticket) }
+        → MayTake (words_at queue.scene) queue history (slot_of queue posted.ticket) posted.bucket (lap_of queue posted.ticket) }
 
     // In a queue of one slot, each step that is allowed obeys the rules about posts and takes. Only the
     // rule about laps is left.
