@@ -2,8 +2,8 @@
 use Rattle.bb_memory_file_machine.specs.FileMachine.{Empty, Message, Slot}
 use Rattle.bb_memory_file_machine.specs.FileQueues.{IsFilled, IsLater, lap_before, lap_said}
 use Rattle.std.proofs.Common.{Bool, arith, false, inl, inr, refl, true, ℕ, ◌%◌, ◌*◌, ◌+◌, ◌-◌, ◌<◌, ◌≡◌, ◌≤◌}
-use Rattle.std.proofs.lemmas.Bool.{le-ltb, lt-ltb}
 use Rattle.std.proofs.Math.Nat.{lt_of_mul-lt-mul_right, mul-le-mul_right}
+use Rattle.std.proofs.lemmas.Bool.{le-ltb, lt-ltb}
 use Rattle.std.specs.Prelude.{if◌then◌else◌, nat_lt, ◌^◌}
 
 -- WORDS

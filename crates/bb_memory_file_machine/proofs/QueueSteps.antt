@@ -1,5 +1,5 @@
 -- Each step that obeys the rules of a queue keeps what holds for the queue.
-use Rattle.bb_memory_file_machine.proofs.QueueCounts.{apart_from, counted_none, counted_not, counted_one, fills_emptied, fills_kept, fills_more, filled_no, filled_on, replaced}
+use Rattle.bb_memory_file_machine.proofs.QueueCounts.{apart_from, counted_none, counted_not, counted_one, filled_no, filled_on, fills_emptied, fills_kept, fills_more, replaced}
 use Rattle.bb_memory_file_machine.proofs.QueueHistories.{SlotChange, change_after, empties_one, fills_one, keeps}
 use Rattle.bb_memory_file_machine.specs.FileLaws.{IsSlot}
 use Rattle.bb_memory_file_machine.specs.FileMachine.{Done, Empty, FileOutcome, FileStep, FileWords, Fill, Message, OnSlot, Slot}

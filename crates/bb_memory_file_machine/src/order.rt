@@ -1,8 +1,8 @@
 //! The theorem about queues over the slots of a file: their messages keep their order.
 ghost use Rattle.bb_memory_file_machine.specs.FileLaws.{IsFlag, IsSlot};
-ghost use Rattle.bb_memory_file_machine.specs.FileMachine.{Empty, Fill, FileScene, FileStep, Message, OnSlot, Receives, SentTo, Take, left_by};
-ghost use Rattle.bb_memory_file_machine.specs.FileQueues.{AreInOrder, FileQueue, History, IsMoment, IsPost, IsReceipt, IsReceived, IsSentAgain, IsSlotOf, IsWhole, MayFill, MayTake, Obey, Posted, Waits, lap_of, lap_rule, messages, outcome_after, posts, queue_rules, slot_of, state_after, words_at};
+ghost use Rattle.bb_memory_file_machine.specs.FileMachine.{Empty, FileScene, FileStep, Fill, Message, OnSlot, Receives, SentTo, Take, left_by};
 ghost use Rattle.bb_memory_file_machine.specs.FileQueueVariants.{GoesRound, LosesOrder, empty_any_lap, fill_any_lap, fill_unlooked, take_any, take_past_empty, take_unlooked};
+ghost use Rattle.bb_memory_file_machine.specs.FileQueues.{AreInOrder, FileQueue, History, IsMoment, IsPost, IsReceipt, IsReceived, IsSentAgain, IsSlotOf, IsWhole, MayFill, MayTake, Obey, Posted, Waits, lap_of, lap_rule, messages, outcome_after, posts, queue_rules, slot_of, state_after, words_at};
 ghost use Rattle.std.specs.Prelude.{Contains, List, length, reverse, ℕ, ◌+◌, ◌-◌, ◌<◌, ◌∷◌, ◌≡◌, ◌≤◌};
 
 /// States what holds for the messages of a queue after each history in which the steps on its slots obey

@@ -1,7 +1,9 @@
 -- A search whose first probe has missed, and its later probes, as a party knows them with which the search may have begun.
 use Rattle.atomic_table.specs.Seated.{TableId}
 use Rattle.atomic_table.specs.Table.{Me}
+use Rattle.bb_memory_pool_machine.specs.PoolHints.{first_hint, hint_after}
 use Rattle.bb_memory_pool_machine.specs.PoolLogs.{PoolLog}
+use Rattle.bb_memory_pool_machine.specs.declared.hint.Hint.{Hint}
 use Rattle.bb_memory_pool_machine.specs.declared.steps.pool.PoolOutcome.TheVariants.{Takes}
 use Rattle.bb_memory_seats.specs.Seats.{alone, view_log}
 use Rattle.bb_memory_shared_pools.proofs.SharedPoolNextFit.{hint-misses, hint_by_search, search_lost, search_took}
@@ -9,10 +11,8 @@ use Rattle.bb_memory_shared_pools.proofs.SharedPoolParties.{party_seat, seated_t
 use Rattle.bb_memory_shared_pools.proofs.SharedPoolRequests.{refused, served}
 use Rattle.bb_memory_shared_pools.proofs.SharedPoolTries.{hint-append, hint_through}
 use Rattle.bb_memory_shared_pools.specs.SharedPool.{PoolParty, ServesAlone, SharedPool, TakenBucket, taken_bucket, with_entries}
-use Rattle.bb_memory_pool_machine.specs.PoolHints.{first_hint, hint_after}
 use Rattle.bb_memory_shared_pools.specs.SharedPoolNextFit.{BeginsSearch, MayTakeFrom, hint_in, hint_of, misses, probed, probes_before, refused_search, taking_search}
 use Rattle.bb_memory_shared_pools.specs.SharedPoolRule.{AfterCall, AfterRefusal, AfterSearchWin, IsInSearch, IsPartySeat, IsSeatOfIdle, SeatView, party_in, pool_in}
-use Rattle.bb_memory_pool_machine.specs.declared.hint.Hint.{Hint}
 use Rattle.bb_memory_traits.specs.PoolObject.{IsWithin}
 use Rattle.bb_memory_traits.specs.declared.allocator.AllocationError.{AllocationError}
 use Rattle.bb_memory_traits.specs.declared.allocator.AllocationError.TheVariants.{OutOfMemory}

@@ -7,6 +7,7 @@ use Rattle.bb_memory_pool_machine.proofs.PoolLogFacts.{machine_flag, named_from_
 use Rattle.bb_memory_pool_machine.proofs.PoolLogSteps.{opening_agrees}
 use Rattle.bb_memory_pool_machine.specs.PoolLogs.{HasLog, IsDetachedIn, IsHeldAfter, PoolLog, is_taken}
 use Rattle.bb_memory_pool_machine.specs.PoolMachine.{PoolScene, PoolState, left_by}
+use Rattle.bb_memory_pool_machine.specs.declared.hint.Hint.{Hint}
 use Rattle.bb_memory_pool_machine.specs.declared.steps.pool.Flag.{Flag}
 use Rattle.bb_memory_pool_machine.specs.declared.steps.pool.Flag.TheVariants.{DetachedBy, Free, HeldBy}
 use Rattle.bb_memory_seats.proofs.PartyNumbers.{all_there, has_number, logs_had, numbers_differ, owner}
@@ -14,7 +15,6 @@ use Rattle.bb_memory_seats.specs.Seats.{standing_for, times_in}
 use Rattle.bb_memory_shared_pools.specs.SharedPool.{IsSharedScene, PoolParty, SharedPool}
 use Rattle.bb_memory_shared_pools.specs.SharedPoolMeetings.{HaveMet, IsHeldByOne, MetDetached, MetUndetached}
 use Rattle.bb_memory_shared_pools.specs.SharedPoolRule.{AfterMeetingLoad, IsPartySeat, NumberedLog, SeatView, numbered_of, of_pool, party_in}
-use Rattle.bb_memory_pool_machine.specs.declared.hint.Hint.{Hint}
 use Rattle.std.proofs.Common.{Bool, List, Some, [], ap, arith, inl, inr, length, refl, replicate, subst, sym, true, ℕ, ◌++◌, ◌∙◌, ◌∷◌, ◌≡◌, ◌≤◌}
 use Rattle.std.proofs.lemmas.List.{length-map, length-replicate, map-append}
 use Rattle.std.proofs.lemmas.List.Elements.{All-contains, All-from_recursion, All-head, All-nil, All-replicate, All-tail}

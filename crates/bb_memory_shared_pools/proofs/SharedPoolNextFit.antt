@@ -1,17 +1,17 @@
 -- How a search goes on: from its first probe to the step that ends it.
 use Rattle.atomic_table.specs.Table.{Me}
 use Rattle.bb_memory_pool_machine.proofs.PoolHolders.{held_through}
+use Rattle.bb_memory_pool_machine.specs.PoolHints.{hint_after}
 use Rattle.bb_memory_pool_machine.specs.PoolLogs.{IsHeldAfter, PoolLog}
 use Rattle.bb_memory_pool_machine.specs.PoolMachine.{PoolScene}
+use Rattle.bb_memory_pool_machine.specs.declared.hint.Hint.{Hint}
 use Rattle.bb_memory_pool_machine.specs.declared.steps.pool.PoolOutcome.TheVariants.{Takes}
 use Rattle.bb_memory_seats.specs.Seats.{number_of, view_log}
 use Rattle.bb_memory_shared_pools.proofs.SharedPoolRequests.{HasAsked}
 use Rattle.bb_memory_shared_pools.proofs.SharedPoolTries.{held-append, hint-append, hint_through, test_below, test_not_below}
 use Rattle.bb_memory_shared_pools.specs.SharedPool.{detach_entry}
-use Rattle.bb_memory_pool_machine.specs.PoolHints.{hint_after}
 use Rattle.bb_memory_shared_pools.specs.SharedPoolNextFit.{miss_at, misses, probed, probes_before, refused_search, start_of, taking_at, taking_search}
 use Rattle.bb_memory_shared_pools.specs.SharedPoolRule.{AfterCall, AfterGain, AfterMiss, AfterProbe, AfterRefusal, AfterSearchSending, AfterSearchWin, AfterSending, AfterSendingProbe, IsInSearch, IsSeatOfIdle, SeatView}
-use Rattle.bb_memory_pool_machine.specs.declared.hint.Hint.{Hint}
 use Rattle.std.proofs.Common.{Bool, None, Some, add-one, ap, append-nil, append_assoc, arith, false, inl, inr, refl, subst, suc, sym, true, zero, ℕ, ◌%◌, ◌++◌, ◌+◌, ◌-◌, ◌<◌, ◌∙◌, ◌≡◌, ◌≤◌}
 use Rattle.std.proofs.Math.Nat.{add-mod_left, add-zero, mod-eq_of_lt}
 use Rattle.std.proofs.lemmas.Bool.{cases_lt}

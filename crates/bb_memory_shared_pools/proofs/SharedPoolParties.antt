@@ -1,15 +1,15 @@
 -- From the effect of a pass or a return to the party after it.
 use Rattle.atomic_table.specs.Seated.{TableId}
 use Rattle.atomic_table.specs.Table.{Me}
+use Rattle.bb_memory_pool_machine.specs.PoolHints.{first_hint}
 use Rattle.bb_memory_pool_machine.specs.PoolLogs.{IsAllowed, PoolEntry, PoolLog}
 use Rattle.bb_memory_pool_machine.specs.PoolMachine.{PoolScene}
+use Rattle.bb_memory_pool_machine.specs.declared.hint.Hint.{Hint}
 use Rattle.bb_memory_seats.specs.Seats.{alone, number_of, view_log}
 use Rattle.bb_memory_shared_pools.proofs.SharedPoolTries.{hint-append, hint_through}
 use Rattle.bb_memory_shared_pools.specs.SharedPool.{IsMissFrom, IsParty, IsSharedScene, SharedPool, attach_from_entry, miss_from_entry, token_entry}
-use Rattle.bb_memory_pool_machine.specs.PoolHints.{first_hint}
 use Rattle.bb_memory_shared_pools.specs.SharedPoolNextFit.{hint_in}
 use Rattle.bb_memory_shared_pools.specs.SharedPoolRule.{AfterCall, AfterGain, AfterMissFrom, IsPartySeat, IsSeatOfIdle, SeatView, party_in}
-use Rattle.bb_memory_pool_machine.specs.declared.hint.Hint.{Hint}
 use Rattle.std.proofs.Common.{Bool, [], ap, false, inl, inr, refl, subst, sym, true, ℕ, ◌++◌, ◌<◌, ◌∙◌, ◌≡◌}
 use Rattle.std.proofs.lemmas.List.Elements.{All-nil}
 use Rattle.std.specs.Prelude.{MatchBool}

@@ -5,11 +5,11 @@ use Rattle.bb_memory_pool_machine.proofs.PoolHolders.{held_through}
 use Rattle.bb_memory_pool_machine.proofs.PoolSteps.{test_apart}
 use Rattle.bb_memory_pool_machine.specs.PoolLogs.{IsHeldAfter, PoolLog}
 use Rattle.bb_memory_pool_machine.specs.PoolMachine.{PoolScene}
+use Rattle.bb_memory_pool_machine.specs.declared.hint.Hint.{Hint}
 use Rattle.bb_memory_seats.specs.Seats.{number_of, view_log}
 use Rattle.bb_memory_shared_pools.proofs.SharedPoolParties.{is_party}
 use Rattle.bb_memory_shared_pools.specs.SharedPool.{AreAllHeldAfter, IsParty, MayRefuse, PoolParty, ServesAlone, SharedPool, chunk_of, taken_bucket}
 use Rattle.bb_memory_shared_pools.specs.SharedPoolRule.{AfterCall, IsPartySeat, SeatView, party_in, pool_in}
-use Rattle.bb_memory_pool_machine.specs.declared.hint.Hint.{Hint}
 use Rattle.bb_memory_traits.proofs.Measures.{bucket-inside, bucket_place-multiple}
 use Rattle.bb_memory_traits.specs.Chunk.{IsInside}
 use Rattle.bb_memory_traits.specs.Geometry.{Admits}

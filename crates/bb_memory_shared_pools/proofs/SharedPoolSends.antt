@@ -1,16 +1,16 @@
 -- A party whose search took a bucket and detached it by one exchange, or missed each bucket.
 use Rattle.atomic_table.specs.Seated.{TableId}
 use Rattle.atomic_table.specs.Table.{Me}
+use Rattle.bb_memory_pool_machine.specs.PoolHints.{hint_after}
+use Rattle.bb_memory_pool_machine.specs.declared.hint.Hint.{Hint}
 use Rattle.bb_memory_pool_machine.specs.declared.steps.pool.PoolOutcome.TheVariants.{Takes}
 use Rattle.bb_memory_seats.specs.Seats.{number_of, view_log}
 use Rattle.bb_memory_shared_pools.proofs.SharedPoolNextFit.{hint-misses, hint_by_search, search_lost, search_took}
 use Rattle.bb_memory_shared_pools.proofs.SharedPoolParties.{seated_then}
 use Rattle.bb_memory_shared_pools.proofs.SharedPoolRequests.{HasAsked, refused, served}
 use Rattle.bb_memory_shared_pools.specs.SharedPool.{PoolParty, SharedPool, detach_entry}
-use Rattle.bb_memory_pool_machine.specs.PoolHints.{hint_after}
 use Rattle.bb_memory_shared_pools.specs.SharedPoolNextFit.{MissesToSend, TakesToSend, hint_of, probed, refused_search, taking_search}
 use Rattle.bb_memory_shared_pools.specs.SharedPoolRule.{AfterCall, AfterRefusal, AfterSearchSending, IsPartySeat, SeatView, party_in, pool_in}
-use Rattle.bb_memory_pool_machine.specs.declared.hint.Hint.{Hint}
 use Rattle.bb_memory_traits.specs.declared.allocator.AllocationError.TheVariants.{OutOfMemory}
 use Rattle.bb_memory_traits.specs.declared.layout.Layout.{Layout}
 use Rattle.std.proofs.Common.{None, Some, ap, arith, refl, subst, sym, ℕ, ◌++◌, ◌∙◌, ◌≡◌}

@@ -3,11 +3,11 @@
 use Rattle.bb_memory_pool_machine.specs.PoolHints.{first_hint, hint_after}
 use Rattle.bb_memory_pool_machine.specs.PoolLogs.{IsHeldAfter, IsHeldInRun, MissesAt, PoolLog, entries_by, entry_of, history_of}
 use Rattle.bb_memory_pool_machine.specs.PoolMachine.{PoolScene}
+use Rattle.bb_memory_pool_machine.specs.declared.hint.Hint.{Hint}
 use Rattle.bb_memory_pool_machine.specs.declared.steps.pool.PoolOutcome.{PoolOutcome}
 use Rattle.bb_memory_pool_machine.specs.declared.steps.pool.PoolOutcome.TheVariants.{Gives, Misses, Takes}
 use Rattle.bb_memory_pool_machine.specs.declared.steps.pool.PoolStep.TheVariants.{TryAt}
 use Rattle.bb_memory_shared_pools.specs.SharedPool.{IsParty, MayRefuse, MayTakeBucket, PoolParty, ServesAlone, TakenBucket, detach_entry, taken_bucket, with_entries}
-use Rattle.bb_memory_pool_machine.specs.declared.hint.Hint.{Hint}
 use Rattle.bb_memory_traits.specs.declared.allocator.AllocationError.{AllocationError}
 use Rattle.bb_memory_traits.specs.declared.allocator.AllocationError.TheVariants.{OutOfMemory}
 use Rattle.bb_memory_traits.specs.declared.layout.Layout.{Layout}

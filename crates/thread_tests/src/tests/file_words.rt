@@ -159,7 +159,7 @@ fn words_say_what_the_format_says(rt: HostRuntime) {
     let sent_to_2_at_lap_3 = 51539607563;
     let in_slot_0_with_7_bytes = 30064771073;
     let in_slot_2 = 3;
-    let empty_at_lap_5_of_31_bits = 4611686039902224384;
+    let empty_at_lap_5 = 21474836480;
     let bucket_1_at_lap_5 = 21474836482;
     let flags = [held_by_1, detached_by_0, sent_to_2_at_lap_3];
     let entries = [0, in_slot_0_with_7_bytes, in_slot_2];
@@ -174,7 +174,7 @@ fn words_say_what_the_format_says(rt: HostRuntime) {
             entries[0],
             entries[1],
             entries[2],
-            empty_at_lap_5_of_31_bits,
+            empty_at_lap_5,
             bucket_1_at_lap_5,
         ],
     );
@@ -237,6 +237,38 @@ fn a_word_that_is_no_flags_is_never_exchanged(rt: HostRuntime) {
             exchange_flag(&mut party, bucket, detached, held),
             Some(false),
         );
+    }
+}
+
+#[test]
+fn a_word_that_is_no_slots_is_never_exchanged(rt: HostRuntime) {
+    let rt = &rt;
+    let empty_at_lap_2_to_30 = 4611686018427387904;
+    let bucket_1_at_lap_2_to_30_and_5 = 4611686039902224386;
+    let table = made(
+        rt,
+        [
+            0,
+            0,
+            0,
+            0,
+            0,
+            0,
+            0,
+            0,
+            empty_at_lap_2_to_30,
+            bucket_1_at_lap_2_to_30_and_5,
+        ],
+    );
+    let mut party = party(rt, &table, 0);
+    let none = Slot::Message {
+        lap: 0,
+        bucket: u32::MAX,
+    };
+    for number in 0..2u32 {
+        same(rt, slot(&mut party, number), Some(none));
+        same(rt, fill_slot(&mut party, number, 0, 1), Some(false));
+        same(rt, fill_slot(&mut party, number, 5, 1), Some(false));
     }
 }
 

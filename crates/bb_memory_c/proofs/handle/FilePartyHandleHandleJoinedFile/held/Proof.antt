@@ -1,7 +1,7 @@
 use Rattle.bb_memory_c.proofs.handle.FilePartyHandleHandleJoinedFile.held.Code as code
 use Rattle.bb_memory_c.proofs.handle.FilePartyHandleHandleJoinedFile.held.Statement.{statement}
-use Rattle.bb_memory_c.specs.contracts.handle.FilePartyHandle.{the_row as handle}
 use Rattle.bb_memory_c.specs.contracts.file_party.JoinedFile.{the_row as made}
+use Rattle.bb_memory_c.specs.contracts.handle.FilePartyHandle.{the_row as handle}
 use Rattle.bb_memory_c_calls.proofs.LentHandles.{lends, part_of, refl}
 
 pub held_spec : {M : Type 1} → statement M

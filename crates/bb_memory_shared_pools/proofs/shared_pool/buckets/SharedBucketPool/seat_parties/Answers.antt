@@ -1,10 +1,10 @@
+use Rattle.bb_memory_pool_machine.specs.PoolHints.{first_hint}
 use Rattle.bb_memory_pool_machine.specs.PoolLogs.{PoolEntry}
 use Rattle.bb_memory_seats.proofs.Seatings.{fresh_more, given_more}
 use Rattle.bb_memory_seats.specs.Seats.{alone}
 use Rattle.bb_memory_shared_pools.proofs.SharedPoolParties.{no_step, party_seat}
 use Rattle.bb_memory_shared_pools.proofs.shared_pool.buckets.SharedBucketPool.seat_parties.Goals as goal
 use Rattle.bb_memory_shared_pools.specs.SharedPool.{IsSharedScene, PoolParty, SharedPool, fresh_party}
-use Rattle.bb_memory_pool_machine.specs.PoolHints.{first_hint}
 use Rattle.bb_memory_shared_pools.specs.SharedPoolRule.{party_in}
 use Rattle.std.proofs.Common.{[], ap, arith, rules, subst, sym, ◌∙◌, ◌≡◌}
 use Rattle.std.proofs.lemmas.Grind.{common_steps}

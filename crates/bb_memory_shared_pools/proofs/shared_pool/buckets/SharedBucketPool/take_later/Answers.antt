@@ -1,10 +1,10 @@
+use Rattle.bb_memory_pool_machine.specs.declared.hint.Hint.{Hint}
 use Rattle.bb_memory_shared_pools.proofs.SharedPoolLater.{EndsSearch, goes_on, lost_later, took_later}
 use Rattle.bb_memory_shared_pools.proofs.shared_pool.buckets.SharedBucketPool.take_later.Given as given
 use Rattle.bb_memory_shared_pools.proofs.shared_pool.buckets.SharedBucketPool.take_later.Goals as goal
 use Rattle.bb_memory_shared_pools.specs.SharedPool.{PoolParty, taken_bucket}
 use Rattle.bb_memory_shared_pools.specs.SharedPoolNextFit.{BeginsSearch}
 use Rattle.bb_memory_shared_pools.specs.SharedPoolRule.{IsPartySeat}
-use Rattle.bb_memory_pool_machine.specs.declared.hint.Hint.{Hint}
 use Rattle.bb_memory_traits.specs.declared.allocator.AllocationError.TheVariants.{OutOfMemory}
 use Rattle.std.proofs.Common.{ap, subst, sym, ◌∙◌}
 use Rattle.std.specs.Prelude.{Err, Ok}
