@@ -197,6 +197,9 @@ static uint32_t make_table(bb_pool_file *file) {
 
 // Makes the table, and maps words, events and region at one place: TAKEN if another thread has
 // mapped something there. A forked child has nothing of the mapping: its copy would keep the locks.
+//
+// No call on the words comes before the file is mapped. So all operations of all processes are on
+// the words of the file, and these began as zeros.
 static uint32_t map_once(bb_pool_file *file) {
     if (!map_stand_ins(file))
         return BB_FILE_SYSTEM;
@@ -289,10 +292,12 @@ static void begin(void) {
 
 // OPENING AND CLOSING
 
-// Frees all of a `bb_pool_file` whose parties have left. The locks are released last. Returns
-// false, and why in `errno`, if the system fails to unmap the file or to release the locks. What a
-// forked child's copies of parties have in memory stays, since a thread of the parent may have been
-// in a call with a party.
+// Frees all of a `bb_pool_file` whose parties have left. The locks are released last. If a join or
+// a reap has kept one, the words of its number stay as if the process had died here.
+//
+// Returns false, and why in `errno`, if the system fails to unmap the file or to release the locks.
+// What a forked child's copies of parties have in memory stays, since a thread of the parent may
+// have been in a call with a party.
 static bool drop(bb_pool_file *file) {
     bool is_dropped = unmap(file);
     int error = errno;

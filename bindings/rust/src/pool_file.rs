@@ -312,7 +312,7 @@ impl From<PostError<'_>> for PoolFileError {
 const ANY_SLOT: u32 = u32::MAX;
 
 /// A pool in a file that this process has opened. Any process opens it by its path, and maps it at
-/// any address. If a process is killed, no bucket is lost, and no message in a slot.
+/// any address. If a process is killed, no bucket that it held is lost, and no message in a slot.
 ///
 /// Whoever may write the file is trusted: wrong values in it, or a file that is truncated, break
 /// the promises of safe Rust. A forked child must not use what its parent has opened.

@@ -157,8 +157,8 @@ class SeenMessage(structseq[int], tuple[int, int]):
 class PoolFile:
     """A pool in a file that this process has opened.
 
-    Any process opens the file by its path. If a process is killed, no bucket is lost, and no
-    message in a slot. Whoever may write the file is trusted: rule 4 of bb_pool_file.h.
+    Any process opens the file by its path. If a process is killed, no bucket that it held is lost,
+    and no message in a slot. Whoever may write the file is trusted: rule 4 of bb_pool_file.h.
 
     A forked child has to open the file again. There, an array or another view that was made before
     the fork has no memory, and must not be used: an access usually kills the child.
