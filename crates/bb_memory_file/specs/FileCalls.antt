@@ -126,6 +126,17 @@ IsPost process old slot bucket length false new =
     ∷ LoadSlot slot (Empty lap) ∷ []) new
     × Makes process old (Next process ∷ Post process old.party slot bucket length ∷ []) new))
 
+-- The call has posted a message of this length into a slot that was empty at this lap, or found that it no
+-- longer was, and gave up.
+abbrev pub IsFill : ℕ → FileLog → ℕ → ℕ → ℕ → ℕ → Bool → FileLog → Type 0
+IsFill process old slot lap bucket length true new =
+    Makes process old (Next process ∷ Fill process lap ∷ Post process old.party slot bucket length ∷ []) new
+    × Gets old (StoreFlag bucket (SentTo slot lap) ∷ ExchangeSlot slot (Empty lap) (Message lap bucket)
+    ∷ StoreEntry bucket (In slot length) ∷ []) new
+IsFill process old slot lap bucket length false new =
+    Makes process old (Next process ∷ Post process old.party slot bucket length ∷ []) new
+    × Gets old (StoreEntry bucket Nowhere ∷ MissSlot slot (Empty lap) ∷ StoreEntry bucket (In slot length) ∷ []) new
+
 -- the call has emptied the slot, which goes on with the next lap
 abbrev pub IsDone : ℕ → FileLog → ℕ → ℕ → ℕ → FileLog → Type 0
 IsDone process old slot bucket lap new =

@@ -6,9 +6,10 @@ ghost use Rattle.bb_memory_file.specs.FileLog.{FileLog};
 ghost use Rattle.bb_memory_file.specs.FileNotes.{Allocates, AreCached, Attaches, Caches, Deallocates, Detaches, Flushes, FreesLast, GivesAllBack, InUse, IsDoneWith, IsRefusal, JoinedParty, Joins, JoinsNot, MissesFirst, Posts, Reaps, Takes, Undone, Unheld, used_in};
 ghost use Rattle.std.specs.Prelude.{IfErr, IfNone, IfOk, IfSome, IsOk, Some, [], length, replicate, slice_get, vec_capacity, ℕ, ◌<◌, ◌≡◌, ◌≤◌};
 
-use crate::calls;
 use crate::calls::{Received, Whereabouts};
+use crate::queues::{Position, Queue, Sending};
 use crate::words::Words;
+use crate::{calls, queues};
 use bb_memory_file_machine::steps::Slot;
 use bb_memory_pool_machine::hint::Hint;
 use std::alloc::{AllocError, Global};
@@ -57,6 +58,14 @@ pub enum Taken {
     Message { bucket: u32, length: u32 },
 }
 
+/// Where a party goes on at a queue: a sender at the tail, and a receiver at the head. It is None if the
+/// party hasn't been there.
+#[derive(Debug, Clone, Copy, PartialEq, Eq)]
+pub struct Ends {
+    pub tail: Option<Position>,
+    pub head: Option<Position>,
+}
+
 /// Returns the notes of a party that holds none of this many buckets. Each call of a party writes the
 /// notes, and a gap after them keeps them off the cache lines that other threads' calls write.
 fn notes_of(alloc: Global, buckets: u32) -> Result<Vec<Note>, AllocError>
@@ -76,6 +85,19 @@ fn list_of(alloc: Global, most: u32) -> Result<Vec<u32>, AllocError>
 {
     let gap = if most == 0 { 0 } else { CACHE_GAP };
     Vec::with_capacity(alloc, most as usize + gap)
+}
+
+/// Returns the ends of a party that has been at no queue, for a file whose slots are queues of this depth.
+/// Slots of depth 1 need none.
+fn ends_of(alloc: Global, slots: u32, depth: u32) -> Result<Vec<Ends>, AllocError>
+    requires { 0 < depth }
+{
+    let none = Ends {
+        tail: None,
+        head: None,
+    };
+    let queues = if depth == 1 { 0 } else { slots / depth };
+    Vec::from_elem(alloc, none, queues as usize)
 }
 
 /// Settles the number whose lock this process has just taken, and gives up the words: the caller frees
@@ -106,6 +128,8 @@ pub struct Joined<W: Words + Drop> {
     hint: Hint,
     cached: Vec<u32>,
     most: u32,
+    depth: u32,
+    ends: Vec<Ends>,
 }
 
 impl<W: Words + Drop> Model for Joined<W> {
@@ -135,7 +159,12 @@ impl<W: Words + Drop> Joined<W> {
     ///
     /// Fails if memory runs out. Then the number's life is counted, the words are given up, and nothing
     /// else is done to the file: the caller frees the lock right after.
-    pub fn join(mut words: W, alloc: Global, hint: Hint) -> Result<Result<Joined<W>, W>, AllocError>
+    pub fn join(
+        mut words: W,
+        alloc: Global,
+        hint: Hint,
+        depth: u32,
+    ) -> Result<Result<Joined<W>, W>, AllocError>
         requires { (W.log words).events ≡ [] }
         ensures joined { IfOk result (λ joined. Joins W.log words hint joined) }
         ensures failed { IfErr result (λ _. JoinsNot W.unlocked (W.log words)) }
@@ -147,6 +176,10 @@ impl<W: Words + Drop> Joined<W> {
             words.unlock();
             return Err(AllocError);
         };
+        let Ok(ends) = ends_of(alloc, words.slots(), depth) else {
+            words.unlock();
+            return Err(AllocError);
+        };
         calls::join(&mut words);
         let cached = Vec::new(alloc);
         Ok(Ok(Joined {
@@ -155,6 +188,8 @@ impl<W: Words + Drop> Joined<W> {
             hint,
             cached,
             most: 0,
+            depth,
+            ends,
         }))
     }
 
@@ -391,6 +426,62 @@ impl<W: Words + Drop> Joined<W> {
         calls::done(&mut self.words, slot, bucket, lap);
         self.notes[bucket as usize] = Note::InUse;
         true
+    }
+
+    /// Posts a message of `length` bytes in a bucket into a queue. Fails as `deallocate` does.
+    pub fn send(&mut self, queue: u32, bucket: u32, length: u32) -> Result<Sending, Refusal> {
+        self.check(bucket)?;
+        let ends = self.ends[queue as usize];
+        let its = self.queue(queue);
+        let sender = queues::send(&mut self.words, its, ends.tail, bucket, length);
+        self.ends[queue as usize].tail = Some(sender.tail);
+        if let Sending::Sent { slot: _ } = sender.sending {
+            self.notes[bucket as usize] = Note::Unheld;
+        }
+        Ok(sender.sending)
+    }
+
+    /// Takes the oldest message of a queue that is sent. `size` is the size of a bucket in bytes.
+    pub fn receive(&mut self, queue: u32, size: u32) -> Taken {
+        let ends = self.ends[queue as usize];
+        let its = self.queue(queue);
+        let receiver = queues::receive(&mut self.words, &self.notes, its, ends.head, size);
+        self.ends[queue as usize].head = receiver.head;
+        if let Taken::Message { bucket, length: _ } = receiver.taken {
+            self.notes[bucket as usize] = Note::Undone;
+        }
+        receiver.taken
+    }
+
+    /// Says that the party is done with the message in a bucket, and empties its slot, which it returns.
+    /// The party goes on holding the bucket. Fails with `NotABucket` if the file has no such bucket, with
+    /// `NotHeld` if the party has no message in it, and with `NotDone` if the message's slot hasn't the
+    /// bucket, which no file shows in which only these calls write.
+    pub fn done_with(&mut self, bucket: u32) -> Result<u32, Refusal> {
+        match self.note(bucket) {
+            None => Err(Refusal::NotABucket),
+            Some(Note::Undone) => match calls::done_with(&mut self.words, bucket) {
+                Whereabouts::In { slot, lap: _ } => {
+                    self.notes[bucket as usize] = Note::InUse;
+                    Ok(slot)
+                }
+                Whereabouts::Entered => Err(Refusal::NotDone),
+                Whereabouts::Nowhere => {
+                    self.notes[bucket as usize] = Note::InUse;
+                    Err(Refusal::NotDone)
+                }
+            },
+            _ => Err(Refusal::NotHeld),
+        }
+    }
+
+    /// Returns the queue of this number.
+    #[inline(always)]
+    fn queue(&self, number: u32) -> Queue {
+        Queue {
+            number,
+            depth: self.depth,
+        }
     }
 
     /// Gives back all buckets that the party holds, in use or cached, but for its messages, which are put
