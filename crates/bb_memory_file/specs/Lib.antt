@@ -6,6 +6,7 @@ pub mod FileNames
 pub mod FileNotes
 pub mod FileOperations
 pub mod FileParties
+pub mod FileQueueCalls
 pub mod FileQueueLooks
 pub mod FileQueueRuns
 pub mod FileRecords
