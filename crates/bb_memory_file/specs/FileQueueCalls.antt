@@ -4,9 +4,11 @@ use Rattle.bb_memory_file.specs.FileCalls.received as received
 use Rattle.bb_memory_file.specs.FileCode.{Event, ExchangeSlot, FileLog, LoadSlot, StoreEntry, StoreFlag, Unknown, known_of}
 use Rattle.bb_memory_file.specs.FileLog.{is_clear}
 use Rattle.bb_memory_file.specs.FileNames.{Empty, FileStep, Fill, In, Message, Next, Post, SentTo, Slot}
-use Rattle.bb_memory_file.specs.FileNotes.{Note, Taken, Unheld}
-use Rattle.bb_memory_file.specs.FileNotes.taken as taken
 use Rattle.bb_memory_file.specs.FileQueueLooks.{CanFill, CanTake, EventsObey, KnowsHead, KnowsTail, Position}
+use Rattle.bb_memory_file.specs.declared.joined.Note.{Note}
+use Rattle.bb_memory_file.specs.declared.joined.Note.TheVariants.{Unheld}
+use Rattle.bb_memory_file.specs.declared.joined.Taken.{Taken}
+use Rattle.bb_memory_file.specs.declared.joined.Taken.TheVariants as taken
 pub use Rattle.bb_memory_file.specs.declared.queues.Sending.{Sending}
 pub use Rattle.bb_memory_file.specs.declared.queues.Sending.TheVariants.{Full, Overtaken, Sent}
 use Rattle.bb_memory_file_machine.specs.FileQueues.{FileQueue, IsFilled, IsSlotOf}
