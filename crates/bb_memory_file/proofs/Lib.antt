@@ -2,6 +2,7 @@ pub mod FileBeginnings
 pub mod FileBuckets
 pub mod FileCaches
 pub mod FileCounts
+pub mod FileEnds
 pub mod FileEvents
 pub mod FileFlagWords
 pub mod FileFlushes
