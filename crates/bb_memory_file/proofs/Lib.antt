@@ -6,6 +6,7 @@ pub mod FileEvents
 pub mod FileFlagWords
 pub mod FileFlushes
 pub mod FileKnows
+pub mod FileLooks
 pub mod FileMade
 pub mod FileMessages
 pub mod FileNotes

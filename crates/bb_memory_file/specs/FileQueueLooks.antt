@@ -65,6 +65,8 @@ EventObeys party queue events (ExchangeSlot slot (Empty lap) (Message found buck
     IsSlotOf queue slot → CanFill queue events slot lap
 EventObeys party queue events (ExchangeFlag bucket (SentTo slot lap) (HeldBy other)) =
     IsSlotOf queue slot → CanTake party queue events slot bucket lap
+EventObeys party queue events (ExchangeSlot slot (Message lap bucket) (Empty next)) =
+    IsSlotOf queue slot → next ≡ next_lap lap
 EventObeys party queue events (EmptySlot slot next) =
     (bucket : ℕ) × (lap : ℕ) × (entry : Option Entry) × (known_by party bucket events ≡ Holds entry (Has slot lap))
     × (next ≡ next_lap lap)
