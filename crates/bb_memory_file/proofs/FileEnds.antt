@@ -1,21 +1,24 @@
 -- A party that has joined obeys the rules of its file's queues, and knows where it goes on at each, before
 -- each call and after it.
+use Rattle.bb_memory_file.proofs.FileEvents.{append_assoc}
 use Rattle.bb_memory_file.proofs.FileLooks.{head_on, looks_move_none, obey_on, tail_on}
-use Rattle.bb_memory_file.specs.FileCalls.{BeginsSearch, Gets, IsAttach, IsDeallocate, IsDetach, IsDone, IsJoin, IsLookedUp, IsPost, IsPutBack, IsReceive, IsSettled, MovesNone, TakesOne, Whereabouts}
+use Rattle.bb_memory_file.specs.FileCalls.{BeginsSearch, Gets, IsAttach, IsDeallocate, IsDetach, IsDone, IsJoin, IsLookedUp, IsPost, IsPutBack, IsReceive, IsSettled, MovesNone, TakesOne, Whereabouts, has_some, moves_message}
 use Rattle.bb_memory_file.specs.FileCalls.received as received
 use Rattle.bb_memory_file.specs.FileCalls.whereabouts as whereabouts
-use Rattle.bb_memory_file.specs.FileCode.{FileLog, LoadSlot, MissFlag, StoreFlag}
+use Rattle.bb_memory_file.specs.FileCode.{EmptySlot, ExchangeFlag, ExchangeSlot, FileLog, LoadEntry, LoadSlot, MissFlag, MissSlot, StoreEntry, StoreFlag}
 use Rattle.bb_memory_file.specs.FileLog.{Event, IsKnownIn}
-use Rattle.bb_memory_file.specs.FileNames.{DetachedBy, Empty, Free, In, Message, Outside, SentTo, Slot}
+use Rattle.bb_memory_file.specs.FileNames.{DetachedBy, Empty, Free, HeldBy, In, Message, Nowhere, Outside, SentTo, Slot}
 use Rattle.bb_memory_file.specs.FileNotes.{AreEnds, Ends, KeepsQueues, looked, no_ends, queues_of}
 use Rattle.bb_memory_file.specs.FileQueueCalls.{AllObey, Grows}
-use Rattle.bb_memory_file.specs.FileQueueLooks.{CanFill, CanTake, EventsObey}
-use Rattle.bb_memory_file_machine.specs.FileQueues.{FileQueue, IsLater, IsSlotOf, lap_before, now, slot_before}
+use Rattle.bb_memory_file.specs.FileQueueLooks.{CanFill, CanTake, EventsObey, KnowsHead, KnowsTail, Position}
+use Rattle.bb_memory_file_machine.specs.FileMachine.{FileScene}
+use Rattle.bb_memory_file_machine.specs.FileQueues.{FileQueue, IsLater, IsSlotOf, earlier, lap_before, next_lap, now, slot_before}
 use Rattle.bb_memory_lists.proofs.SliceGets.{length-set_at, slice_get-replicated, slice_get-set_other, slice_get-set_same}
+use Rattle.bb_memory_pool_machine.proofs.PoolSteps.{test_same}
 use Rattle.std.proofs.Common.{Bool, List, None, Option, Some, [], ap, arith, false, inl, inr, length, refl, subst, sym, true, ℕ, ◌++◌, ◌<◌, ◌∙◌, ◌∷◌, ◌≡◌, ◌≢◌}
 use Rattle.std.proofs.lemmas.Bool.{cases_eq, le-ltb}
 use Rattle.std.proofs.lemmas.List.{length-replicate}
-use Rattle.std.specs.Prelude.{IfSome, if◌then◌else◌, nat_lt, replicate, slice_get, slice_set}
+use Rattle.std.specs.Prelude.{IfSome, if◌then◌else◌, nat_lt, replicate, slice_get, slice_set, ◌%◌}
 
 -- ENDS
 
@@ -134,3 +137,148 @@ module _ (old new : FileLog) where
             subst (λ (events : List Event). EventsObey old.party
             (record { scene = old.scene; number = number; depth = depth }) events) (sym fresh) tt;
       } (settled.events, settled.gets, settled.moves_none)
+
+-- SINGLE SLOTS
+
+module _ (scene : FileScene) (number slot : ℕ) where
+  -- at depth 1 a slot is a queue
+  abbrev single : FileQueue
+  single = record { scene = scene; number = number; depth = 1 }
+
+  -- and comes before itself
+  itself_before : slot_before single slot ≡ slot
+  itself_before = rw (test_same (slot % 1) 0 (omega arith)) (omega arith)
+
+  -- a party may fill it once it has seen that it is empty
+  fill_single : (events : List Event) (between : Event) (lap : ℕ) → lap < 1073741824 →
+      CanFill single (between ∷ LoadSlot slot (Empty lap) ∷ events) slot lap
+  fill_single events between lap less = record {
+    word = Empty lap;
+    look = record {
+      event = LoadSlot slot (Empty lap);
+      before = events;
+      past = earlier between (LoadSlot slot (Empty lap) ∷ events) now;
+      shows = (sym itself_before, refl);
+    };
+    filled = subst (λ (before : ℕ). IsLater (lap_before lap slot before) lap) (sym itself_before)
+        (rw (le-ltb slot slot (omega arith)) (1, omega arith, omega arith, omega (arith, less)));
+  }
+
+  -- and take its message once it has seen that
+  take_single : (party : ℕ) (events : List Event) (lap bucket : ℕ) → IsSlotOf single slot →
+      CanTake party single (LoadSlot slot (Message lap bucket) ∷ events) slot bucket lap
+  take_single party events lap bucket its = record {
+    look = record {
+      event = LoadSlot slot (Message lap bucket);
+      before = events;
+      past = now;
+      shows = (refl, refl);
+    };
+    others = λ other same apart. absurd (apart (omega (arith, its, same)));
+  }
+
+abbrev obeys_by : (log : FileLog) (number : ℕ) → Type 0
+obeys_by log number = EventsObey log.party (record { scene = log.scene; number = number; depth = 1 }) log.events
+
+module _ (old new : FileLog) (depth : ℕ) (ends : List Ends) (keeps : KeepsQueues old depth ends) (slot bucket : ℕ) where
+  module _ (one : depth ≡ 1) (size : ℕ) where
+    pub keeps_post : ((process : ℕ) → IsPost process old slot bucket size true new) → KeepsQueues new depth ends
+    keeps_post did =
+        let lap = (did 0).0 in
+        let gets = (did 0).2 in
+        keeps_single old new depth ends keeps one (
+          StoreFlag bucket (SentTo slot lap) ∷ ExchangeSlot slot (Empty lap) (Message lap bucket)
+              ∷ StoreEntry bucket (In slot size) ∷ LoadSlot slot (Empty lap) ∷ [],
+          gets,
+        ) (λ obeys number. subst (λ (log : FileLog). obeys_by log number) (sym gets) (
+          tt,
+          (
+            (λ its. fill_single old.scene number slot old.events (StoreEntry bucket (In slot size)) lap (did 0).3),
+            (tt, (tt, obeys number)),
+          ),
+        ))
+
+    pub keeps_no_post : ((process : ℕ) → IsPost process old slot bucket size false new) → KeepsQueues new depth ends
+    keeps_no_post did = elim (did 0).1 [
+      | inl (other, gets, made) ↦
+          keeps_still old new depth ends keeps (LoadSlot slot (Message (did 0).0 other) ∷ [], gets, refl)
+      | inr (gets, made) ↦ keeps_still old new depth ends keeps (
+        StoreEntry bucket Nowhere ∷ MissSlot slot (Empty (did 0).0) ∷ StoreEntry bucket (In slot size)
+            ∷ LoadSlot slot (Empty (did 0).0) ∷ [],
+        gets,
+        refl,
+      )
+    ]
+
+  module _ (middle : FileLog) (lap : ℕ) (is : middle ≡ looked old slot (Message lap bucket)) where
+    keeps_looked : KeepsQueues middle depth ends
+    keeps_looked = keeps_still old middle depth ends keeps (look_still old middle slot (Message lap bucket) is)
+
+    module _ (one : depth ≡ 1) (size : ℕ) where
+      -- the party takes a message that it has found in the slot
+      keeps_taken : (events : List Event) → has_some moves_message events ≡ false →
+          Gets middle (events ++ ExchangeFlag bucket (SentTo slot lap) (HeldBy middle.party) ∷ []) new → KeepsQueues new depth ends
+      keeps_taken events none gets =
+          let first = record middle {
+            events = ExchangeFlag bucket (SentTo slot lap) (HeldBy middle.party) ∷ middle.events;
+          } in
+          keeps_still first new depth ends
+          (keeps_single middle first depth ends keeps_looked one
+          (ExchangeFlag bucket (SentTo slot lap) (HeldBy middle.party) ∷ [], refl)
+          (λ obeys number. (
+            (λ its. subst (λ (log : FileLog). CanTake log.party (record { scene = log.scene; number = number; depth = 1 })
+                log.events slot bucket lap) (sym is)
+                (take_single old.scene number slot old.party old.events lap bucket its)),
+            obeys number,
+          )))
+          (events, gets ∙ ap (λ (all : List Event). record middle { events = all })
+          (append_assoc events (ExchangeFlag bucket (SentTo slot lap) (HeldBy middle.party) ∷ []) middle.events), none)
+
+      pub keeps_message : (length : ℕ) → ((process : ℕ) → IsReceive process middle slot lap bucket size (received.Message length) new) →
+          KeepsQueues new depth ends
+      keeps_message length did = keeps_taken (LoadEntry bucket (In slot length) ∷ []) refl (did 0).2
+
+      pub keeps_wrong : ((process : ℕ) → IsReceive process middle slot lap bucket size received.Wrong new) →
+          KeepsQueues new depth ends
+      keeps_wrong did =
+          keeps_taken (StoreFlag bucket (SentTo slot lap) ∷ LoadEntry bucket (did 0).0 ∷ []) refl (did 0).3
+
+      pub keeps_not_sent : ((process : ℕ) → IsReceive process middle slot lap bucket size received.NotSent new) →
+          KeepsQueues new depth ends
+      keeps_not_sent did = keeps_still middle new depth ends keeps_looked (MissFlag bucket (SentTo slot lap) ∷ [], (did 0).1, refl)
+
+    -- the party is done with a message that it has found in the slot
+    pub keeps_done : IsKnownIn middle bucket slot lap → ((process : ℕ) → IsDone process middle slot bucket lap new) →
+        KeepsQueues new depth ends
+    keeps_done known did = keeps_on middle new depth ends keeps_looked
+        (StoreEntry bucket Nowhere ∷ EmptySlot slot (next_lap lap) ∷ [], (did 0).1)
+        (λ number. subst (λ (log : FileLog). EventsObey log.party
+        (record { scene = log.scene; number = number; depth = depth }) log.events) (sym (did 0).1)
+        (tt, ((bucket, lap, known.0, known.1, refl), keeps_looked.obeys number)))
+
+-- QUEUES
+
+module _ (old new : FileLog) (depth : ℕ) (ends : List Ends) (keeps : KeepsQueues old depth ends) (grows : Grows old new)
+    (obeys : AllObey depth old → AllObey depth new) (number : ℕ) (its : Ends) (was : slice_get ends number ≡ Some its) where
+  keeps_grown : KeepsQueues new depth ends
+  keeps_grown = keeps_on old new depth ends keeps grows (obeys keeps.obeys)
+
+  abbrev queue_of : FileLog → FileQueue
+  queue_of log = record { scene = log.scene; number = number; depth = depth }
+
+  pub keeps_tail : (tail : Position) → KnowsTail (queue_of old) new.events tail →
+      KeepsQueues new depth (slice_set ends number (record its { tail = Some tail }))
+  keeps_tail tail knows = keeps_set new depth ends number its (record its { tail = Some tail }) keeps_grown was record {
+    tail = subst (λ (scene : FileScene). KnowsTail (record { scene = scene; number = number; depth = depth }) new.events tail)
+        (sym (ap (λ (log : FileLog). log.scene) grows.1)) knows;
+    head = (keeps_grown.known number its was).head;
+  }
+
+  pub keeps_head : (head : Option Position) → IfSome head (λ position. KnowsHead (queue_of old) new.events position) →
+      KeepsQueues new depth (slice_set ends number (record its { head = head }))
+  keeps_head head knows = keeps_set new depth ends number its (record its { head = head }) keeps_grown was record {
+    tail = (keeps_grown.known number its was).tail;
+    head = subst (λ (scene : FileScene). IfSome head
+        (λ position. KnowsHead (record { scene = scene; number = number; depth = depth }) new.events position))
+        (sym (ap (λ (log : FileLog). log.scene) grows.1)) knows;
+  }

@@ -40,8 +40,8 @@ module _ (events more : List Event) where
       KnowsHead queue (more ++ events) position
   head_on queue position knows = (
     knows.0,
-    (λ other its apart.
-    let over = knows.1 other its apart in (over.0, look_on other over.0 over.1, over.2)),
+    (λ other its.
+    let over = knows.1 other its in (over.0, look_on other over.0 over.1, over.2)),
   )
 
 -- RULES

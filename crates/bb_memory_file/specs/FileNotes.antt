@@ -5,7 +5,7 @@ use Rattle.bb_memory_file.specs.FileCalls.whereabouts as whereabouts
 use Rattle.bb_memory_file.specs.FileCode.{FileLog, Holds, Known, LoadSlot, Path, StoreFlag, Unknown, known_of, told}
 use Rattle.bb_memory_file.specs.FileLog.{Event, fresh_log}
 use Rattle.bb_memory_file.specs.FileNames.{Counting, Deallocate, Empty, FileStep, Free, In, Message, Nowhere, Outside, Slot}
-use Rattle.bb_memory_file.specs.FileQueueCalls.{AllObey, IsReceipt, IsSend, Sending, Sent}
+use Rattle.bb_memory_file.specs.FileQueueCalls.{AllObey, IsReceipt, IsSend, Sending, Sent, noted_after}
 use Rattle.bb_memory_file.specs.FileQueueLooks.{KnowsHead, KnowsTail, Position}
 use Rattle.bb_memory_file.specs.FileSettlers.{IsCounted}
 pub use Rattle.bb_memory_file.specs.declared.joined.Ends.{Ends}
@@ -328,11 +328,6 @@ Sends log old queue bucket length (Ok sending) new =
     }))
 Sends log old queue bucket length (Err refusal) new = IsRefusal (slice_get old.notes bucket) refusal × (new ≡ old)
 
--- the notes after this answer of a receiver
-abbrev pub notes_received : List Note → Taken → List Note
-notes_received notes (taken.Message bucket length) = slice_set notes bucket Undone
-notes_received notes taken = notes
-
 -- The party has noted where it goes on as a receiver at the queue, and if it has received a message, that
 -- it isn't done with it.
 abbrev pub Receives : {W : Type 0} → (W → FileLog) → JoinedParty W → ℕ → ℕ → Taken → JoinedParty W → Type 0
@@ -341,7 +336,7 @@ Receives log old queue size taken new =
     × ((its : Ends) × (head : Option Position) × (slice_get old.ends queue ≡ Some its)
     × (new ≡ record old {
       words = new.words;
-      notes = notes_received old.notes taken;
+      notes = noted_after old.notes taken;
       ends = slice_set old.ends queue (record its { head = head });
     }))
 

@@ -448,7 +448,6 @@ impl<W: Words + Drop> Joined<W> {
     /// Says that the party is done with the message in a single slot, which it has taken: empties the slot.
     /// Returns whether the party was at work on it. The party goes on holding the bucket.
     pub fn done(&mut self, slot: u32) -> bool
-        requires single { self.old.depth ≡ 1 }
         requires slot { slot < (W.log self.old.words).scene.slots }
         ensures { IsDoneWith W.log self.old slot result self.new }
     {
