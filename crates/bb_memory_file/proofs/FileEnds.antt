@@ -15,10 +15,12 @@ use Rattle.bb_memory_file_machine.specs.FileMachine.{FileScene}
 use Rattle.bb_memory_file_machine.specs.FileQueues.{FileQueue, IsLater, IsSlotOf, earlier, lap_before, next_lap, now, slot_before}
 use Rattle.bb_memory_lists.proofs.SliceGets.{length-set_at, slice_get-replicated, slice_get-set_other, slice_get-set_same}
 use Rattle.bb_memory_pool_machine.proofs.PoolSteps.{test_same}
-use Rattle.std.proofs.Common.{Bool, List, None, Option, Some, [], ap, arith, false, inl, inr, length, refl, subst, sym, true, ℕ, ◌++◌, ◌<◌, ◌∙◌, ◌∷◌, ◌≡◌, ◌≢◌}
+use Rattle.std.proofs.Math.Nat.{div-mul-le_self, mul-le-mul_right}
+use Rattle.std.proofs.Common.{Bool, List, None, Option, Some, [], ap, arith, false, inl, inr, length, refl, subst, sym, true, ℕ, ◌*◌, ◌++◌, ◌+◌, ◌<◌, ◌∙◌, ◌∷◌, ◌≡◌, ◌≢◌, ◌≤◌}
 use Rattle.std.proofs.lemmas.Bool.{cases_eq, le-ltb}
 use Rattle.std.proofs.lemmas.List.{length-replicate}
-use Rattle.std.specs.Prelude.{IfSome, if◌then◌else◌, nat_lt, replicate, slice_get, slice_set, ◌%◌}
+use Rattle.std.proofs.lemmas.Option.{slice_get_within}
+use Rattle.std.specs.Prelude.{IfSome, if◌then◌else◌, nat_lt, replicate, slice_get, slice_set, ◌%◌, ◌/◌, ◌==◌}
 
 -- ENDS
 
@@ -42,6 +44,7 @@ pub keeps_set : (log : FileLog) (depth : ℕ) (ends : List Ends) (number : ℕ) 
     KeepsQueues log depth (slice_set ends number its)
 keeps_set log depth ends number before its keeps was are = record {
   deep = keeps.deep;
+  fits = keeps.fits;
   enough = length-set_at ends number its ∙ keeps.enough;
   known = λ other found is. elim (cases_eq other number) [
     | inl same ↦ subst (λ (n : ℕ). AreEnds (record { scene = log.scene; number = n; depth = depth }) log.events found) (sym same)
@@ -58,6 +61,7 @@ module _ (old new : FileLog) (depth : ℕ) (ends : List Ends) (keeps : KeepsQueu
   pub keeps_on : Grows old new → AllObey depth new → KeepsQueues new depth ends
   keeps_on grows obeys = record {
     deep = keeps.deep;
+    fits = subst (λ (log : FileLog). log.scene.slots < 4294967296) (sym grows.1) keeps.fits;
     enough = keeps.enough ∙ ap (λ (log : FileLog). queues_of log.scene.slots depth) (sym grows.1);
     known = λ number its is.
         subst (λ (log : FileLog). AreEnds (record { scene = log.scene; number = number; depth = depth }) log.events its)
@@ -122,13 +126,14 @@ module _ (old new : FileLog) where
       by_test false gets = ([], gets, refl)
 
   -- a party that has just joined
-  pub keeps_join : (depth : ℕ) → 0 < depth → old.events ≡ [] → ((process : ℕ) → IsJoin process old true new) →
+  pub keeps_join : (depth : ℕ) → 0 < depth → old.scene.slots < 4294967296 → old.events ≡ [] → ((process : ℕ) → IsJoin process old true new) →
       KeepsQueues new depth (replicate (queues_of old.scene.slots depth) no_ends)
-  keeps_join depth deep fresh did =
+  keeps_join depth deep fits fresh did =
       let settled = (did 0).4 in
       let count = queues_of old.scene.slots depth in
       keeps_still old new depth (replicate count no_ends) record {
         deep = deep;
+        fits = fits;
         enough = length-replicate count no_ends;
         known = λ number its is.
             subst (λ (e : Ends). AreEnds (record { scene = old.scene; number = number; depth = depth }) old.events e)
@@ -282,3 +287,19 @@ module _ (old new : FileLog) (depth : ℕ) (ends : List Ends) (keeps : KeepsQueu
         (λ position. KnowsHead (record { scene = scene; number = number; depth = depth }) new.events position))
         (sym (ap (λ (log : FileLog). log.scene) grows.1)) knows;
   }
+
+  -- the queue is whole
+  pub whole : number * depth + depth ≤ old.scene.slots
+  whole = whole_by (depth == 1) refl
+    where
+      below : number < queues_of old.scene.slots depth
+      below = let less = slice_get_within ends number its was in let enough = keeps.enough in omega (arith, less, enough)
+
+      within_div : number < old.scene.slots / depth → number * depth + depth ≤ old.scene.slots
+      within_div less =
+          let rows : (number + 1) * depth ≤ old.scene.slots / depth * depth = mul-le-mul_right depth less in
+          let all = div-mul-le_self old.scene.slots depth in omega (arith, rows, all)
+
+      whole_by : (is : Bool) → (depth == 1) ≡ is → number * depth + depth ≤ old.scene.slots
+      whole_by true e = let none : number < 0 = rw e at below in absurd (omega (arith, none))
+      whole_by false e = let less : number < old.scene.slots / depth = rw e at below in within_div less

@@ -5,7 +5,7 @@ use Rattle.bb_memory_file.proofs.joined.Joined.join.Goals as goal
 use Rattle.bb_memory_file.specs.FileCode.{FileLog}
 use Rattle.bb_memory_file.specs.FileNames.{Flags}
 use Rattle.bb_memory_file.specs.FileNotes.{AreCached, Ends, IsJoined, KeepsQueues, Note, Unheld, no_ends, queues_of}
-use Rattle.std.proofs.Common.{List, [], ap, arith, inr, refl, subst, sym, ℕ, ◌∙◌, ◌≡◌}
+use Rattle.std.proofs.Common.{List, [], ap, arith, inr, refl, subst, sym, ℕ, ◌<◌, ◌∙◌, ◌≡◌}
 use Rattle.std.proofs.lemmas.Grind.{common_steps}
 use Rattle.std.specs.Prelude.{replicate}
 
@@ -26,9 +26,11 @@ invariant_of-result g c =
     let same : c.in-Ok.notes.items ≡ replicate old.scene.buckets Unheld =
     c.in-Ok.ensures ∙ ap (λ n. replicate n Unheld)
     (c.buckets.ensures ∙ ap (λ (log : FileLog). log.scene.buckets) (c.in-Some.ensures 0).0) in
+    let slots : c.slots.result ≡ old.scene.slots =
+    c.slots.ensures ∙ ap (λ (log : FileLog). log.scene.slots) (c.in-Some.ensures 0).0 in
     let ends : c.in-Ok-ends_of.ends.items ≡ replicate (queues_of old.scene.slots c.args.depth) no_ends =
-    c.in-Ok-ends_of.ensures ∙ ap (λ n. replicate (queues_of n c.args.depth) no_ends)
-    (c.slots.ensures ∙ ap (λ (log : FileLog). log.scene.slots) (c.in-Some.ensures 0).0) in (
+    c.in-Ok-ends_of.ensures ∙ ap (λ n. replicate (queues_of n c.args.depth) no_ends) slots in
+    let fits : old.scene.slots < 4294967296 = subst (λ (n : ℕ). n < 4294967296) slots c.slots.type_inv in (
       subst (λ (notes : List Note). IsJoined (g.W.Words.log c.join.new.words) notes) (sym same)
           (after_join old (g.W.Words.log c.join.new.words) c.requires.fresh did),
       rw c.new-cached.ensures.items (subst (λ (notes : List Note). AreCached notes []) (sym same)
@@ -37,7 +39,7 @@ invariant_of-result g c =
       omega arith,
       omega arith,
       subst (λ (e : List Ends). KeepsQueues (g.W.Words.log c.join.new.words) c.args.depth e) (sym ends)
-          (keeps_join old (g.W.Words.log c.join.new.words) c.args.depth c.requires.deep c.requires.fresh did),
+          (keeps_join old (g.W.Words.log c.join.new.words) c.args.depth c.requires.deep fits c.requires.fresh did),
     )
 
 pub returns-clause-joined : goal.returns-clause-joined
