@@ -12,6 +12,7 @@ pub mod FileMessages
 pub mod FileNotes
 pub mod FileProcesses
 pub mod FileQueueRuns
+pub mod FileQueueSlots
 pub mod FileRecords
 pub mod FileRows
 pub mod FileRunSteps

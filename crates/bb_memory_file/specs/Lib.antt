@@ -9,6 +9,7 @@ pub mod FileParties
 pub mod FileQueueCalls
 pub mod FileQueueLooks
 pub mod FileQueueRuns
+pub mod FileQueueSteps
 pub mod FileRecords
 pub mod FileRows
 pub mod FileRuns
