@@ -8,7 +8,7 @@ pub use Rattle.bb_memory_file.specs.declared.queues.Position.{Position}
 pub use Rattle.bb_memory_file.specs.declared.queues.Queue.{Queue}
 use Rattle.bb_memory_file_machine.specs.FileMachine.{FileScene}
 use Rattle.bb_memory_file_machine.specs.FileQueues.{FileQueue, IsFilled, IsLater, IsMoment, IsSlotOf, IsWhole, lap_before, lap_said, next_lap, slot_before}
-use Rattle.std.specs.Prelude.{List, Option, Some, [], if◌then◌else◌, nat_lt, true, ℕ, ◌*◌, ◌+◌, ◌<◌, ◌∷◌, ◌≡◌, ◌≢◌}
+use Rattle.std.specs.Prelude.{List, Option, Some, [], if◌then◌else◌, nat_lt, true, ℕ, ◌%◌, ◌*◌, ◌+◌, ◌-◌, ◌<◌, ◌^◌, ◌∷◌, ◌≡◌, ◌≢◌}
 
 -- LOOKS
 
@@ -98,8 +98,13 @@ position_after queue position =
 abbrev pub KnowsTail : FileQueue → List Event → Position → Type 0
 KnowsTail queue events position = IsPosition queue position × CanFill queue events position.slot position.lap
 
--- the party has seen that each message before this position is over
+-- the lap before this one
+abbrev pub last_lap : ℕ → ℕ
+last_lap lap = (lap + (2 ^ 30 - 1)) % 2 ^ 30
+
+-- The party has seen that each message before this position is over, up to that of the lap before in the
+-- position's own slot.
 abbrev pub KnowsHead : FileQueue → List Event → Position → Type 0
 KnowsHead queue events position =
-    IsPosition queue position × ((other : ℕ) → IsSlotOf queue other → other ≢ position.slot →
+    IsPosition queue position × ((other : ℕ) → IsSlotOf queue other →
     (word : Slot) × Look events other word × IsLater (lap_before position.lap position.slot other) (lap_said word))

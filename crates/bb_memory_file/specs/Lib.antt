@@ -10,6 +10,7 @@ pub mod FileQueueCalls
 pub mod FileQueueLives
 pub mod FileQueueLooks
 pub mod FileQueueRuns
+pub mod FileQueueSteps
 pub mod FileRecords
 pub mod FileRows
 pub mod FileRuns

@@ -5,6 +5,7 @@
 ghost use Rattle.bb_memory_file.specs.FileCalls.{AllocateSays, BeginsSearch, IsAttach, IsDeallocate, IsDetach, IsDone, IsFill, IsFound, IsJoin, IsLeave, IsPost, IsPutBack, IsReap, IsReceive, IsSettled, SearchSays, TakesOne, is_fit, length_in};
 ghost use Rattle.bb_memory_file.specs.FileLog.{FileLog, IsKnownIn, IsLap, is_clear, is_held, known_of};
 ghost use Rattle.bb_memory_file.specs.FileNames.{Deallocate, DetachNumber, Done, Flags, Next, Outside, Settled};
+ghost use Rattle.bb_memory_file.specs.FileQueueCalls.{AllObey, IsDoneAt, IsSlotBelow, KnowsOthers};
 ghost use Rattle.bb_memory_file.specs.FileSettlers.{IsCounted, IsCountedOn, IsRecover, IsSettledAt};
 ghost use Rattle.bb_memory_file_machine.specs.FileMachine.{same_flag};
 ghost use Rattle.std.specs.Prelude.{IfSome, IsTrue, MatchBool, Some, [], false, true, ℕ, ◌%◌, ◌+◌, ◌<◌, ◌^◌, ◌∷◌, ◌≡◌, ◌≤◌};
@@ -182,6 +183,9 @@ pub fn done<W: Words>(words: &mut W, slot: u32, bucket: u32, lap: u32)
 pub fn done_with<W: Words>(words: &mut W, bucket: u32) -> Whereabouts
     requires below { bucket < (W.log words.old).scene.buckets }
     requires held { is_held (known_of (W.log words.old) bucket) ≡ true }
+    ensures done { (process : ℕ) → IsDoneAt process (W.log words.old) bucket result (W.log words.new) }
+    ensures others { KnowsOthers (W.log words.old) bucket (W.log words.new) }
+    ensures obeys { (depth : ℕ) → AllObey depth (W.log words.old) → AllObey depth (W.log words.new) }
 {
     let found = find(words, bucket);
     if let Whereabouts::In { slot, lap } = found {
@@ -319,7 +323,8 @@ fn settle_bucket<W: Words>(words: &mut W, bucket: u32) -> bool
 fn find<W: Words>(words: &mut W, bucket: u32) -> Whereabouts
     requires below { bucket < (W.log words.old).scene.buckets }
     requires held { is_held (known_of (W.log words.old) bucket) ≡ true }
-    ensures { IsFound (W.log words.old) bucket result (W.log words.new) }
+    ensures found { IsFound (W.log words.old) bucket result (W.log words.new) }
+    ensures slot { IsSlotBelow (W.log words.old).scene.slots result }
 {
     let Entry::In { slot, length: _ } = words.load_entry(bucket) else {
         return Whereabouts::Nowhere;

@@ -3,8 +3,15 @@
 //! A queue of `depth` messages is `depth` slots in a row, which are used in turn. No word of the file says
 //! where it begins and ends: a party finds that by looks at the slots, and goes on from there the next
 //! time.
-ghost use Rattle.bb_memory_file.specs.FileLog.{IsLap, lap_in};
-ghost use Rattle.std.specs.Prelude.{◌<◌, ◌≡◌};
+ghost use Rattle.bb_memory_file.specs.FileLog.{IsLap, is_clear, known_of, lap_in};
+ghost use Rattle.bb_memory_file.specs.FileNotes.{AreNoted};
+ghost use Rattle.bb_memory_file.specs.FileQueueCalls.{AllObey, Grows, IsFar, IsOver, IsReceipt, IsSend, KnowsOthers, noted_after};
+ghost use Rattle.bb_memory_file.specs.FileQueueLooks.{IsPosition, KnowsHead, KnowsTail, last_lap, position_after, queue_in};
+ghost use Rattle.bb_memory_file.specs.FileQueueSteps.{IsTurn};
+ghost use Rattle.bb_memory_file.specs.FileNames.{Empty};
+ghost use Rattle.bb_memory_file_machine.specs.FileMachine.{FileScene};
+ghost use Rattle.bb_memory_file_machine.specs.FileQueues.{IsFilled, IsLater, IsWhole, lap_said};
+ghost use Rattle.std.specs.Prelude.{IfSome, IsTrue, MatchBool, true, ℕ, ◌*◌, ◌+◌, ◌/◌, ◌<◌, ◌^◌, ◌≡◌, ◌≢◌};
 
 use crate::calls;
 use crate::calls::Received;
@@ -60,11 +67,22 @@ pub struct Receiver {
     pub head: Option<Position>,
 }
 
-/// A slot that a walk has come to: its position, and the word that it had there.
+/// A slot at which a walk has stopped: its position, and the word that it had there.
 #[derive(Debug, Clone, Copy, PartialEq, Eq)]
 struct Stop {
     position: Position,
     word: Slot,
+}
+
+/// What a receiver has found where a queue begins.
+#[derive(Debug, Clone, Copy, PartialEq, Eq)]
+enum Oldest {
+    /// The oldest message with which no party is done, or the empty slot whose turn it is.
+    At(Stop),
+    /// Words that no queue has.
+    Wrong,
+    /// Others were done with each message while it looked at them, as often as it has tried.
+    Overtaken,
 }
 
 /// What a walk over the messages of a queue has found.
@@ -78,25 +96,50 @@ enum Walked {
     },
     /// None that is sent in all of these slots.
     Passed,
-    /// None that is sent, before a slot that isn't filled yet.
+    /// None that is sent, before a slot that is empty.
     End,
-    /// A word that no message of this file has.
+    /// Words that no queue has.
+    Wrong,
+}
+
+/// What a look at a message of a queue has found.
+#[derive(Debug, Clone, Copy, PartialEq, Eq)]
+enum Looked {
+    /// A message in this bucket, which is sent.
+    Sent { bucket: u32 },
+    /// A message that isn't sent, or that the party has itself.
+    Unsent,
+    /// An empty slot.
+    Empty,
+    /// A word that no queue has there.
     Wrong,
 }
 
 impl Queue {
     /// Returns the queue's first slot.
-    fn first(self) -> u32 {
+    fn first(self) -> u32
+        requires { self.number * self.depth + self.depth < 2 ^ 32 }
+        ensures { result ≡ self.number * self.depth }
+    {
         self.number * self.depth
     }
 
     /// Returns the slot after the queue's last one.
-    fn end(self) -> u32 {
+    fn end(self) -> u32
+        requires { self.number * self.depth + self.depth < 2 ^ 32 }
+        ensures { result ≡ self.number * self.depth + self.depth }
+    {
         self.number * self.depth + self.depth
     }
 
     /// Returns the position after this one.
-    fn after(self, position: Position) -> Position {
+    fn after(self, position: Position) -> Position
+        requires depth { 0 < self.depth }
+        requires fits { self.number * self.depth + self.depth < 2 ^ 32 }
+        requires slot { position.slot / self.depth ≡ self.number }
+        requires lap { IsLap position.lap }
+        ensures after { (scene : FileScene) → result ≡ position_after (queue_in scene self) position }
+    {
         let slot = position.slot + 1;
         if slot < self.end() {
             Position {
@@ -122,30 +165,29 @@ pub fn send<W: Words>(
     tail: Option<Position>,
     bucket: u32,
     length: u32,
-) -> Sender {
+) -> Sender
+    requires whole { IsWhole (queue_in (W.log words.old).scene queue) }
+    requires depth { 0 < queue.depth }
+    requires fits { queue.number * queue.depth + queue.depth < 2 ^ 32 }
+    requires tail { IfSome tail (λ position. KnowsTail (queue_in (W.log words.old).scene queue) (W.log words.old).events position) }
+    requires below { bucket < (W.log words.old).scene.buckets }
+    requires clear { is_clear (known_of (W.log words.old) bucket) ≡ true }
+    ensures sends { (process : ℕ) → IsSend process (W.log words.old) (queue_in (W.log words.old).scene queue) bucket length
+        result.sending (W.log words.new) }
+    ensures tail { KnowsTail (queue_in (W.log words.old).scene queue) (W.log words.new).events result.tail }
+    ensures obeys { AllObey queue.depth (W.log words.old) → AllObey queue.depth (W.log words.new) }
+    ensures others { KnowsOthers (W.log words.old) bucket (W.log words.new) }
+    ensures grows { Grows (W.log words.old) (W.log words.new) }
+{
     let mut tail = match tail {
         Some(tail) => tail,
         None => find_tail(words, queue),
     };
-    for _ in 0..ATTEMPTS {
-        let stop = pass_filled(words, queue, tail);
-        tail = stop.position;
-        match stop.word {
-            Slot::Empty { lap } if lap == tail.lap => {
-                if calls::fill(words, tail.slot, lap, bucket, length) {
-                    return Sender {
-                        sending: Sending::Sent { slot: tail.slot },
-                        tail: queue.after(tail),
-                    };
-                }
-            }
-            word if is_filled(tail.lap, word) => tail = find_tail(words, queue),
-            _ => {
-                return Sender {
-                    sending: Sending::Full,
-                    tail,
-                };
-            }
+    for _attempt in 0..ATTEMPTS {
+        let sender = try_to_send(words, queue, tail, bucket, length);
+        match sender.sending {
+            Sending::Overtaken => tail = sender.tail,
+            _ => return sender,
         }
     }
     Sender {
@@ -154,8 +196,57 @@ pub fn send<W: Words>(
     }
 }
 
+/// Tries once to post a message, into the slot whose turn it is from `tail` on.
+fn try_to_send<W: Words>(
+    words: &mut W,
+    queue: Queue,
+    tail: Position,
+    bucket: u32,
+    length: u32,
+) -> Sender
+{
+    let Stop { position, word } = find_turn(words, queue, tail);
+    if is_filled(position.lap, word) {
+        return Sender {
+            sending: Sending::Overtaken,
+            tail: position,
+        };
+    }
+    if !is_empty_at(position.lap, word) {
+        return Sender {
+            sending: Sending::Full,
+            tail: position,
+        };
+    }
+    if !calls::fill(words, position.slot, position.lap, bucket, length) {
+        return Sender {
+            sending: Sending::Overtaken,
+            tail: position,
+        };
+    }
+    Sender {
+        sending: Sending::Sent {
+            slot: position.slot,
+        },
+        tail: queue.after(position),
+    }
+}
+
+/// Finds the slot whose turn it is, from `tail` on. If the slots' laps have come round since the party was
+/// at `tail`, begins anew.
+fn find_turn<W: Words>(words: &mut W, queue: Queue, tail: Position) -> Stop
+{
+    let stop = pass_filled(words, queue, tail);
+    if is_turn(stop.position.lap, stop.word) {
+        return stop;
+    }
+    let tail = find_tail(words, queue);
+    pass_filled(words, queue, tail)
+}
+
 /// Finds a position that a sender may fill, by a look at the queue's first slot.
-fn find_tail<W: Words>(words: &mut W, queue: Queue) -> Position {
+fn find_tail<W: Words>(words: &mut W, queue: Queue) -> Position
+{
     let slot = queue.first();
     let lap = match words.load_slot(slot) {
         Slot::Empty { lap } => last_lap(lap),
@@ -166,16 +257,17 @@ fn find_tail<W: Words>(words: &mut W, queue: Queue) -> Position {
 
 /// Goes on from a position to the first slot that isn't filled there, or over as many slots as the queue
 /// has. Returns where it stopped, and what word it found there.
-fn pass_filled<W: Words>(words: &mut W, queue: Queue, from: Position) -> Stop {
+fn pass_filled<W: Words>(words: &mut W, queue: Queue, from: Position) -> Stop
+{
     let mut position = from;
-    let mut word = words.load_slot(position.slot);
-    for _ in 0..queue.depth {
+    for _passed in 0..queue.depth {
+        let word = words.load_slot(position.slot);
         if !is_filled(position.lap, word) {
-            break;
+            return Stop { position, word };
         }
         position = queue.after(position);
-        word = words.load_slot(position.slot);
     }
+    let word = words.load_slot(position.slot);
     Stop { position, word }
 }
 
@@ -190,26 +282,65 @@ pub fn receive<W: Words>(
     queue: Queue,
     head: Option<Position>,
     size: u32,
-) -> Receiver {
-    let Some(stop) = find_oldest(words, queue, head) else {
-        return Receiver {
-            taken: Taken::Wrong,
-            head,
-        };
-    };
-    let taken = match stop.word {
-        Slot::Empty { lap } if lap == stop.position.lap => Taken::Empty,
-        Slot::Message { lap, bucket } if lap == stop.position.lap => {
-            match receive_at(words, notes, stop.position, bucket, size) {
-                Taken::NotSent => receive_later(words, notes, queue, stop.position, size),
-                taken => taken,
-            }
+) -> Receiver
+    requires whole { IsWhole (queue_in (W.log words.old).scene queue) }
+    requires depth { 0 < queue.depth }
+    requires fits { queue.number * queue.depth + queue.depth < 2 ^ 32 }
+    requires head { IfSome head (λ position. KnowsHead (queue_in (W.log words.old).scene queue) (W.log words.old).events position) }
+    requires noted { AreNoted (W.log words.old) notes.now }
+    ensures receives { (process : ℕ) → IsReceipt process (W.log words.old) notes.now (queue_in (W.log words.old).scene queue) size
+        result.taken (W.log words.new) }
+    ensures head { IfSome result.head
+        (λ position. KnowsHead (queue_in (W.log words.old).scene queue) (W.log words.new).events position) }
+    ensures obeys { AllObey queue.depth (W.log words.old) → AllObey queue.depth (W.log words.new) }
+    ensures noted { AreNoted (W.log words.new) (noted_after notes.now result.taken) }
+    ensures grows { Grows (W.log words.old) (W.log words.new) }
+{
+    let stop = match find_oldest(words, queue, head) {
+        Oldest::At(stop) => stop,
+        Oldest::Wrong => {
+            return Receiver {
+                taken: Taken::Wrong,
+                head: None,
+            };
         }
-        _ => Taken::Wrong,
+        Oldest::Overtaken => {
+            return Receiver {
+                taken: Taken::NotSent,
+                head: None,
+            };
+        }
     };
     Receiver {
-        taken,
+        taken: receive_from(words, notes, queue, stop, size),
         head: Some(stop.position),
+    }
+}
+
+/// Takes the oldest message that is sent. The oldest one of the queue, or the empty slot whose turn it is,
+/// has been found at `oldest`.
+fn receive_from<W: Words>(
+    words: &mut W,
+    notes: &[Note],
+    queue: Queue,
+    oldest: Stop,
+    size: u32,
+) -> Taken
+{
+    let Stop { position, word } = oldest;
+    let Slot::Message { lap: _, bucket } = word else {
+        return Taken::Empty;
+    };
+    match notes.get(bucket as usize) {
+        Some(Note::Unheld) => {
+            match calls::receive(words, position.slot, position.lap, bucket, size) {
+                Received::NotSent => receive_later(words, notes, queue, position, size),
+                Received::Wrong => Taken::Wrong,
+                Received::Message(length) => Taken::Message { bucket, length },
+            }
+        }
+        Some(Note::Undone) => receive_later(words, notes, queue, position, size),
+        _ => Taken::Wrong,
     }
 }
 
@@ -221,65 +352,50 @@ fn receive_later<W: Words>(
     queue: Queue,
     head: Position,
     size: u32,
-) -> Taken {
-    for _ in 0..ATTEMPTS {
-        let (position, bucket) = match find_sent(words, notes, queue, head) {
-            Walked::Sent {
-                position,
-                bucket,
-                passed: _,
-            } => (position, bucket),
-            Walked::Passed | Walked::End => return Taken::NotSent,
-            Walked::Wrong => return Taken::Wrong,
-        };
-        match receive_at(words, notes, position, bucket, size) {
-            Taken::NotSent => {}
-            taken => return taken,
+) -> Taken
+{
+    for _attempt in 0..ATTEMPTS {
+        if let Some(taken) = try_to_receive(words, notes, queue, head, size) {
+            return taken;
         }
     }
     Taken::NotSent
 }
 
-/// Takes the message in this bucket, which a load of the position's slot has found there, unless the
-/// party has the message already.
-fn receive_at<W: Words>(
+/// Tries once to take the first message that is sent, from the position `head` on. Messages before it that
+/// weren't sent are looked at again once it is found, since they may have been sent before it was posted.
+/// Returns None if another party was faster, or has sent an older message meanwhile.
+fn try_to_receive<W: Words>(
     words: &mut W,
     notes: &[Note],
-    position: Position,
-    bucket: u32,
+    queue: Queue,
+    head: Position,
     size: u32,
-) -> Taken {
-    match notes.get(bucket as usize) {
-        Some(Note::Unheld) => {
-            match calls::receive(words, position.slot, position.lap, bucket, size) {
-                Received::NotSent => Taken::NotSent,
-                Received::Wrong => Taken::Wrong,
-                Received::Message(length) => Taken::Message { bucket, length },
-            }
-        }
-        Some(Note::Undone) => Taken::NotSent,
-        _ => Taken::Wrong,
-    }
-}
-
-/// Finds the first message from the position `head` on that is sent. Messages before it that weren't sent
-/// are looked at again once it is found, since they may have been sent before it was posted.
-fn find_sent<W: Words>(words: &mut W, notes: &[Note], queue: Queue, head: Position) -> Walked {
-    let mut found = walk_on(words, notes, queue, head, queue.depth);
-    loop {
-        let Walked::Sent {
+) -> Option<Taken>
+{
+    let (position, bucket, passed) = match walk_on(words, notes, queue, head, queue.depth) {
+        Walked::Sent {
+            position,
+            bucket,
+            passed,
+        } => (position, bucket, passed),
+        Walked::Passed | Walked::End => return Some(Taken::NotSent),
+        Walked::Wrong => return Some(Taken::Wrong),
+    };
+    match walk_on(words, notes, queue, head, passed) {
+        Walked::Passed => {}
+        Walked::Sent {
             position: _,
             bucket: _,
-            passed,
-        } = found
-        else {
-            return found;
-        };
-        match walk_on(words, notes, queue, head, passed) {
-            Walked::Passed => return found,
-            Walked::End => return Walked::Wrong,
-            older => found = older,
-        }
+            passed: _,
+        } => return None,
+        Walked::End => return Some(Taken::NotSent),
+        Walked::Wrong => return Some(Taken::Wrong),
+    }
+    match calls::receive(words, position.slot, position.lap, bucket, size) {
+        Received::NotSent => None,
+        Received::Wrong => Some(Taken::Wrong),
+        Received::Message(length) => Some(Taken::Message { bucket, length }),
     }
 }
 
@@ -290,86 +406,114 @@ fn walk_on<W: Words>(
     queue: Queue,
     head: Position,
     slots: u32,
-) -> Walked {
+) -> Walked
+{
     let mut position = head;
     for passed in 0..slots {
-        match words.load_slot(position.slot) {
-            Slot::Message { lap, bucket } if lap == position.lap => {
-                match notes.get(bucket as usize) {
-                    Some(Note::Unheld) => {
-                        if is_sent(words, position, bucket) {
-                            return Walked::Sent {
-                                position,
-                                bucket,
-                                passed,
-                            };
-                        }
-                    }
-                    Some(Note::Undone) => {}
-                    _ => return Walked::Wrong,
+        let word = words.load_slot(position.slot);
+        if !is_over(position.lap, word) {
+            match look_at(words, notes, position, word) {
+                Looked::Unsent => {}
+                Looked::Sent { bucket } => {
+                    return Walked::Sent {
+                        position,
+                        bucket,
+                        passed,
+                    };
                 }
+                Looked::Empty => return Walked::End,
+                Looked::Wrong => return Walked::Wrong,
             }
-            word if is_over(position.lap, word) => {}
-            _ => return Walked::End,
         }
         position = queue.after(position);
     }
     Walked::Passed
 }
 
-/// Returns whether the bucket is sent to this position.
-fn is_sent<W: Words>(words: &mut W, position: Position, bucket: u32) -> bool {
+/// Looks whether the message is sent that a load has found at this position, in a slot that isn't over.
+fn look_at<W: Words>(words: &mut W, notes: &[Note], position: Position, word: Slot) -> Looked
+{
     let Position { slot, lap } = position;
-    calls::is_same(words.load_flag(bucket), FileFlag::SentTo { slot, lap })
+    if lap_said(word) != lap {
+        return Looked::Wrong;
+    }
+    let Slot::Message { lap: _, bucket } = word else {
+        return Looked::Empty;
+    };
+    match notes.get(bucket as usize) {
+        Some(Note::Unheld) => {
+            if calls::is_same(words.load_flag(bucket), FileFlag::SentTo { slot, lap }) {
+                Looked::Sent { bucket }
+            } else {
+                Looked::Unsent
+            }
+        }
+        Some(Note::Undone) => Looked::Unsent,
+        _ => Looked::Wrong,
+    }
 }
 
-/// Finds the oldest message of the queue with which no party is done, or the empty slot whose turn it is.
-/// Returns None if the slots' laps are none that a queue has.
-fn find_oldest<W: Words>(words: &mut W, queue: Queue, head: Option<Position>) -> Option<Stop> {
+/// Finds the oldest message of the queue with which no party is done, or the empty slot whose turn it is,
+/// from `head` on. If the slots' laps have come round since the party was at `head`, begins anew.
+fn find_oldest<W: Words>(words: &mut W, queue: Queue, head: Option<Position>) -> Oldest
+{
     if let Some(head) = head {
         let stop = pass_over(words, queue, head);
-        if !is_over(stop.position.lap, stop.word) {
-            return Some(stop);
+        if lap_said(stop.word) == stop.position.lap {
+            return Oldest::At(stop);
         }
     }
-    let head = find_head(words, queue)?;
-    Some(pass_over(words, queue, head))
+    find_anew(words, queue)
+}
+
+/// Finds the oldest message of the queue, or the empty slot whose turn it is, by looks at all slots.
+#[inline(never)]
+fn find_anew<W: Words>(words: &mut W, queue: Queue) -> Oldest
+{
+    for _attempt in 0..ATTEMPTS {
+        let Some(head) = find_head(words, queue) else {
+            return Oldest::Wrong;
+        };
+        let stop = pass_over(words, queue, head);
+        if lap_said(stop.word) == stop.position.lap {
+            return Oldest::At(stop);
+        }
+        if !is_over(stop.position.lap, stop.word) {
+            return Oldest::Wrong;
+        }
+    }
+    Oldest::Overtaken
 }
 
 /// Goes on from a position to the first slot that isn't over there, or over as many slots as the queue
 /// has. Returns where it stopped, and what word it found there.
-fn pass_over<W: Words>(words: &mut W, queue: Queue, from: Position) -> Stop {
+fn pass_over<W: Words>(words: &mut W, queue: Queue, from: Position) -> Stop
+{
     let mut position = from;
-    let mut word = words.load_slot(position.slot);
-    for _ in 0..queue.depth {
+    for _passed in 0..queue.depth {
+        let word = words.load_slot(position.slot);
         if !is_over(position.lap, word) {
-            break;
+            return Stop { position, word };
         }
         position = queue.after(position);
-        word = words.load_slot(position.slot);
     }
+    let word = words.load_slot(position.slot);
     Stop { position, word }
 }
 
-/// Finds the slot whose lap comes first, and looks whether all others are later.
-fn find_head<W: Words>(words: &mut W, queue: Queue) -> Option<Position> {
+/// Finds the slot whose lap comes first. Returns None if a lap is far from that of the first slot.
+fn find_head<W: Words>(words: &mut W, queue: Queue) -> Option<Position>
+{
     let first = queue.first();
-    let mut head = Position {
-        slot: first,
-        lap: lap_said(words.load_slot(first)),
-    };
+    let lap = lap_said(words.load_slot(first));
+    let mut head = Position { slot: first, lap };
     for slot in first + 1..queue.end() {
-        let lap = lap_said(words.load_slot(slot));
-        if is_later(lap, head.lap) {
-            head = Position { slot, lap };
+        let found = lap_said(words.load_slot(slot));
+        if is_far(lap, found) {
+            return None;
         }
-    }
-    for slot in first..queue.end() {
-        if slot != head.slot {
-            let before = lap_before(head, slot);
-            if !is_over(before, words.load_slot(slot)) {
-                return None;
-            }
+        if is_later(found, head.lap) {
+            head = Position { slot, lap: found };
         }
     }
     Some(head)
@@ -378,13 +522,30 @@ fn find_head<W: Words>(words: &mut W, queue: Queue) -> Option<Position> {
 // LAPS
 
 /// Returns whether the other lap is later: whether it is in the half of all laps that follows this one.
-fn is_later(lap: u32, other: u32) -> bool {
+fn is_later(lap: u32, other: u32) -> bool
+    requires lap { IsLap lap }
+    requires other { IsLap other }
+    ensures { MatchBool result (IsLater lap other) (¬ IsLater lap other) }
+{
     let more = (other + LAPS - lap) % LAPS;
     more > 0 && more < LAPS / 2
 }
 
+/// Returns whether the other lap is none of the half of all laps that is around this one.
+fn is_far(lap: u32, other: u32) -> bool
+    requires lap { IsLap lap }
+    requires other { IsLap other }
+    ensures { MatchBool result (IsFar lap other) (¬ IsFar lap other) }
+{
+    (other + LAPS / 4 + (LAPS - lap)) % LAPS >= LAPS / 2
+}
+
 /// Returns whether a slot with this word was filled at this lap.
-fn is_filled(lap: u32, word: Slot) -> bool {
+fn is_filled(lap: u32, word: Slot) -> bool
+    requires lap { IsLap lap }
+    requires word { IsLap (lap_in word) }
+    ensures { MatchBool result (IsFilled lap word) (¬ IsFilled lap word) }
+{
     match word {
         Slot::Empty { lap: found } => is_later(lap, found),
         Slot::Message {
@@ -394,29 +555,56 @@ fn is_filled(lap: u32, word: Slot) -> bool {
     }
 }
 
+/// Returns whether the slot with this word is empty at this lap.
+fn is_empty_at(lap: u32, word: Slot) -> bool
+    ensures { MatchBool result (word ≡ Empty lap) (word ≢ Empty lap) }
+{
+    match word {
+        Slot::Empty { lap: found } => found == lap,
+        Slot::Message { lap: _, bucket: _ } => false,
+    }
+}
+
+/// Returns whether it is a sender's turn at this lap, if the slot has this word: whether the slot is empty
+/// at the lap, or has the message of the lap before.
+fn is_turn(lap: u32, word: Slot) -> bool
+    requires lap { IsLap lap }
+    ensures { IsTrue result → IsTurn lap word }
+{
+    match word {
+        Slot::Empty { lap: found } => found == lap,
+        Slot::Message {
+            lap: found,
+            bucket: _,
+        } => found == last_lap(lap),
+    }
+}
+
 /// Returns whether a slot with this word is at a later lap.
-fn is_over(lap: u32, word: Slot) -> bool {
+fn is_over(lap: u32, word: Slot) -> bool
+    requires lap { IsLap lap }
+    requires word { IsLap (lap_in word) }
+    ensures { MatchBool result (IsOver lap word) (¬ IsOver lap word) }
+{
     is_later(lap, lap_said(word))
 }
 
 /// Returns the lap that a slot's word says.
-fn lap_said(word: Slot) -> u32 {
+fn lap_said(word: Slot) -> u32
+    ensures said { result ≡ lap_said word }
+    ensures lap { result ≡ lap_in word }
+{
     match word {
         Slot::Empty { lap } => lap,
         Slot::Message { lap, bucket: _ } => lap,
     }
 }
 
-/// Returns the lap at which another slot has the last message before this position.
-fn lap_before(position: Position, other: u32) -> u32 {
-    if other < position.slot {
-        position.lap
-    } else {
-        last_lap(position.lap)
-    }
-}
-
 /// Returns the lap before this one.
-fn last_lap(lap: u32) -> u32 {
+fn last_lap(lap: u32) -> u32
+    requires { IsLap lap }
+    ensures last { result ≡ last_lap lap }
+    ensures lap { IsLap result }
+{
     (lap + (LAPS - 1)) % LAPS
 }
