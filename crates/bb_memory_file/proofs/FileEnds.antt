@@ -1,6 +1,6 @@
 -- A party that has joined obeys the rules of its file's queues, and knows where it goes on at each, before
 -- each call and after it.
-use Rattle.bb_memory_file.proofs.FileEvents.{append_assoc}
+use Rattle.bb_memory_file.proofs.FileEvents.{append_assoc, gets_on}
 use Rattle.bb_memory_file.proofs.FileLooks.{head_on, looks_move_none, obey_on, tail_on}
 use Rattle.bb_memory_file.specs.FileCalls.{BeginsSearch, Gets, IsAttach, IsDeallocate, IsDetach, IsDone, IsJoin, IsLookedUp, IsPost, IsPutBack, IsReceive, IsSettled, MovesNone, TakesOne, Whereabouts, has_some, moves_message}
 use Rattle.bb_memory_file.specs.FileCalls.received as received
@@ -9,7 +9,7 @@ use Rattle.bb_memory_file.specs.FileCode.{EmptySlot, ExchangeFlag, ExchangeSlot,
 use Rattle.bb_memory_file.specs.FileLog.{Event, IsKnownIn}
 use Rattle.bb_memory_file.specs.FileNames.{DetachedBy, Empty, Free, HeldBy, In, Message, Nowhere, Outside, SentTo, Slot}
 use Rattle.bb_memory_file.specs.FileNotes.{AreEnds, Ends, KeepsQueues, looked, no_ends, queues_of}
-use Rattle.bb_memory_file.specs.FileQueueCalls.{AllObey, Grows}
+use Rattle.bb_memory_file.specs.FileQueueCalls.{AllObey, Grows, IsDoneAt}
 use Rattle.bb_memory_file.specs.FileQueueLooks.{CanFill, CanTake, EventsObey, KnowsHead, KnowsTail, Position}
 use Rattle.bb_memory_file_machine.specs.FileMachine.{FileScene}
 use Rattle.bb_memory_file_machine.specs.FileQueues.{FileQueue, IsLater, IsSlotOf, earlier, lap_before, next_lap, now, slot_before}
@@ -19,8 +19,8 @@ use Rattle.std.proofs.Math.Nat.{div-mul-le_self, mul-le-mul_right}
 use Rattle.std.proofs.Common.{Bool, List, None, Option, Some, [], ap, arith, false, inl, inr, length, refl, subst, sym, true, ℕ, ◌*◌, ◌++◌, ◌+◌, ◌<◌, ◌∙◌, ◌∷◌, ◌≡◌, ◌≢◌, ◌≤◌}
 use Rattle.std.proofs.lemmas.Bool.{cases_eq, le-ltb}
 use Rattle.std.proofs.lemmas.List.{length-replicate}
-use Rattle.std.proofs.lemmas.Option.{slice_get_within}
-use Rattle.std.specs.Prelude.{IfSome, if◌then◌else◌, nat_lt, replicate, slice_get, slice_set, ◌%◌, ◌/◌, ◌==◌}
+use Rattle.std.proofs.lemmas.Option.{slice_get-get_or}
+use Rattle.std.specs.Prelude.{IfSome, if◌then◌else◌, nat_lt, replicate, slice_get, slice_index_or, slice_set, ◌%◌, ◌/◌, ◌==◌}
 
 -- ENDS
 
@@ -261,10 +261,24 @@ module _ (old new : FileLog) (depth : ℕ) (ends : List Ends) (keeps : KeepsQueu
         (record { scene = log.scene; number = number; depth = depth }) log.events) (sym (did 0).1)
         (tt, ((bucket, lap, known.0, known.1, refl), keeps_looked.obeys number)))
 
+-- DONE
+
+done_grows : (process : ℕ) (old new : FileLog) (bucket : ℕ) (found : Whereabouts) → IsDoneAt process old bucket found new → Grows old new
+done_grows process old new bucket (whereabouts.In slot lap) (below, (before, found, by, gets, first, (next, emptied)), clear) =
+    (_, gets_on old before new found (StoreEntry bucket Nowhere ∷ EmptySlot slot (next_lap lap) ∷ []) gets emptied)
+done_grows process old new bucket whereabouts.Entered did = (did.2.0, did.2.2)
+done_grows process old new bucket whereabouts.Nowhere did = (did.2.0, did.2.2)
+
+pub keeps_done_with : (old new : FileLog) (depth : ℕ) (ends : List Ends) (bucket : ℕ) (found : Whereabouts) →
+    KeepsQueues old depth ends → ((process : ℕ) → IsDoneAt process old bucket found new) →
+    ((depth : ℕ) → AllObey depth old → AllObey depth new) → KeepsQueues new depth ends
+keeps_done_with old new depth ends bucket found keeps did obeys =
+    keeps_on old new depth ends keeps (done_grows 0 old new bucket found (did 0)) (obeys depth keeps.obeys)
+
 -- QUEUES
 
-module _ (old new : FileLog) (depth : ℕ) (ends : List Ends) (keeps : KeepsQueues old depth ends) (grows : Grows old new)
-    (obeys : AllObey depth old → AllObey depth new) (number : ℕ) (its : Ends) (was : slice_get ends number ≡ Some its) where
+module _ (old new : FileLog) (depth : ℕ) (ends : List Ends) (keeps : KeepsQueues old depth ends) (number : ℕ) (its : Ends)
+    (was : slice_get ends number ≡ Some its) (grows : Grows old new) (obeys : AllObey depth old → AllObey depth new) where
   keeps_grown : KeepsQueues new depth ends
   keeps_grown = keeps_on old new depth ends keeps grows (obeys keeps.obeys)
 
@@ -288,18 +302,25 @@ module _ (old new : FileLog) (depth : ℕ) (ends : List Ends) (keeps : KeepsQueu
         (sym (ap (λ (log : FileLog). log.scene) grows.1)) knows;
   }
 
+module _ (log : FileLog) (depth : ℕ) (ends : List Ends) (keeps : KeepsQueues log depth ends) (number : ℕ)
+    (below : number < queues_of log.scene.slots depth) where
   -- the queue is whole
-  pub whole : number * depth + depth ≤ old.scene.slots
+  pub whole : number * depth + depth ≤ log.scene.slots
   whole = whole_by (depth == 1) refl
     where
-      below : number < queues_of old.scene.slots depth
-      below = let less = slice_get_within ends number its was in let enough = keeps.enough in omega (arith, less, enough)
-
-      within_div : number < old.scene.slots / depth → number * depth + depth ≤ old.scene.slots
+      within_div : number < log.scene.slots / depth → number * depth + depth ≤ log.scene.slots
       within_div less =
-          let rows : (number + 1) * depth ≤ old.scene.slots / depth * depth = mul-le-mul_right depth less in
-          let all = div-mul-le_self old.scene.slots depth in omega (arith, rows, all)
+          let rows : (number + 1) * depth ≤ log.scene.slots / depth * depth = mul-le-mul_right depth less in
+          let all = div-mul-le_self log.scene.slots depth in omega (arith, rows, all)
 
-      whole_by : (is : Bool) → (depth == 1) ≡ is → number * depth + depth ≤ old.scene.slots
+      whole_by : (is : Bool) → (depth == 1) ≡ is → number * depth + depth ≤ log.scene.slots
       whole_by true e = let none : number < 0 = rw e at below in absurd (omega (arith, none))
-      whole_by false e = let less : number < old.scene.slots / depth = rw e at below in within_div less
+      whole_by false e = let less : number < log.scene.slots / depth = rw e at below in within_div less
+
+  pub fits : number * depth + depth < 4294967296
+  fits = let all = whole in let few = keeps.fits in omega (arith, all, few)
+
+  -- the party knows where it goes on there
+  pub has_ends : (its : Ends) → its ≡ slice_index_or ends number its → slice_get ends number ≡ Some its
+  has_ends its is =
+      slice_get-get_or ends number its (let enough = keeps.enough in omega (arith, below, enough)) ∙ ap (λ (e : Ends). Some e) (sym is)

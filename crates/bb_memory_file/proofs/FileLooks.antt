@@ -12,12 +12,12 @@ use Rattle.std.specs.Prelude.{if◌then◌else◌}
 
 -- LOOKS
 
-moment_on : {X : Type 0} (moment list more : List X) → IsMoment moment list → IsMoment moment (more ++ list)
+pub moment_on : {X : Type 0} (moment list more : List X) → IsMoment moment list → IsMoment moment (more ++ list)
 moment_on moment list [] past = past
 moment_on moment list (item ∷ more) past = earlier item (more ++ list) (moment_on moment list more past)
 
 module _ (events more : List Event) where
-  abbrev look_on : (slot : ℕ) (word : Slot) → Look events slot word → Look (more ++ events) slot word
+  abbrev pub look_on : (slot : ℕ) (word : Slot) → Look events slot word → Look (more ++ events) slot word
   look_on slot word look = record {
     event = look.event;
     before = look.before;
@@ -40,8 +40,7 @@ module _ (events more : List Event) where
       KnowsHead queue (more ++ events) position
   head_on queue position knows = (
     knows.0,
-    (λ other its.
-    let over = knows.1 other its in (over.0, look_on other over.0 over.1, over.2)),
+    (λ other its. let over = knows.1 other its in (over.0, look_on other over.0 over.1, over.2)),
   )
 
 -- RULES

@@ -12,9 +12,12 @@ pub mod FileMade
 pub mod FileMessages
 pub mod FileNotes
 pub mod FileProcesses
+pub mod FileQueueLives
 pub mod FileQueueRuns
+pub mod FileQueueSlots
 pub mod FileRecords
 pub mod FileRows
+pub mod FileRunMoments
 pub mod FileRunSteps
 pub mod FileRunTheorem
 pub mod FileSearches

@@ -5,11 +5,13 @@
 //! time.
 ghost use Rattle.bb_memory_file.specs.FileLog.{IsLap, is_clear, known_of, lap_in};
 ghost use Rattle.bb_memory_file.specs.FileNotes.{AreNoted};
-ghost use Rattle.bb_memory_file.specs.FileQueueCalls.{AllObey, Grows, IsReceipt, IsSend, KnowsOthers, noted_after};
-ghost use Rattle.bb_memory_file.specs.FileQueueLooks.{KnowsHead, KnowsTail, queue_in};
+ghost use Rattle.bb_memory_file.specs.FileQueueCalls.{AllObey, Grows, IsFar, IsOver, IsReceipt, IsSend, KnowsOthers, noted_after};
+ghost use Rattle.bb_memory_file.specs.FileQueueLooks.{IsPosition, KnowsHead, KnowsTail, last_lap, position_after, queue_in};
+ghost use Rattle.bb_memory_file.specs.FileQueueSteps.{IsTurn};
+ghost use Rattle.bb_memory_file.specs.FileNames.{Empty};
 ghost use Rattle.bb_memory_file_machine.specs.FileMachine.{FileScene};
-ghost use Rattle.bb_memory_file_machine.specs.FileQueues.{IsWhole};
-ghost use Rattle.std.specs.Prelude.{IfSome, true, ℕ, ◌*◌, ◌+◌, ◌<◌, ◌^◌, ◌≡◌};
+ghost use Rattle.bb_memory_file_machine.specs.FileQueues.{IsFilled, IsLater, IsWhole, lap_said};
+ghost use Rattle.std.specs.Prelude.{IfSome, IsTrue, MatchBool, true, ℕ, ◌*◌, ◌+◌, ◌/◌, ◌<◌, ◌^◌, ◌≡◌, ◌≢◌};
 
 use crate::calls;
 use crate::calls::Received;
@@ -115,17 +117,29 @@ enum Looked {
 
 impl Queue {
     /// Returns the queue's first slot.
-    fn first(self) -> u32 {
+    fn first(self) -> u32
+        requires { self.number * self.depth + self.depth < 2 ^ 32 }
+        ensures { result ≡ self.number * self.depth }
+    {
         self.number * self.depth
     }
 
     /// Returns the slot after the queue's last one.
-    fn end(self) -> u32 {
+    fn end(self) -> u32
+        requires { self.number * self.depth + self.depth < 2 ^ 32 }
+        ensures { result ≡ self.number * self.depth + self.depth }
+    {
         self.number * self.depth + self.depth
     }
 
     /// Returns the position after this one.
-    fn after(self, position: Position) -> Position {
+    fn after(self, position: Position) -> Position
+        requires depth { 0 < self.depth }
+        requires fits { self.number * self.depth + self.depth < 2 ^ 32 }
+        requires slot { position.slot / self.depth ≡ self.number }
+        requires lap { IsLap position.lap }
+        ensures after { (scene : FileScene) → result ≡ position_after (queue_in scene self) position }
+    {
         let slot = position.slot + 1;
         if slot < self.end() {
             Position {
@@ -509,6 +523,9 @@ fn find_head<W: Words>(words: &mut W, queue: Queue) -> Option<Position>
 
 /// Returns whether the other lap is later: whether it is in the half of all laps that follows this one.
 fn is_later(lap: u32, other: u32) -> bool
+    requires lap { IsLap lap }
+    requires other { IsLap other }
+    ensures { MatchBool result (IsLater lap other) (¬ IsLater lap other) }
 {
     let more = (other + LAPS - lap) % LAPS;
     more > 0 && more < LAPS / 2
@@ -516,12 +533,18 @@ fn is_later(lap: u32, other: u32) -> bool
 
 /// Returns whether the other lap is none of the half of all laps that is around this one.
 fn is_far(lap: u32, other: u32) -> bool
+    requires lap { IsLap lap }
+    requires other { IsLap other }
+    ensures { MatchBool result (IsFar lap other) (¬ IsFar lap other) }
 {
     (other + LAPS / 4 + (LAPS - lap)) % LAPS >= LAPS / 2
 }
 
 /// Returns whether a slot with this word was filled at this lap.
 fn is_filled(lap: u32, word: Slot) -> bool
+    requires lap { IsLap lap }
+    requires word { IsLap (lap_in word) }
+    ensures { MatchBool result (IsFilled lap word) (¬ IsFilled lap word) }
 {
     match word {
         Slot::Empty { lap: found } => is_later(lap, found),
@@ -534,6 +557,7 @@ fn is_filled(lap: u32, word: Slot) -> bool
 
 /// Returns whether the slot with this word is empty at this lap.
 fn is_empty_at(lap: u32, word: Slot) -> bool
+    ensures { MatchBool result (word ≡ Empty lap) (word ≢ Empty lap) }
 {
     match word {
         Slot::Empty { lap: found } => found == lap,
@@ -544,6 +568,8 @@ fn is_empty_at(lap: u32, word: Slot) -> bool
 /// Returns whether it is a sender's turn at this lap, if the slot has this word: whether the slot is empty
 /// at the lap, or has the message of the lap before.
 fn is_turn(lap: u32, word: Slot) -> bool
+    requires lap { IsLap lap }
+    ensures { IsTrue result → IsTurn lap word }
 {
     match word {
         Slot::Empty { lap: found } => found == lap,
@@ -556,12 +582,17 @@ fn is_turn(lap: u32, word: Slot) -> bool
 
 /// Returns whether a slot with this word is at a later lap.
 fn is_over(lap: u32, word: Slot) -> bool
+    requires lap { IsLap lap }
+    requires word { IsLap (lap_in word) }
+    ensures { MatchBool result (IsOver lap word) (¬ IsOver lap word) }
 {
     is_later(lap, lap_said(word))
 }
 
 /// Returns the lap that a slot's word says.
 fn lap_said(word: Slot) -> u32
+    ensures said { result ≡ lap_said word }
+    ensures lap { result ≡ lap_in word }
 {
     match word {
         Slot::Empty { lap } => lap,
@@ -571,6 +602,9 @@ fn lap_said(word: Slot) -> u32
 
 /// Returns the lap before this one.
 fn last_lap(lap: u32) -> u32
+    requires { IsLap lap }
+    ensures last { result ≡ last_lap lap }
+    ensures lap { IsLap result }
 {
     (lap + (LAPS - 1)) % LAPS
 }

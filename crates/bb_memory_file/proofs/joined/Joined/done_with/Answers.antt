@@ -1,41 +1,79 @@
-use Rattle.std.proofs.Common.{rules, IfErr, IfNone, IfOk, IfSome, IsOk, Some, [], length, replicate, slice_get, vec_capacity, ℕ, ◌<◌, ◌≡◌, ◌≤◌, ◌+◌, ◌-◌, ◌*◌, ◌/◌, ◌%◌, Bool, true, false, nat_eq, nat_lt, List, ◌∷◌, ◌++◌, slice_index_or, slice_set, bit_and, bit_or, Fits, w8, w32, w64, Bor, MutBor}
-use Rattle.bb_memory_file.specs.FileCalls.{IsLeave}
-use Rattle.bb_memory_file.specs.FileLog.{FileLog}
-use Rattle.bb_memory_file.specs.FileNotes.{Allocates, AreCached, Attaches, Caches, Deallocates, Detaches, Finishes, Flushes, FreesLast, GivesAllBack, InUse, IsDoneWith, IsRefusal, JoinedParty, Joins, JoinsNot, MissesFirst, Posts, Reaps, Receives, Sends, Takes, Undone, Unheld, no_ends, queues_of, used_in}
+use Rattle.bb_memory_file.proofs.FileCaches.{cached_while, in_use_apart, undone_apart}
+use Rattle.bb_memory_file.proofs.FileEnds.{keeps_done_with}
+use Rattle.bb_memory_file.proofs.FileNotes.{after_done_entered, after_done_in, after_done_nowhere, undone_held, within}
 use Rattle.bb_memory_file.proofs.joined.Joined.done_with.Goals as goal
+use Rattle.bb_memory_file.specs.FileCalls.whereabouts as whereabouts
+use Rattle.bb_memory_file.specs.FileNotes.{InUse, Undone}
+use Rattle.std.proofs.Common.{Some, inl, inr, refl, ◌≡◌}
+use Rattle.std.specs.Prelude.{slice_get}
 
--- src/joined.rt:505:41
 pub done_with-requires-clause-held : goal.done_with-requires-clause-held
-done_with-requires-clause-held g c = ?
+done_with-requires-clause-held g c =
+    let was : slice_get c.self.inside.notes.items c.args.bucket ≡ Some Undone = cc in
+    undone_held _ c.self.inside.notes.items c.self.invariant.0 c.args.bucket was
 
--- src/joined.rt:507:21
 pub index_mut-requires : goal.index_mut-requires
-index_mut-requires g c = ?
+index_mut-requires g c =
+    let was : slice_get c.self.inside.notes.items c.args.bucket ≡ Some Undone = cc in
+    within c.self.inside.notes.items c.args.bucket _ _ c.self.inside.notes.ok.0 was
 
--- src/joined.rt:508:21
 pub invariant_of-self : goal.invariant_of-self
-invariant_of-self g c = ?
+invariant_of-self g c =
+    let was : slice_get c.self.inside.notes.items c.args.bucket ≡ Some Undone = cc in (
+      after_done_in _ _ c.self.inside.notes.items c.self.invariant.0 c.args.bucket was c.in-In.ensures.others c.in-In.slot
+          c.in-In.lap c.in-In.ensures.done,
+      cached_while c.self.inside.notes.items c.self.inside.cached.items c.args.bucket Undone InUse c.self.invariant.1 was
+          undone_apart in_use_apart,
+      c.self.invariant.2,
+      c.self.invariant.3,
+      c.self.invariant.4,
+      keeps_done_with _ _ _ c.self.inside.ends.items c.args.bucket (whereabouts.In c.in-In.slot c.in-In.lap) c.self.invariant.5
+          c.in-In.ensures.done c.in-In.ensures.obeys,
+    )
 
--- src/joined.rt:510:41
 pub invariant_of-self-in-Entered : goal.invariant_of-self-in-Entered
-invariant_of-self-in-Entered g c = ?
+invariant_of-self-in-Entered g c =
+    let was : slice_get c.self.inside.notes.items c.args.bucket ≡ Some Undone = cc in (
+      after_done_entered _ _ c.self.inside.notes.items c.self.invariant.0 c.args.bucket was c.in-Entered.ensures.others
+          c.in-Entered.ensures.done,
+      c.self.invariant.1,
+      c.self.invariant.2,
+      c.self.invariant.3,
+      c.self.invariant.4,
+      keeps_done_with _ _ _ c.self.inside.ends.items c.args.bucket whereabouts.Entered c.self.invariant.5
+          c.in-Entered.ensures.done c.in-Entered.ensures.obeys,
+    )
 
--- src/joined.rt:512:21
 pub index_mut-requires-in-Nowhere : goal.index_mut-requires-in-Nowhere
-index_mut-requires-in-Nowhere g c = ?
+index_mut-requires-in-Nowhere g c =
+    let was : slice_get c.self.inside.notes.items c.args.bucket ≡ Some Undone = cc in
+    within c.self.inside.notes.items c.args.bucket _ _ c.self.inside.notes.ok.0 was
 
--- src/joined.rt:513:21
 pub invariant_of-self-in-Nowhere : goal.invariant_of-self-in-Nowhere
-invariant_of-self-in-Nowhere g c = ?
+invariant_of-self-in-Nowhere g c =
+    let was : slice_get c.self.inside.notes.items c.args.bucket ≡ Some Undone = cc in (
+      after_done_nowhere _ _ c.self.inside.notes.items c.self.invariant.0 c.args.bucket was c.in-Nowhere.ensures.others
+          c.in-Nowhere.ensures.done,
+      cached_while c.self.inside.notes.items c.self.inside.cached.items c.args.bucket Undone InUse c.self.invariant.1 was
+          undone_apart in_use_apart,
+      c.self.invariant.2,
+      c.self.invariant.3,
+      c.self.invariant.4,
+      keeps_done_with _ _ _ c.self.inside.ends.items c.args.bucket whereabouts.Nowhere c.self.invariant.5
+          c.in-Nowhere.ensures.done c.in-Nowhere.ensures.obeys,
+    )
 
--- src/joined.rt:500:5
 pub returns-in-In : goal.returns-in-In
-returns-in-In g c = ?
+returns-in-In g c =
+    let was : slice_get c.self.inside.notes.items c.args.bucket ≡ Some Undone = cc in
+    rw (← c.self.view_is) (was, (c.in-In.lap, (c.in-In.ensures.done, refl)))
 
--- src/joined.rt:500:5
 pub returns-in-Entered : goal.returns-in-Entered
-returns-in-Entered g c = ?
+returns-in-Entered g c =
+    let was : slice_get c.self.inside.notes.items c.args.bucket ≡ Some Undone = cc in
+    rw (← c.self.view_is) (was, inl (c.in-Entered.ensures.done, refl))
 
--- src/joined.rt:500:5
 pub returns-in-Nowhere : goal.returns-in-Nowhere
-returns-in-Nowhere g c = ?
+returns-in-Nowhere g c =
+    let was : slice_get c.self.inside.notes.items c.args.bucket ≡ Some Undone = cc in
+    rw (← c.self.view_is) (was, inr (c.in-Nowhere.ensures.done, refl))
