@@ -265,7 +265,10 @@ module _ (old new : FileLog) (depth : ℕ) (ends : List Ends) (keeps : KeepsQueu
 
 done_grows : (process : ℕ) (old new : FileLog) (bucket : ℕ) (found : Whereabouts) → IsDoneAt process old bucket found new → Grows old new
 done_grows process old new bucket (whereabouts.In slot lap) (below, (before, found, by, gets, first, (next, emptied)), clear) =
-    (_, gets_on old before new found (StoreEntry bucket Nowhere ∷ EmptySlot slot (next_lap lap) ∷ []) gets emptied)
+    (
+      (StoreEntry bucket Nowhere ∷ EmptySlot slot (next_lap lap) ∷ []) ++ found,
+      gets_on old before new found (StoreEntry bucket Nowhere ∷ EmptySlot slot (next_lap lap) ∷ []) gets emptied,
+    )
 done_grows process old new bucket whereabouts.Entered did = (did.2.0, did.2.2)
 done_grows process old new bucket whereabouts.Nowhere did = (did.2.0, did.2.2)
 
@@ -310,7 +313,7 @@ module _ (log : FileLog) (depth : ℕ) (ends : List Ends) (keeps : KeepsQueues l
     where
       within_div : number < log.scene.slots / depth → number * depth + depth ≤ log.scene.slots
       within_div less =
-          let rows : (number + 1) * depth ≤ log.scene.slots / depth * depth = mul-le-mul_right depth less in
+          let rows : (number + 1) * depth ≤ log.scene.slots / depth * depth = mul-le-mul_right depth (omega (arith, less)) in
           let all = div-mul-le_self log.scene.slots depth in omega (arith, rows, all)
 
       whole_by : (is : Bool) → (depth == 1) ≡ is → number * depth + depth ≤ log.scene.slots

@@ -9,17 +9,20 @@ use Rattle.std.specs.Prelude.{slice_get}
 
 pub done_with-requires-clause-held : goal.done_with-requires-clause-held
 done_with-requires-clause-held g c =
-    let was : slice_get c.self.inside.notes.items c.args.bucket ≡ Some Undone = cc in
+    let there : slice_get c.args.self.now.notes c.args.bucket ≡ Some Undone = cc in
+    let was = rw (← c.self.view_is) at there in
     undone_held _ c.self.inside.notes.items c.self.invariant.0 c.args.bucket was
 
 pub index_mut-requires : goal.index_mut-requires
 index_mut-requires g c =
-    let was : slice_get c.self.inside.notes.items c.args.bucket ≡ Some Undone = cc in
+    let there : slice_get c.args.self.now.notes c.args.bucket ≡ Some Undone = cc in
+    let was = rw (← c.self.view_is) at there in
     within c.self.inside.notes.items c.args.bucket _ _ c.self.inside.notes.ok.0 was
 
 pub invariant_of-self : goal.invariant_of-self
 invariant_of-self g c =
-    let was : slice_get c.self.inside.notes.items c.args.bucket ≡ Some Undone = cc in (
+    let there : slice_get c.args.self.now.notes c.args.bucket ≡ Some Undone = cc in
+    let was = rw (← c.self.view_is) at there in (
       after_done_in _ _ c.self.inside.notes.items c.self.invariant.0 c.args.bucket was c.in-In.ensures.others c.in-In.slot
           c.in-In.lap c.in-In.ensures.done,
       cached_while c.self.inside.notes.items c.self.inside.cached.items c.args.bucket Undone InUse c.self.invariant.1 was
@@ -33,7 +36,8 @@ invariant_of-self g c =
 
 pub invariant_of-self-in-Entered : goal.invariant_of-self-in-Entered
 invariant_of-self-in-Entered g c =
-    let was : slice_get c.self.inside.notes.items c.args.bucket ≡ Some Undone = cc in (
+    let there : slice_get c.args.self.now.notes c.args.bucket ≡ Some Undone = cc in
+    let was = rw (← c.self.view_is) at there in (
       after_done_entered _ _ c.self.inside.notes.items c.self.invariant.0 c.args.bucket was c.in-Entered.ensures.others
           c.in-Entered.ensures.done,
       c.self.invariant.1,
@@ -46,12 +50,14 @@ invariant_of-self-in-Entered g c =
 
 pub index_mut-requires-in-Nowhere : goal.index_mut-requires-in-Nowhere
 index_mut-requires-in-Nowhere g c =
-    let was : slice_get c.self.inside.notes.items c.args.bucket ≡ Some Undone = cc in
+    let there : slice_get c.args.self.now.notes c.args.bucket ≡ Some Undone = cc in
+    let was = rw (← c.self.view_is) at there in
     within c.self.inside.notes.items c.args.bucket _ _ c.self.inside.notes.ok.0 was
 
 pub invariant_of-self-in-Nowhere : goal.invariant_of-self-in-Nowhere
 invariant_of-self-in-Nowhere g c =
-    let was : slice_get c.self.inside.notes.items c.args.bucket ≡ Some Undone = cc in (
+    let there : slice_get c.args.self.now.notes c.args.bucket ≡ Some Undone = cc in
+    let was = rw (← c.self.view_is) at there in (
       after_done_nowhere _ _ c.self.inside.notes.items c.self.invariant.0 c.args.bucket was c.in-Nowhere.ensures.others
           c.in-Nowhere.ensures.done,
       cached_while c.self.inside.notes.items c.self.inside.cached.items c.args.bucket Undone InUse c.self.invariant.1 was
@@ -65,15 +71,18 @@ invariant_of-self-in-Nowhere g c =
 
 pub returns-in-In : goal.returns-in-In
 returns-in-In g c =
-    let was : slice_get c.self.inside.notes.items c.args.bucket ≡ Some Undone = cc in
+    let there : slice_get c.args.self.now.notes c.args.bucket ≡ Some Undone = cc in
+    let was = rw (← c.self.view_is) at there in
     rw (← c.self.view_is) (was, (c.in-In.lap, (c.in-In.ensures.done, refl)))
 
 pub returns-in-Entered : goal.returns-in-Entered
 returns-in-Entered g c =
-    let was : slice_get c.self.inside.notes.items c.args.bucket ≡ Some Undone = cc in
+    let there : slice_get c.args.self.now.notes c.args.bucket ≡ Some Undone = cc in
+    let was = rw (← c.self.view_is) at there in
     rw (← c.self.view_is) (was, inl (c.in-Entered.ensures.done, refl))
 
 pub returns-in-Nowhere : goal.returns-in-Nowhere
 returns-in-Nowhere g c =
-    let was : slice_get c.self.inside.notes.items c.args.bucket ≡ Some Undone = cc in
+    let there : slice_get c.args.self.now.notes c.args.bucket ≡ Some Undone = cc in
+    let was = rw (← c.self.view_is) at there in
     rw (← c.self.view_is) (was, inr (c.in-Nowhere.ensures.done, refl))

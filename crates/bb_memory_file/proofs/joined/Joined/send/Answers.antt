@@ -1,44 +1,58 @@
-use Rattle.std.proofs.Common.{rules, IfErr, IfNone, IfOk, IfSome, IsOk, Some, [], length, replicate, slice_get, vec_capacity, ℕ, ◌<◌, ◌≡◌, ◌≤◌, ◌+◌, ◌-◌, ◌*◌, ◌/◌, ◌%◌, Bool, true, false, nat_eq, nat_lt, List, ◌∷◌, ◌++◌, slice_index_or, slice_set, bit_and, bit_or, Fits, w8, w32, w64, Bor, MutBor}
-use Rattle.bb_memory_file.specs.FileCalls.{IsLeave}
-use Rattle.bb_memory_file.specs.FileLog.{FileLog}
-use Rattle.bb_memory_file.specs.FileNotes.{Allocates, AreCached, Attaches, Caches, Deallocates, Detaches, Finishes, Flushes, FreesLast, GivesAllBack, InUse, IsDoneWith, IsRefusal, JoinedParty, Joins, JoinsNot, MissesFirst, Posts, Reaps, Receives, Sends, Takes, Undone, Unheld, no_ends, queues_of, used_in}
+use Rattle.bb_memory_file.proofs.FileCaches.{cached_while, in_use_apart, unheld_apart}
+use Rattle.bb_memory_file.proofs.FileEnds.{fits, has_ends, keeps_tail, whole}
+use Rattle.bb_memory_file.proofs.FileNotes.{after_sent, after_unsent, below_by, in_use_clear, unsent_notes, within}
 use Rattle.bb_memory_file.proofs.joined.Joined.send.Goals as goal
+use Rattle.bb_memory_file.specs.FileNotes.{InUse, Unheld, notes_sent, queues_of}
+use Rattle.bb_memory_file.specs.FileQueueCalls.{IsSend, Sending, Sent}
+use Rattle.std.proofs.Common.{ap, refl, subst, sym, ◌<◌, ◌∙◌}
+use Rattle.std.specs.Prelude.{slice_set}
 
--- src/joined.rt:473:13
 pub send-sender-requires-clause-whole : goal.send-sender-requires-clause-whole
-send-sender-requires-clause-whole g c = ?
+send-sender-requires-clause-whole g c =
+    let below = rw (← c.self.view_is) at c.requires in
+    let depth = rw (← c.self.view_is) at c.queue-its.ensures.depth in
+    rw (c.queue-its.ensures.number, depth) (whole _ c.self.inside.depth c.self.inside.ends.items c.self.invariant.5 c.args.queue below)
 
--- src/joined.rt:473:13
 pub send-sender-requires-clause-fits : goal.send-sender-requires-clause-fits
-send-sender-requires-clause-fits g c = ?
+send-sender-requires-clause-fits g c =
+    let below = rw (← c.self.view_is) at c.requires in
+    let depth = rw (← c.self.view_is) at c.queue-its.ensures.depth in
+    rw (c.queue-its.ensures.number, depth) (fits _ c.self.inside.depth c.self.inside.ends.items c.self.invariant.5 c.args.queue below)
 
--- src/joined.rt:473:13
 pub send-sender-requires-clause-tail : goal.send-sender-requires-clause-tail
-send-sender-requires-clause-tail g c = ?
+send-sender-requires-clause-tail g c =
+    let below = rw (← c.self.view_is) at c.requires in
+    let depth = rw (← c.self.view_is) at c.queue-its.ensures.depth in
+    let was = has_ends _ c.self.inside.depth c.self.inside.ends.items c.self.invariant.5 c.args.queue below c.index-ends.result.now
+    c.index-ends.ensures in
+    rw (c.queue-its.ensures.number, depth) (c.self.invariant.5.known c.args.queue c.index-ends.result.now was).tail
 
--- src/joined.rt:473:13
 pub send-sender-requires-clause-below : goal.send-sender-requires-clause-below
-send-sender-requires-clause-below g c = ?
+send-sender-requires-clause-below g c =
+    below_by _ c.self.inside.notes.items c.self.invariant.0 c.args.bucket InUse
+    (rw (← c.self.view_is) at c.in_ok-check.ensures.held)
 
--- src/joined.rt:473:13
 pub send-sender-requires-clause-clear : goal.send-sender-requires-clause-clear
-send-sender-requires-clause-clear g c = ?
+send-sender-requires-clause-clear g c =
+    in_use_clear _ c.self.inside.notes.items c.self.invariant.0 c.args.bucket
+    (rw (← c.self.view_is) at c.in_ok-check.ensures.held)
 
--- src/joined.rt:476:13
 pub index_mut-requires-in-Sent : goal.index_mut-requires-in-Sent
-index_mut-requires-in-Sent g c = ?
+index_mut-requires-in-Sent g c =
+    within c.self.inside.notes.items c.args.bucket _ _ c.self.inside.notes.ok.0
+    (rw (← c.self.view_is) at c.in_ok-check.ensures.held)
 
--- src/joined.rt:476:13
 pub invariant_of-self : goal.invariant_of-self
 invariant_of-self g c = ?
 
 pub invariant_of-self-in_default : goal.invariant_of-self-in_default
 invariant_of-self-in_default g c = ?
 
--- src/joined.rt:466:5
 pub returns-in-Sent : goal.returns-in-Sent
 returns-in-Sent g c = ?
 
--- src/joined.rt:466:5
 pub returns-in_default : goal.returns-in_default
-returns-in_default g c = ?
+returns-in_default g c =
+    let h = c.in_default.not-Sent in
+    let k = c.index_mut.ensures.value in
+    let l = c.index_mut.result in ?
