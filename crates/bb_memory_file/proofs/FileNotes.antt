@@ -334,10 +334,14 @@ module _ (old new : FileLog) (notes : List Note) (joined : IsJoined old notes) (
 
   -- a sender
   module _ (queue : FileQueue) (size : ℕ) (was : slice_get notes bucket ≡ Some InUse) (others : KnowsOthers old bucket new) where
-    pub after_sent : (slot : ℕ) → ((process : ℕ) → IsSend process old queue bucket size (Sent slot) new) →
-        IsJoined new (slice_set notes bucket Unheld)
-    after_sent slot did = go_noted old new notes joined (λ process. (_, (did process).9)) bucket Unheld
-        (subst (λ known. IsNoted known Unheld) (sym (did 0).10) tt) others InUse was
+    pub after_sent : (sending : Sending) (slot : ℕ) → sending ≡ Sent slot →
+        ((process : ℕ) → IsSend process old queue bucket size sending new) → IsJoined new (slice_set notes bucket Unheld)
+    after_sent sending slot is did = by_sent
+        (λ process. subst (λ (s : Sending). IsSend process old queue bucket size s new) is (did process))
+      where
+        by_sent : ((process : ℕ) → IsSend process old queue bucket size (Sent slot) new) → IsJoined new (slice_set notes bucket Unheld)
+        by_sent sent = go_noted old new notes joined (λ process. (_, (sent process).9)) bucket Unheld
+            (subst (λ known. IsNoted known Unheld) (sym (sent 0).10) tt) others InUse was
 
     pub after_unsent : (sending : Sending) → ((slot : ℕ) → sending ≢ Sent slot) →
         ((process : ℕ) → IsSend process old queue bucket size sending new) → IsJoined new notes
@@ -357,6 +361,16 @@ receipt_goes process old new notes queue size taken.NotSent did = (_, did.0)
 receipt_goes process old new notes queue size taken.Wrong (inl did) = (_, did.0)
 receipt_goes process old new notes queue size taken.Wrong (inr did) =
     (_, walk_on process old did.3 new Outside Outside Outside [] _ did.5 did.7.2)
+
+-- a message that a receiver takes is in a bucket that the party doesn't hold
+pub received_unheld : (process : ℕ) (old new : FileLog) (notes : List Note) (queue : FileQueue) (size : ℕ) (answer : Taken)
+    (bucket bytes : ℕ) → answer ≡ taken.Message bucket bytes → IsReceipt process old notes queue size answer new →
+    slice_get notes bucket ≡ Some Unheld
+received_unheld process old new notes queue size answer bucket bytes is did =
+    unheld_by (subst (λ (a : Taken). IsReceipt process old notes queue size a new) is did)
+  where
+    unheld_by : IsReceipt process old notes queue size (taken.Message bucket bytes) new → slice_get notes bucket ≡ Some Unheld
+    unheld_by receipt = receipt.6
 
 pub after_receipt : (old new : FileLog) (notes later : List Note) (queue : FileQueue) (size : ℕ) (answer : Taken) →
     IsJoined old notes → ((process : ℕ) → IsReceipt process old notes queue size answer new) → AreNoted new later →
