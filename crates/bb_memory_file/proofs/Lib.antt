@@ -12,9 +12,11 @@ pub mod FileMade
 pub mod FileMessages
 pub mod FileNotes
 pub mod FileProcesses
+pub mod FileQueueExample
 pub mod FileQueueLives
 pub mod FileQueueRuns
 pub mod FileQueueSlots
+pub mod FileRecentLooks
 pub mod FileRecords
 pub mod FileRows
 pub mod FileRunMoments
