@@ -11,6 +11,7 @@ pub mod FileMade
 pub mod FileMessages
 pub mod FileNotes
 pub mod FileProcesses
+pub mod FileQueueDone
 pub mod FileQueueRuns
 pub mod FileQueueSlots
 pub mod FileRecords

@@ -5,10 +5,10 @@ use Rattle.bb_memory_file.specs.FileCalls.whereabouts as whereabouts
 use Rattle.bb_memory_file.specs.FileCode.{ChangesNone, Event, ExchangeSlot, FileLog, LoadFlag, LoadSlot, MissFlag, MissSlot, StoreEntry, StoreFlag, Unknown, known_of, told}
 use Rattle.bb_memory_file.specs.FileLog.{is_clear}
 use Rattle.bb_memory_file.specs.FileNames.{Empty, FileStep, Fill, In, Message, Next, Nowhere, Post, SentTo, Slot}
-use Rattle.bb_memory_file.specs.FileQueueLooks.{CanFill, CanPass, CanTake, EventsObey, KnowsHead, KnowsTail, Position, last_lap, position_after}
-use Rattle.bb_memory_file.specs.declared.joined.Note.{Note}
-use Rattle.bb_memory_file.specs.declared.joined.Note.TheVariants.{Undone, Unheld}
-use Rattle.bb_memory_file.specs.declared.joined.Taken.{Taken}
+use Rattle.bb_memory_file.specs.FileQueueLooks.{CanFill, CanPass, CanTake, EventsObey, KnowsHead, KnowsTail, Position, last_lap, position_after, position_on}
+pub use Rattle.bb_memory_file.specs.declared.joined.Note.{Note}
+pub use Rattle.bb_memory_file.specs.declared.joined.Note.TheVariants.{Undone, Unheld}
+pub use Rattle.bb_memory_file.specs.declared.joined.Taken.{Taken}
 use Rattle.bb_memory_file.specs.declared.joined.Taken.TheVariants as taken
 pub use Rattle.bb_memory_file.specs.declared.queues.Sending.{Sending}
 pub use Rattle.bb_memory_file.specs.declared.queues.Sending.TheVariants.{Full, Overtaken, Sent}
@@ -48,11 +48,6 @@ pub data Passes (test : ℕ → Slot → Type 0) (queue : FileQueue) (before : F
   next : (count : ℕ) (log : FileLog) (position : Position) (word : Slot) → Passes test queue before from count log position →
       test position.lap word →
       Passes test queue before from (count + 1) (told log (LoadSlot position.slot word)) (position_after queue position)
-
--- the position so many slots after this one
-abbrev pub position_on : FileQueue → Position → ℕ → Position
-position_on queue position zero = position
-position_on queue position (suc count) = position_after queue (position_on queue position count)
 
 -- SENDERS
 
