@@ -12,10 +12,16 @@ pub mod FileMessages
 pub mod FileNotes
 pub mod FileProcesses
 pub mod FileQueueDone
+pub mod FileQueueLives
+pub mod FileQueueNotes
+pub mod FileQueueReceipts
 pub mod FileQueueRuns
+pub mod FileQueueSends
 pub mod FileQueueSlots
+pub mod FileQueueWalks
 pub mod FileRecords
 pub mod FileRows
+pub mod FileRunMoments
 pub mod FileRunSteps
 pub mod FileRunTheorem
 pub mod FileSearches

@@ -7,6 +7,7 @@ pub mod FileNotes
 pub mod FileOperations
 pub mod FileParties
 pub mod FileQueueCalls
+pub mod FileQueueLives
 pub mod FileQueueLooks
 pub mod FileQueueRuns
 pub mod FileQueueSteps
