@@ -40,16 +40,21 @@ SeesBefore queue old new position =
     (last : Slot) × Happens old new (LoadSlot (slot_before queue position.slot) last)
     × IsFilled (lap_before position.lap position.slot (slot_before queue position.slot)) last
 
+-- the sender has passed each slot of the queue once, and this one twice
+abbrev pub ComesRound : FileQueue → FileLog → Position → FileLog → Type 0
+ComesRound queue old position new =
+    (middle : FileLog) × (from : Position) × Looks old middle × KnowsTail queue middle.events from
+    × Passes IsFilled queue middle from (queue.depth + 1) new (position_after queue position)
+
 -- The sender has come to this position and has found this word, by which it is its turn. Or it has begun
--- anew, and either the word isn't one of a filled slot, or each slot was filled.
+-- anew: if the slot is filled, so was each other one.
 abbrev pub FindsTurn : FileQueue → FileLog → Stop → FileLog → Type 0
 FindsTurn queue old stop new =
     (before : FileLog) × Looks old before × KnowsTail queue before.events stop.position
-    × (new ≡ told before (LoadSlot stop.position.slot stop.word)) × IsLap (lap_in stop.word)
-    × (IsTurn stop.position.lap stop.word
-    ⊎ ((¬ IsFilled stop.position.lap stop.word × SeesBefore queue old.events before.events stop.position)
-    ⊎ ((middle : FileLog) × (from : Position) × Looks old middle × KnowsTail queue middle.events from
-    × Passes IsFilled queue middle from (queue.depth + 1) new (position_after queue stop.position))))
+    × (new ≡ told before (LoadSlot stop.position.slot stop.word))
+    × (IsTurn stop.position.lap stop.word ⊎ (SeesBefore queue old.events before.events stop.position
+    × (IsFilled stop.position.lap stop.word → ComesRound queue old stop.position new)))
+    × IsLap (lap_in stop.word)
 
 -- RECEIVERS
 

@@ -139,7 +139,7 @@ impl Queue {
         requires fits { self.number * self.depth + self.depth < 2 ^ 32 }
         requires slot { position.slot / self.depth ≡ self.number }
         requires lap { IsLap position.lap }
-        ensures after { (scene : FileScene) → result ≡ position_after (queue_in scene self) position }
+        ensures { (scene : FileScene) → result ≡ position_after (queue_in scene self) position }
     {
         let slot = position.slot + 1;
         if slot < self.end() {
@@ -269,13 +269,11 @@ fn find_tail<W: Words>(words: &mut W, queue: Queue) -> Position
     requires fits { queue.number * queue.depth + queue.depth < 2 ^ 32 }
     ensures before { SeesBefore (queue_in (W.log words.old).scene queue) (W.log words.old).events (W.log words.new).events result }
     ensures position { IsPosition (queue_in (W.log words.old).scene queue) result }
-    ensures looks { (slot : ℕ) × (word : Slot) × (W.log words.new ≡ told (W.log words.old) (LoadSlot slot word)) }
+    ensures looks { Looks (W.log words.old) (W.log words.new) }
+    ensures same { KnowsSame (W.log words.old) (W.log words.new) }
 {
     let slot = queue.first();
-    let lap = match words.load_slot(slot) {
-        Slot::Empty { lap } => last_lap(lap),
-        Slot::Message { lap, bucket: _ } => lap,
-    };
+    let lap = lap_filled(words.load_slot(slot));
     queue.after(Position { slot, lap })
 }
 
@@ -686,6 +684,18 @@ fn lap_said(word: Slot) -> u32
 {
     match word {
         Slot::Empty { lap } => lap,
+        Slot::Message { lap, bucket: _ } => lap,
+    }
+}
+
+/// Returns the last lap at which a slot with this word was filled.
+fn lap_filled(word: Slot) -> u32
+    requires { IsLap (lap_in word) }
+    ensures filled { IsFilled result word }
+    ensures lap { IsLap result }
+{
+    match word {
+        Slot::Empty { lap } => last_lap(lap),
         Slot::Message { lap, bucket: _ } => lap,
     }
 }
