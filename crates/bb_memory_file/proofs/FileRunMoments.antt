@@ -181,8 +181,8 @@ pub record Made (scene : FileScene) (process party : ℕ) (event : Event) (befor
   pub there : Place
   pub made : IsStep (log_of scene party events) process here event step there
 
-made_path : (scene : FileScene) (process number party : ℕ) (event : Event) (rest : List Act) (log : FileLog) (taken : List FileStep)
-    (here : Place) → ¬ ChangesNone event → Path process (fresh_log scene number) (Counting number) log taken here →
+made_path : (scene : FileScene) (process number party : ℕ) (event : Event) (rest : List Act) (log : FileLog)
+    (taken : List FileStep) (here : Place) → ¬ ChangesNone event → Path process (fresh_log scene number) (Counting number) log taken here →
     acts_of process log ++ Locks process number ∷ [] ≡ Operates process party event ∷ rest →
     Made scene process party event rest
 made_path scene process number party event rest log taken here changes code.begins e = absurd (cc)
@@ -193,7 +193,8 @@ made_path scene process number party event rest _ taken here changes
     let same : other ≡ event = cc in
     let named : log.party ≡ party = cc in
     let before : acts_of process log ++ Locks process number ∷ [] ≡ rest = cc in
-    let numbers : number ≡ party = sym (path_same process (fresh_log scene number) (Counting number) log done at path).1 ∙ named in
+    let numbers : number ≡ party =
+    sym (path_same process (fresh_log scene number) (Counting number) log done at path).1 ∙ named in
     record {
       events = log.events;
       session = sym before ∙ acts_same scene process number log done at path
@@ -305,7 +306,8 @@ pub made_in_order : (scene : FileScene) (process party : ℕ) (one two : Event) 
     IsMoment (one ∷ first) (two ∷ second) →
     IsMoment (Operates process party one ∷ at.moment) (Operates process party two ∷ next.moment)
 made_in_order scene process party one two first second acts at next order =
-    elim (cases_moment (Operates process party one ∷ at.moment) acts (Operates process party two ∷ next.moment) at.past next.past) [
+    elim (cases_moment (Operates process party one ∷ at.moment) acts (Operates process party two ∷ next.moment) at.past
+    next.past) [
       | inl earlier_one ↦ earlier_one
       | inr later_one ↦ in_order_by scene process party one two first second acts at next order
           (Operates process party one ∷ at.moment) refl later_one
