@@ -10,7 +10,7 @@ use Rattle.bb_memory_file.specs.FileCode.{Event, ExchangeSlot, FileLog, Has, Hol
 use Rattle.bb_memory_file.specs.FileLog.{is_clear, with_entry, with_seen}
 use Rattle.bb_memory_file.specs.FileNames.{Empty, FileStep, Fill, In, Message, Next, Nowhere, Outside, Post, SentTo, Slot}
 use Rattle.bb_memory_file.specs.FileQueueCalls.{AllObey, Attempts, Full, Grows, IsFull, KnowsOthers, Looks, Overtaken, Sending, SendsBy, Sent, attempts, missed, passed, sought, untried}
-use Rattle.bb_memory_file.specs.FileQueueLooks.{CanFill, KnowsTail, Look, Position, last_lap, position_after}
+use Rattle.bb_memory_file.specs.FileQueueLooks.{CanFill, KnowsTail, Look, Position, Queue, last_lap, position_after, queue_in}
 use Rattle.bb_memory_file.specs.FileQueueSteps.{FindsTurn, IsTurn, KnowsSame, Stop}
 use Rattle.bb_memory_file_machine.specs.FileMachine.{FileScene}
 use Rattle.bb_memory_file_machine.specs.FileQueues.{FileQueue, IsFilled, IsMoment, IsSlotOf, IsWhole, earlier, now, slot_before}
@@ -334,3 +334,91 @@ module _ (queue : FileQueue) (bucket size : ℕ) (old middle new : FileLog) (gro
     makes_on tried (λ p. []) made,
     still,
   )
+
+-- a sender that hasn't tried yet
+pub send_begins : (queue : FileQueue) (bucket size : ℕ) (old one : FileLog) → is_clear (known_of old bucket) ≡ true →
+    Looks old one → KnowsSame old one → (process : ℕ) → SendsBy 0 process old queue bucket size Overtaken one
+send_begins queue bucket size old one clear seen same process = (
+  [],
+  sought [] 0 old one untried seen,
+  looks_make old process one seen,
+  clear_same (known_of old bucket) (known_of one bucket) (same bucket) clear,
+)
+
+-- Where a sender is that has tried so many times.
+pub record Tried (queue : FileQueue) (bucket size : ℕ) (old : FileLog) (count : ℕ) (tail : Position) (log : FileLog) : Type 0 where
+  pub sends : (process : ℕ) → SendsBy count process old queue bucket size Overtaken log
+  pub tail_known : KnowsTail queue log.events tail
+  pub obeys : AllObey queue.depth old → AllObey queue.depth log
+  pub others : KnowsOthers old bucket log
+  pub grows : Grows old log
+
+pub grows_on : (old middle new : FileLog) → Grows old middle → Grows middle new → Grows old new
+grows_on old middle new one two = (two.0 ++ one.0, gets_on old middle new one.0 two.0 one.1 two.1)
+
+pub others_on : (old middle new : FileLog) (bucket : ℕ) → KnowsOthers old bucket middle → KnowsOthers middle bucket new →
+    KnowsOthers old bucket new
+others_on old middle new bucket one two other apart = two other apart ∙ one other apart
+
+-- a try with how the scene is written now
+pub sends_as : (one other : FileScene) (queue : Queue) (process most : ℕ) (old : FileLog) (bucket size : ℕ) (sending : Sending)
+    (new : FileLog) → one ≡ other → SendsBy most process old (queue_in one queue) bucket size sending new →
+    SendsBy most process old (queue_in other queue) bucket size sending new
+sends_as one other queue process most old bucket size sending new same says =
+    subst (λ scene. SendsBy most process old (queue_in scene queue) bucket size sending new) same says
+
+pub tail_as : (one other : FileScene) (queue : Queue) (events : List Event) (tail : Position) → one ≡ other →
+    KnowsTail (queue_in one queue) events tail → KnowsTail (queue_in other queue) events tail
+tail_as one other queue events tail same knows = subst (λ scene. KnowsTail (queue_in scene queue) events tail) same knows
+
+pub tried_begins : (queue : FileQueue) (bucket size : ℕ) (old one : FileLog) (tail : Position) →
+    is_clear (known_of old bucket) ≡ true → Looks old one → KnowsSame old one → KnowsTail queue one.events tail →
+    Tried queue bucket size old 0 tail one
+tried_begins queue bucket size old one tail clear seen same knows = record {
+  sends = send_begins queue bucket size old one clear seen same;
+  tail_known = knows;
+  obeys = looks_obey old queue.depth one seen;
+  others = λ other apart. same other;
+  grows = looks_gets old one seen;
+}
+
+module _ (scene : FileScene) (queue : Queue) (bucket size : ℕ) (old middle : FileLog) (count : ℕ) (from : Position)
+    (is_scene : scene ≡ old.scene) (tried : Tried (queue_in scene queue) bucket size old count from middle) where
+  pub tried_scene : middle.scene ≡ scene
+  tried_scene = ap (λ (log : FileLog). log.scene) tried.grows.1 ∙ sym is_scene
+
+  pub tried_clear : is_clear (known_of middle bucket) ≡ true
+  tried_clear = (tried.sends 0).3
+
+  module _ (new : FileLog) (tail : Position) (knows : KnowsTail (queue_in middle.scene queue) new.events tail)
+      (obeys : AllObey queue.depth middle → AllObey queue.depth new) (others : KnowsOthers middle bucket new)
+      (grows : Grows middle new) where
+    pub tail_then : KnowsTail (queue_in scene queue) new.events tail
+    tail_then = tail_as middle.scene scene queue new.events tail tried_scene knows
+
+    pub obeys_then : AllObey queue.depth old → AllObey queue.depth new
+    obeys_then obey = obeys (tried.obeys obey)
+
+    pub others_then : KnowsOthers old bucket new
+    others_then = others_on old middle new bucket tried.others others
+
+    pub grows_then : Grows old new
+    grows_then = grows_on old middle new tried.grows grows
+
+    pub tried_again : ((process : ℕ) → SendsBy 1 process middle (queue_in middle.scene queue) bucket size Overtaken new) →
+        Tried (queue_in scene queue) bucket size old (count + 1) tail new
+    tried_again sends = record {
+      sends = λ process. again_on (queue_in scene queue) bucket size old middle new tried.grows count process (tried.sends process)
+          (sends_as middle.scene scene queue process 1 middle bucket size Overtaken new tried_scene (sends process));
+      tail_known = tail_then;
+      obeys = obeys_then;
+      others = others_then;
+      grows = grows_then;
+    }
+
+  pub tried_ends : (new : FileLog) (sending : Sending) → sending ≢ Overtaken → count < 2 ^ 16 →
+      ((process : ℕ) → SendsBy 1 process middle (queue_in middle.scene queue) bucket size sending new) →
+      (process : ℕ) → SendsBy (2 ^ 16) process old (queue_in scene queue) bucket size sending new
+  tried_ends new sending not less sends process =
+      sends_on (queue_in scene queue) bucket size old middle new tried.grows count process (tried.sends process) (2 ^ 16) less sending not
+      (sends_as middle.scene scene queue process 1 middle bucket size sending new tried_scene (sends process))
