@@ -137,9 +137,10 @@ module _ (process : ℕ) (old : FileLog) (slot bucket size : ℕ) where
   seen_empty lap = told old (LoadSlot slot (Empty lap))
 
   -- a look at the slot found it empty at this lap, and the rest of the call has filled it, or not
-  pub post_by : (lap : ℕ) (one : FileLog) (filled : Bool) (new : FileLog) → one ≡ told old (LoadSlot slot (Empty lap)) →
-      IsFill process one slot lap bucket size filled new → IsPost process old slot bucket size filled new
-  post_by lap one filled new is fill =
+  pub post_by : (lap : ℕ) (one : FileLog) (filled : Bool) (new : FileLog) → IsLap lap →
+      one ≡ told old (LoadSlot slot (Empty lap)) → IsFill process one slot lap bucket size filled new →
+      IsPost process old slot bucket size filled new
+  post_by lap one filled new in_range is fill =
       by_answer filled (subst (λ log. IsFill process log slot lap bucket size filled new) is fill)
     where
       seen_walk : Makes process old [] (seen_empty lap)
@@ -148,7 +149,7 @@ module _ (process : ℕ) (old : FileLog) (slot bucket size : ℕ) where
       by_answer : (answer : Bool) → IsFill process (seen_empty lap) slot lap bucket size answer new →
           IsPost process old slot bucket size answer new
       by_answer true says =
-          (lap, walk_on process old (seen_empty lap) new Outside Outside Outside [] _ seen_walk says.0, says.1)
+          (lap, walk_on process old (seen_empty lap) new Outside Outside Outside [] _ seen_walk says.0, says.1, in_range)
       by_answer false says =
           (lap, inr (says.1, walk_on process old (seen_empty lap) new Outside Outside Outside [] _ seen_walk says.0))
 

@@ -5,7 +5,7 @@ use Rattle.bb_memory_file.specs.FileCode.{ChangesNone, Event, FileLog, IsStep, M
 use Rattle.bb_memory_file.specs.FileCode as code
 use Rattle.bb_memory_file.specs.FileLog.{fresh_log}
 use Rattle.bb_memory_file.specs.FileNames.{Counting, Dead, FileStep, Lock, Outside, Place}
-use Rattle.bb_memory_file.specs.FileQueueLives.{events_in}
+use Rattle.bb_memory_file.specs.FileQueueLives.{events_in, events_of}
 use Rattle.bb_memory_file.specs.FileRuns.{Act, AreTrue, Dies, Frees, Life, Locks, Operates, Unlocks, actor, acts_of, own, words_after}
 use Rattle.bb_memory_file.specs.FileRuns as runs
 use Rattle.bb_memory_file_machine.proofs.FileInvariant.{Sound}
@@ -64,6 +64,15 @@ own_moment process moment _ (earlier act acts past) = elim (own_cases process ac
   | inr other ↦ subst (λ (l : List Act). IsMoment (own process moment) l) (sym other) (own_moment process moment acts past)
 ]
 
+-- a run has no acts of processes that aren't in its scene
+pub own_beyond : (scene : FileScene) (acts : List Act) (process : ℕ) → AreTrue scene acts → scene.processes ≤ process →
+    own process acts ≡ []
+own_beyond scene [] process true_acts beyond = refl
+own_beyond scene (act ∷ acts) process true_acts beyond = elim (own_cases process act acts) [
+  | inl mine ↦ let below = true_acts.0 in let same = mine.0 in absurd (omega (arith, below, same, beyond))
+  | inr other ↦ other ∙ own_beyond scene acts process true_acts.2 beyond
+]
+
 -- a process that has done this has taken the number's lock
 pub has_locked : (process party : ℕ) (events : List Event) (acts : List Act) → own process acts ≡ session process party events →
     Contains acts (Locks process party)
@@ -92,6 +101,12 @@ events_moment moment _ (earlier _ acts past) = events_moment moment acts past
 pub events_session : (process party : ℕ) (events : List Event) → events_in (session process party events) ≡ events
 events_session process party [] = refl
 events_session process party (event ∷ events) = ap (λ (l : List Event). event ∷ l) (events_session process party events)
+
+-- the events of a process that has a number's lock are those of its log
+pub events_told : (process : ℕ) (log : FileLog) (acts : List Act) →
+    own process acts ≡ acts_of process log ++ Locks process log.party ∷ [] → events_of process acts ≡ log.events
+events_told process log acts is =
+    ap (λ (l : List Act). events_in l) is ∙ events_session process log.party log.events
 
 pub session_length : (process party : ℕ) (events : List Event) → length (session process party events) ≡ length events + 1
 session_length process party [] = refl
@@ -166,8 +181,8 @@ pub record Made (scene : FileScene) (process party : ℕ) (event : Event) (befor
   pub there : Place
   pub made : IsStep (log_of scene party events) process here event step there
 
-made_path : (scene : FileScene) (process number party : ℕ) (event : Event) (rest : List Act) (log : FileLog) (taken : List FileStep)
-    (here : Place) → ¬ ChangesNone event → Path process (fresh_log scene number) (Counting number) log taken here →
+made_path : (scene : FileScene) (process number party : ℕ) (event : Event) (rest : List Act) (log : FileLog)
+    (taken : List FileStep) (here : Place) → ¬ ChangesNone event → Path process (fresh_log scene number) (Counting number) log taken here →
     acts_of process log ++ Locks process number ∷ [] ≡ Operates process party event ∷ rest →
     Made scene process party event rest
 made_path scene process number party event rest log taken here changes code.begins e = absurd (cc)
@@ -178,7 +193,8 @@ made_path scene process number party event rest _ taken here changes
     let same : other ≡ event = cc in
     let named : log.party ≡ party = cc in
     let before : acts_of process log ++ Locks process number ∷ [] ≡ rest = cc in
-    let numbers : number ≡ party = sym (path_same process (fresh_log scene number) (Counting number) log done at path).1 ∙ named in
+    let numbers : number ≡ party =
+    sym (path_same process (fresh_log scene number) (Counting number) log done at path).1 ∙ named in
     record {
       events = log.events;
       session = sym before ∙ acts_same scene process number log done at path
@@ -290,7 +306,8 @@ pub made_in_order : (scene : FileScene) (process party : ℕ) (one two : Event) 
     IsMoment (one ∷ first) (two ∷ second) →
     IsMoment (Operates process party one ∷ at.moment) (Operates process party two ∷ next.moment)
 made_in_order scene process party one two first second acts at next order =
-    elim (cases_moment (Operates process party one ∷ at.moment) acts (Operates process party two ∷ next.moment) at.past next.past) [
+    elim (cases_moment (Operates process party one ∷ at.moment) acts (Operates process party two ∷ next.moment) at.past
+    next.past) [
       | inl earlier_one ↦ earlier_one
       | inr later_one ↦ in_order_by scene process party one two first second acts at next order
           (Operates process party one ∷ at.moment) refl later_one

@@ -2,6 +2,7 @@ pub mod FileBeginnings
 pub mod FileBuckets
 pub mod FileCaches
 pub mod FileCounts
+pub mod FileEnds
 pub mod FileEvents
 pub mod FileFlagWords
 pub mod FileFlushes
@@ -12,6 +13,7 @@ pub mod FileMessages
 pub mod FileNotes
 pub mod FileProcesses
 pub mod FileQueueDone
+pub mod FileQueueExample
 pub mod FileQueueLives
 pub mod FileQueueNotes
 pub mod FileQueueReceipts
@@ -19,6 +21,7 @@ pub mod FileQueueRuns
 pub mod FileQueueSends
 pub mod FileQueueSlots
 pub mod FileQueueWalks
+pub mod FileRecentLooks
 pub mod FileRecords
 pub mod FileRows
 pub mod FileRunMoments

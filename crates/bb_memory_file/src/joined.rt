@@ -3,7 +3,7 @@
 //! the bucket's message. A party may cache the buckets that it gave back last for its next requests.
 ghost use Rattle.bb_memory_file.specs.FileCalls.{IsLeave};
 ghost use Rattle.bb_memory_file.specs.FileLog.{FileLog};
-ghost use Rattle.bb_memory_file.specs.FileNotes.{Allocates, AreCached, Attaches, Caches, Deallocates, Detaches, Flushes, FreesLast, GivesAllBack, InUse, IsDoneWith, IsRefusal, JoinedParty, Joins, JoinsNot, MissesFirst, Posts, Reaps, Receives, Sends, Takes, Undone, Unheld, no_ends, queues_of, used_in};
+ghost use Rattle.bb_memory_file.specs.FileNotes.{Allocates, AreCached, Attaches, Caches, Deallocates, Detaches, Finishes, Flushes, FreesLast, GivesAllBack, InUse, IsDoneWith, IsRefusal, JoinedParty, Joins, JoinsNot, MissesFirst, Posts, Reaps, Receives, Sends, Takes, Undone, Unheld, no_ends, queues_of, used_in};
 ghost use Rattle.std.specs.Prelude.{IfErr, IfNone, IfOk, IfSome, IsOk, Some, [], length, replicate, slice_get, vec_capacity, ℕ, ◌<◌, ◌≡◌, ◌≤◌};
 
 use crate::calls::{Received, Whereabouts};
@@ -448,7 +448,6 @@ impl<W: Words + Drop> Joined<W> {
     /// Says that the party is done with the message in a single slot, which it has taken: empties the slot.
     /// Returns whether the party was at work on it. The party goes on holding the bucket.
     pub fn done(&mut self, slot: u32) -> bool
-        requires single { self.old.depth ≡ 1 }
         requires slot { slot < (W.log self.old.words).scene.slots }
         ensures { IsDoneWith W.log self.old slot result self.new }
     {
@@ -465,7 +464,7 @@ impl<W: Words + Drop> Joined<W> {
 
     /// Posts a message of `length` bytes in a bucket into a queue. Fails as `deallocate` does.
     pub fn send(&mut self, queue: u32, bucket: u32, length: u32) -> Result<Sending, Refusal>
-        requires { queue < length self.old.ends }
+        requires { queue < queues_of (W.log self.old.words).scene.slots self.old.depth }
         ensures { Sends W.log self.old queue bucket length result self.new }
     {
         self.check(bucket)?;
@@ -481,7 +480,7 @@ impl<W: Words + Drop> Joined<W> {
 
     /// Takes the oldest message of a queue that is sent. `size` is the size of a bucket in bytes.
     pub fn receive(&mut self, queue: u32, size: u32) -> Taken
-        requires { queue < length self.old.ends }
+        requires { queue < queues_of (W.log self.old.words).scene.slots self.old.depth }
         ensures { Receives W.log self.old queue size result self.new }
     {
         let ends = self.ends[queue as usize];
@@ -498,7 +497,9 @@ impl<W: Words + Drop> Joined<W> {
     /// The party goes on holding the bucket. Fails with `NotABucket` if the file has no such bucket, with
     /// `NotHeld` if the party has no message in it, and with `NotDone` if the message's slot hasn't the
     /// bucket, which no file shows in which only these calls write.
-    pub fn done_with(&mut self, bucket: u32) -> Result<u32, Refusal> {
+    pub fn done_with(&mut self, bucket: u32) -> Result<u32, Refusal>
+        ensures { Finishes W.log self.old bucket result self.new }
+    {
         match self.note(bucket) {
             None => Err(Refusal::NotABucket),
             Some(Note::Undone) => match calls::done_with(&mut self.words, bucket) {

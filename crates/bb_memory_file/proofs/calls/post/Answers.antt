@@ -24,4 +24,4 @@ fill-requires g c =
 pub returns : goal.returns
 returns g c process =
     post_by process (g.W.Words.log c.args.words.now) c.args.slot c.args.bucket c.args.length c.in-Empty.lap _ c.fill.result _
-    c.in-Empty.ensures.told (c.fill.ensures process)
+    c.in-Empty.ensures.lap c.in-Empty.ensures.told (c.fill.ensures process)
