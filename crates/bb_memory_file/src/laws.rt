@@ -71,8 +71,8 @@ pub fn words_law()
 
 /// States that the recorded operations of all hands on the words of a file, which began as a new
 /// file's, are true acts of processes. Each of them has the log of its party, or looks. If the acts of
-/// each party's process are its life, some steps of the machine leave the words that the row says after
-/// the operations. The function does nothing: its contract is the law.
+/// each party's process are its life, all acts are a run, and some steps of the machine leave the words
+/// that the row says after the operations. The function does nothing: its contract is the law.
 pub fn recorded_law()
     ensures told { (geometry : FileGeometry) (scene : FileScene) (parties : ℕ → Option ℕ) (start : List ℕ) (run : Run)
         (acts : List Act) → IsRecord geometry scene parties start run acts
@@ -80,6 +80,9 @@ pub fn recorded_law()
     ensures machine { (geometry : FileGeometry) (scene : FileScene) (parties : ℕ → Option ℕ) (start : List ℕ) (run : Run)
         (acts : List Act) (taken : ℕ → List FileStep) (places : ℕ → Place) → IsRecord geometry scene parties start run acts
         → AreLives scene parties acts taken places → IsMachinesRow geometry scene start run acts taken places }
+    ensures run { (geometry : FileGeometry) (scene : FileScene) (parties : ℕ → Option ℕ) (start : List ℕ) (run : Run)
+        (acts : List Act) (taken : ℕ → List FileStep) (places : ℕ → Place) → IsRecord geometry scene parties start run acts
+        → AreLives scene parties acts taken places → IsRun scene acts taken places }
 {}
 
 /// States that a path doesn't depend on the number of processes, so that the paths of a party are those
