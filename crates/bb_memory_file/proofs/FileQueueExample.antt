@@ -2,6 +2,7 @@
 use Rattle.bb_memory_file.proofs.FileQueueSlots.{slot_range}
 use Rattle.bb_memory_file.proofs.FileRecentLooks.{all_recent, fills_length}
 use Rattle.bb_memory_file.proofs.FileRunMoments.{own_beyond}
+use Rattle.bb_memory_file.proofs.FileRunSteps.{log_of, session}
 use Rattle.bb_memory_file.proofs.FileSteps.{allocates, counts, ends, fills, passes, posts, sends, stays, takes}
 use Rattle.bb_memory_file.specs.FileCode.{Event, ExchangeFlag, ExchangeSlot, FileLog, LoadFlag, LoadLife, LoadSlot, Path, StoreEntry, StoreFlag, StoreLife, begins, looks, moves, steps, told}
 use Rattle.bb_memory_file.specs.FileLog.{fresh_log}
@@ -9,11 +10,10 @@ use Rattle.bb_memory_file.specs.FileNames.{Allocate, Count, Counting, Empty, Fil
 use Rattle.bb_memory_file.specs.FileQueueLives.{GoesThrough, ProcessesObey, events_in}
 use Rattle.bb_memory_file.specs.FileQueueLooks.{CanFill, CanPass, CanTake, EventsObey, over}
 use Rattle.bb_memory_file.specs.FileRuns.{Act, AreTrue, Life, own, sleeps, words_after, works}
-use Rattle.bb_memory_file.proofs.FileRunSteps.{log_of, session}
 use Rattle.bb_memory_file_machine.specs.FileMachine.{FileScene, same_flag}
 use Rattle.bb_memory_file_machine.specs.FileQueues.{FileQueue, IsLater, IsSlotOf, earlier, lap_before, now}
 use Rattle.bb_memory_lists.proofs.ListEntries.{contains-behind, contains-first}
-use Rattle.std.proofs.Common.{List, [], arith, false, refl, subst, suc, sym, zero, ℕ, lit<, ◌++◌, ◌-◌, ◌^◌, ◌∷◌, ◌≡◌, ◌≢◌}
+use Rattle.std.proofs.Common.{List, [], arith, false, lit<, refl, subst, suc, sym, zero, ℕ, ◌++◌, ◌-◌, ◌^◌, ◌∷◌, ◌≡◌, ◌≢◌}
 
 abbrev scene : FileScene
 scene = record { buckets = 1; slots = 2; parties = 2; processes = 2 }
@@ -78,8 +78,8 @@ send_path =
     let one = steps (log_of scene 0 sender_joined) all Outside (ExchangeFlag 0 Free (HeldBy 0)) (Allocate 0 0 0) Outside
     (join_path 0 0 Free refl) refl (allocates (log_of scene 0 sender_joined) 0 0) in
     let two = looks (log_of scene 0 allocated) (Allocate 0 0 0 ∷ all) Outside (LoadSlot 1 (Empty 0)) one tt in
-    let three = steps (log_of scene 0 looked) (Allocate 0 0 0 ∷ all) Outside (StoreEntry 0 (In 0 5)) (Post 0 0 0 0 5) (Posting 0 0 0)
-    two refl (posts (log_of scene 0 looked) 0 0 0 5 refl) in
+    let three = steps (log_of scene 0 looked) (Allocate 0 0 0 ∷ all) Outside (StoreEntry 0 (In 0 5)) (Post 0 0 0 0 5)
+    (Posting 0 0 0) two refl (posts (log_of scene 0 looked) 0 0 0 5 refl) in
     let four = steps (log_of scene 0 entered) (Post 0 0 0 0 5 ∷ Allocate 0 0 0 ∷ all) (Posting 0 0 0)
     (ExchangeSlot 0 (Empty 0) (Message 0 0)) (Fill 0 0) (Sending 0 0 0 0) three refl (fills (log_of scene 0 entered) 0 0 0 0) in
     steps (log_of scene 0 filled) (Fill 0 0 ∷ Post 0 0 0 0 5 ∷ Allocate 0 0 0 ∷ all) (Sending 0 0 0 0) (StoreFlag 0 (SentTo 0 0))
@@ -109,11 +109,11 @@ sender_obeys party = (tt, (filling, (tt, (tt, (tt, (tt, (tt, (tt, tt))))))))
 abbrev receiver_joined : List Event
 receiver_joined = joining 1 1 (SentTo 0 0) refl
 
-abbrev looked_behind : List Event
-looked_behind = LoadSlot 1 (Empty 0) ∷ receiver_joined
+abbrev looked_beside : List Event
+looked_beside = LoadSlot 1 (Empty 0) ∷ receiver_joined
 
 abbrev found : List Event
-found = LoadSlot 0 (Message 0 0) ∷ looked_behind
+found = LoadSlot 0 (Message 0 0) ∷ looked_beside
 
 abbrev received : List Event
 received = ExchangeFlag 0 (SentTo 0 0) (HeldBy 1) ∷ found
@@ -125,7 +125,7 @@ take_path : Path 1 (fresh_log scene 1) (Counting 1) (log_of scene 1 received) re
 take_path =
     let all = joins 1 1 (SentTo 0 0) refl in
     let one = looks (log_of scene 1 receiver_joined) all Outside (LoadSlot 1 (Empty 0)) (join_path 1 1 (SentTo 0 0) refl) tt in
-    let two = looks (log_of scene 1 looked_behind) all Outside (LoadSlot 0 (Message 0 0)) one tt in
+    let two = looks (log_of scene 1 looked_beside) all Outside (LoadSlot 0 (Message 0 0)) one tt in
     steps (log_of scene 1 found) all Outside (ExchangeFlag 0 (SentTo 0 0) (HeldBy 1)) (Take 1 1 0 0 0) Outside two refl
     (takes (log_of scene 1 found) 1 0 0 0)
 
@@ -137,7 +137,7 @@ passes_other party moment (suc zero) its apart =
     over (Empty 0) (record {
       event = LoadSlot 1 (Empty 0);
       before = receiver_joined;
-      past = earlier (LoadSlot 0 (Message 0 0)) looked_behind now;
+      past = earlier (LoadSlot 0 (Message 0 0)) looked_beside now;
       shows = (refl, refl);
     }) first_lap
 passes_other party moment (suc (suc more)) its apart =
@@ -149,7 +149,7 @@ receiver_obeys party = (taking party, (tt, (tt, (tt, (tt, (tt, tt))))))
   where
     taking : (party : ℕ) → IsSlotOf queue 0 → CanTake party queue found 0 0 0
     taking party its = record {
-      look = record { event = LoadSlot 0 (Message 0 0); before = looked_behind; past = now; shows = (refl, refl) };
+      look = record { event = LoadSlot 0 (Message 0 0); before = looked_beside; past = now; shows = (refl, refl) };
       others = λ other of_queue apart. passes_other party found other of_queue apart;
     }
 
@@ -165,7 +165,36 @@ taken _ = []
 
 all_true : AreTrue scene acts
 all_true =
-    (lit< tt, refl, (lit< tt, refl, (lit< tt, refl, (lit< tt, refl, (lit< tt, tt, (lit< tt, refl, (lit< tt, refl, (lit< tt, tt, (lit< tt, refl, (lit< tt, tt, (lit< tt, refl, (lit< tt, refl, (lit< tt, refl, (lit< tt, tt, (lit< tt, refl, (lit< tt, refl, tt))))))))))))))))
+    let sender : AreTrue scene (session 0 0 sent) = (
+      lit< tt,
+      tt,
+      (
+        lit< tt,
+        refl,
+        (
+          lit< tt,
+          tt,
+          (
+            lit< tt,
+            refl,
+            (
+              lit< tt,
+              refl,
+              (
+                lit< tt,
+                refl,
+                (
+                  lit< tt,
+                  tt,
+                  (lit< tt, refl, (lit< tt, refl, tt)),
+                ),
+              ),
+            ),
+          ),
+        ),
+      ),
+    ) in
+    (lit< tt, refl, (lit< tt, refl, (lit< tt, refl, (lit< tt, refl, (lit< tt, tt, (lit< tt, refl, (lit< tt, refl, sender)))))))
 
 lives : (process : ℕ) → Life scene process (own process acts) (taken process) Outside
 lives zero = works 0 (log_of scene 0 sent) sender_taken Outside send_path

@@ -8,7 +8,7 @@ use Rattle.bb_memory_file.specs.FileCode.{looks as path_looks}
 use Rattle.bb_memory_file.specs.FileLog.{IsLap, lap_in, seen_in}
 use Rattle.bb_memory_file.specs.FileNames.{Outside, Slot}
 use Rattle.bb_memory_file.specs.FileQueueCalls.{AllObey, Grows, Happens, IsOver, Looks, Loses, Passes, beaten, looks, moves_on, nothing, older, overtaken, searched, stays, unbeaten}
-use Rattle.bb_memory_file.specs.FileQueueLooks.{EventObeys, IsPosition, KnowsHead, KnowsTail, Look, Position, position_after, position_on}
+use Rattle.bb_memory_file.specs.FileQueueLooks.{EventObeys, IsPosition, KnowsHead, KnowsTail, Look, Position, Queue, position_after, position_on, queue_in}
 use Rattle.bb_memory_file.specs.FileQueueSteps.{FindsTurn, IsTurn, KnowsSame, SeesBefore, Stop, StopsAt}
 use Rattle.bb_memory_file_machine.specs.FileMachine.{FileScene}
 use Rattle.bb_memory_file_machine.specs.FileQueues.{FileQueue, IsFilled, IsLater, IsMoment, IsSlotOf, IsWhole, earlier, lap_before, lap_said, now, slot_before}
@@ -318,6 +318,28 @@ module _ (test : ℕ → Slot → Type 0) (queue : FileQueue) (positive : 0 < qu
       StopsAt test queue old from (record { position = to; word = word }) new
   stops_here new word is lap most why = (count, log, most, passes, is, lap, why)
 
+-- STOPS
+
+module _ (test : ℕ → Slot → Type 0) (queue : FileQueue) (old : FileLog) (from : Position) (stop : Stop) (new : FileLog)
+    (stops : StopsAt test queue old from stop new) where
+  pub stops_its : 0 < queue.depth → IsPosition queue from → IsPosition queue stop.position
+  stops_its positive its = passes_its test queue old from positive its stops.0 stops.1 stop.position stops.3
+
+  pub stops_look : Looks old new
+  stops_look = looks_then old stops.1 (passes_look test queue old from stops.0 stops.1 stop.position stops.3) new
+      (LoadSlot stop.position.slot stop.word) tt stops.4
+
+  pub stops_same : KnowsSame old new
+  stops_same = same_on old stops.1 new (passes_same test queue old from stops.0 stops.1 stop.position stops.3)
+      (same_slot stops.1 new stop.position.slot stop.word stops.4)
+
+-- a walk that is the same but for how the scene is written
+pub stops_as : (test : ℕ → Slot → Type 0) (one other : FileScene) (queue : Queue) (old : FileLog) (from : Position) (stop : Stop)
+    (new : FileLog) → one ≡ other → StopsAt test (queue_in one queue) old from stop new →
+    StopsAt test (queue_in other queue) old from stop new
+stops_as test one other queue old from stop new same stops =
+    subst (λ scene. StopsAt test (queue_in scene queue) old from stop new) same stops
+
 -- TURNS
 
 module _ (queue : FileQueue) (positive : 0 < queue.depth) (old : FileLog) (tail : Position)
@@ -333,14 +355,10 @@ module _ (queue : FileQueue) (positive : 0 < queue.depth) (old : FileLog) (tail 
     stops.5,
   )
 
-  pub stops_look : Looks old new
-  stops_look =
-      looks_then old stops.1 (passes_look IsFilled queue old tail stops.0 stops.1 stop.position stops.3) new
-      (LoadSlot stop.position.slot stop.word) tt stops.4
-
-  pub stops_same : KnowsSame old new
-  stops_same = same_on old stops.1 new (passes_same IsFilled queue old tail stops.0 stops.1 stop.position stops.3)
-      (same_slot stops.1 new stop.position.slot stop.word stops.4)
+pub sees_since : (queue : FileQueue) (first moment events : List Event) (position : Position) → IsMoment first moment →
+    SeesBefore queue moment events position → SeesBefore queue first events position
+sees_since queue first moment events position past sees =
+    (sees.0, happens_since first moment events (LoadSlot (slot_before queue position.slot) sees.0) past sees.1, sees.2)
 
 -- the sender has begun anew
 pub finds_anew : (queue : FileQueue) (positive : 0 < queue.depth) (old middle : FileLog) (tail : Position) (stop : Stop) (new : FileLog) →
