@@ -1,4 +1,5 @@
 -- If the acts of a run obey the rules of a queue, so do the steps of the machine.
+use Rattle.bb_memory_file.proofs.FileRunMoments.{moment_length}
 use Rattle.bb_memory_file.proofs.FileRunTheorem.{is_machines}
 use Rattle.bb_memory_file.specs.FileNames.{Done, Empty, FileStep, Fill, HeldBy, Message, Place, Sending, SentTo, Slot, Take}
 use Rattle.bb_memory_file.specs.FileQueueRuns.{ActsObey}
@@ -9,14 +10,10 @@ use Rattle.bb_memory_file_machine.specs.FileLaws.{IsFlag, IsSlot}
 use Rattle.bb_memory_file_machine.specs.FileMachine.{FileScene, FileWords}
 use Rattle.bb_memory_file_machine.specs.FileQueues.{FileQueue, HasSeen, History, IsMoment, IsSlotOf, MayEmpty, MayFill, MayPass, MayTake, Obey, StepObeys, earlier, fills, is_filling, lap_before, now, outcome_after, over, queue_rules, slot_before, unsent, words_at}
 use Rattle.bb_memory_file_machine.specs.declared.steps.file.FileOutcome.TheVariants.{OnSlot, Receives}
-use Rattle.std.proofs.Common.{Bool, List, Some, ap, arith, false, length, refl, reverse, sym, ℕ, ◌+◌, ◌∙◌, ◌∷◌, ◌≡◌, ◌≤◌}
+use Rattle.std.proofs.Common.{Bool, List, Some, ap, arith, false, refl, reverse, sym, ℕ, ◌+◌, ◌∙◌, ◌∷◌, ◌≡◌}
 use Rattle.std.specs.Prelude.{if◌then◌else◌, slice_get}
 
 -- MOMENTS
-
-moment_length : (moment acts : List Act) → IsMoment moment acts → length moment ≤ length acts
-moment_length moment _ now = omega arith
-moment_length moment _ (earlier act acts past) = let less = moment_length moment acts past in omega (arith, less)
 
 module _ (scene : FileScene) where
   follows_words : (acts : List Act) (history : History) → Follows scene acts history →
