@@ -10,7 +10,7 @@ ghost use Rattle.bb_memory_file_machine.specs.declared.steps.file.Slot.TheVarian
 ghost use Rattle.bb_memory_traits.specs.Chunk.{region_at};
 ghost use Rattle.std.specs.Prelude.{◌≡◌};
 
-use crate::file_answer::{DetachedNumber, Message, ShownEntry, ShownFlag, ShownSlot};
+use crate::file_answer::{DetachedNumber, Message, SentMessage, ShownEntry, ShownFlag, ShownSlot};
 use crate::file_party::{OpenFile, cut_file};
 use crate::handle::{FilePartyHandle, FileTableHandle, Handle};
 use bb_memory_c_calls::answer::{Answer, Figure, SharedPoolInfo};
@@ -94,6 +94,7 @@ pub extern "C" fn file_party_join(
     alloc: Global,
     handle: &mut FileTableHandle,
     number: u32,
+    depth: u32,
     party: &mut FilePartyHandle,
 ) -> u32
     ensures { AnswersJoin handle.old.value handle.new.value party.old.value party.new.value number result }
@@ -104,7 +105,7 @@ pub extern "C" fn file_party_join(
     let Some(file) = handle.made_mut() else {
         return code::UNINITIALIZED;
     };
-    let joined = match file.join(alloc, number) {
+    let joined = match file.join(alloc, number, depth) {
         Ok(joined) => joined,
         Err(code) => return code,
     };
@@ -225,6 +226,51 @@ pub extern "C" fn file_done(handle: &mut FilePartyHandle, slot: u32) -> u32
     match handle.made_mut() {
         Some(party) => party.done(slot),
         None => code::UNINITIALIZED,
+    }
+}
+
+/// Posts the bucket at this place, as `file_post` does, in a queue. If other senders were faster each time that the call tried, it
+/// returns so, along with `BB_DETACHED_FULL`.
+#[unsafe(no_mangle)]
+pub extern "C" fn file_send(
+    handle: &mut FilePartyHandle,
+    queue: u32,
+    place: usize,
+    len: usize,
+) -> SentMessage
+    ensures { Answers handle.old.value handle.new.value (result ≡ sent_by uninitialized)
+        (λ party after. TellsSend party queue place len result after) }
+{
+    match handle.made_mut() {
+        Some(party) => party.send(queue, place, len),
+        None => SentMessage::of(code::UNINITIALIZED),
+    }
+}
+
+/// Takes the oldest message of this queue that is sent, as `file_take` does. It returns `BB_DETACHED_EMPTY` if the queue has no
+/// message, and `BB_NOT_HELD` if none of its messages is sent.
+#[unsafe(no_mangle)]
+pub extern "C" fn file_receive(handle: &mut FilePartyHandle, queue: u32) -> Message
+    ensures { Answers handle.old.value handle.new.value (result ≡ no_message uninitialized)
+        (λ party after. TellsReceipt party queue result after) }
+{
+    match handle.made_mut() {
+        Some(party) => party.receive(queue),
+        None => Message::refusal(code::UNINITIALIZED),
+    }
+}
+
+/// Empties the slot of the message in the bucket at this place, which the party has taken, and returns the slot. The party goes on
+/// holding the bucket. It returns `BB_NOT_HELD` if the party has no message there with which it isn't done, and `BB_NOT_A_BUCKET` if
+/// no slot has the bucket.
+#[unsafe(no_mangle)]
+pub extern "C" fn file_done_with(handle: &mut FilePartyHandle, place: usize) -> Figure
+    ensures { Answers handle.old.value handle.new.value (result ≡ no_figure uninitialized)
+        (λ party after. TellsDoneWith party place result after) }
+{
+    match handle.made_mut() {
+        Some(party) => party.done_with(place),
+        None => Figure::refusal(code::UNINITIALIZED),
     }
 }
 

@@ -11,7 +11,7 @@ ghost use Rattle.bb_memory_traits.specs.PoolObject.{bucket_place};
 ghost use Rattle.std.specs.Align.{IsLayout};
 ghost use Rattle.std.specs.Prelude.{Err, IfErr, IfNone, IfOk, IfSome, None, length, ℕ, ◌<◌, ◌↔◌, ◌≡◌, ◌≢◌, ◌≤◌};
 
-use crate::file_answer::{DetachedNumber, Message, ShownEntry, ShownFlag, ShownSlot};
+use crate::file_answer::{DetachedNumber, Message, SentMessage, ShownEntry, ShownFlag, ShownSlot};
 use bb_memory_c_calls::answer::{Answer, Figure, SharedPoolInfo};
 use bb_memory_c_calls::code;
 use bb_memory_c_calls::kind::{Bucketed, Gives, Keeps};
@@ -20,6 +20,7 @@ use bb_memory_file::geometry::FileGeometry;
 use bb_memory_file::joined;
 use bb_memory_file::joined::{Joined, Note, Refusal, Taken};
 use bb_memory_file::party::FileParty;
+use bb_memory_file::queues::Sending;
 use bb_memory_file::table::FileTable;
 use bb_memory_file_machine::steps::{Entry, FileFlag, Slot};
 use bb_memory_pool_machine::hint::Hint;
@@ -156,6 +157,41 @@ impl JoinedFile {
         party.leave()
     }
 
+    /// Returns the number of the bucket at this place, which the party may post with a message of `len` bytes, or the code of the
+    /// reason why it may not.
+    #[inline(always)]
+    fn to_post(&self, place: usize, len: usize) -> Result<u32, u32> {
+        let number = self.in_use_at(place)?;
+        if len > self.places.bucket().size() || len > u32::MAX as usize {
+            return Err(code::SIZE_TOO_LARGE);
+        }
+        Ok(number)
+    }
+
+    /// Returns a bucket's size in bytes, or the greatest number of bytes that an entry has room for if that is less.
+    #[inline(always)]
+    fn size(&self) -> u32
+        ensures { result ≡ min self.now.places.bucket.size (2 ^ 32 - 1) }
+    {
+        self.places.bucket().size().min(u32::MAX as usize) as u32
+    }
+
+    /// Returns C's answer to the taking of a message.
+    #[inline(always)]
+    fn message_of(&self, taken: Taken) -> Message {
+        match taken {
+            Taken::Empty => Message::refusal(code::DETACHED_EMPTY),
+            Taken::NotSent => Message::refusal(code::NOT_HELD),
+            Taken::Wrong => Message::refusal(code::NOT_A_BUCKET),
+            Taken::Message { bucket, length } => Message {
+                code: code::OK,
+                number: bucket,
+                place: self.places.chunk(bucket as usize, 0).place(),
+                len: length as usize,
+            },
+        }
+    }
+
     /// Posts the bucket at this place, with a message of `len` bytes, in a slot.
     pub(crate) fn post(&mut self, slot: u32, place: usize, len: usize) -> u32
         ensures { TellsPost self.old slot place len result self.new }
@@ -163,13 +199,10 @@ impl JoinedFile {
         if slot >= self.party.slots() {
             return code::INVALID_ARGUMENT;
         }
-        let number = match self.in_use_at(place) {
+        let number = match self.to_post(place, len) {
             Ok(number) => number,
             Err(code) => return code,
         };
-        if len > self.places.bucket().size() || len > u32::MAX as usize {
-            return code::SIZE_TOO_LARGE;
-        }
         match self.party.post(slot, number, len as u32) {
             Ok(true) => code::OK,
             Ok(false) => code::DETACHED_FULL,
@@ -185,18 +218,8 @@ impl JoinedFile {
         if slot >= self.party.slots() {
             return Message::refusal(code::INVALID_ARGUMENT);
         }
-        let size = self.places.bucket().size().min(u32::MAX as usize) as u32;
-        match self.party.take(slot, size) {
-            Taken::Empty => Message::refusal(code::DETACHED_EMPTY),
-            Taken::NotSent => Message::refusal(code::NOT_HELD),
-            Taken::Wrong => Message::refusal(code::NOT_A_BUCKET),
-            Taken::Message { bucket, length } => Message {
-                code: code::OK,
-                number: bucket,
-                place: self.places.chunk(bucket as usize, 0).place(),
-                len: length as usize,
-            },
-        }
+        let taken = self.party.take(slot, self.size());
+        self.message_of(taken)
     }
 
     /// Says that the party is done with the message in a slot.
@@ -210,6 +233,52 @@ impl JoinedFile {
             code::OK
         } else {
             code::NOT_HELD
+        }
+    }
+
+    /// Posts the bucket at this place, with a message of `len` bytes, in a queue.
+    pub(crate) fn send(&mut self, queue: u32, place: usize, len: usize) -> SentMessage
+        ensures { TellsSend self.old queue place len result self.new }
+    {
+        if queue >= self.party.queues() {
+            return SentMessage::of(code::INVALID_ARGUMENT);
+        }
+        let number = match self.to_post(place, len) {
+            Ok(number) => number,
+            Err(code) => return SentMessage::of(code),
+        };
+        match self.party.send(queue, number, len as u32) {
+            Ok(Sending::Sent { slot: _ }) => SentMessage::of(code::OK),
+            Ok(Sending::Full) => SentMessage::of(code::DETACHED_FULL),
+            Ok(Sending::Overtaken) => SentMessage::overtaken(),
+            Err(refusal) => SentMessage::of(code_of(refusal)),
+        }
+    }
+
+    /// Takes a message in a queue.
+    pub(crate) fn receive(&mut self, queue: u32) -> Message
+        ensures { TellsReceipt self.old queue result self.new }
+    {
+        self.invariant();
+        if queue >= self.party.queues() {
+            return Message::refusal(code::INVALID_ARGUMENT);
+        }
+        let taken = self.party.receive(queue, self.size());
+        self.message_of(taken)
+    }
+
+    /// Says that the party is done with the message in the bucket at this place, and returns the slot that it has emptied.
+    pub(crate) fn done_with(&mut self, place: usize) -> Figure
+        ensures { TellsDoneWith self.old place result self.new }
+    {
+        let Some(number) = self.numbered(place) else {
+            return Figure::refusal(code::NOT_HELD);
+        };
+        match self.party.done_with(number) {
+            Ok(slot) => Figure::of(slot as usize),
+            Err(Refusal::NotHeld) => Figure::refusal(code::NOT_HELD),
+            Err(Refusal::NotDone) => Figure::refusal(code::NOT_A_BUCKET),
+            Err(Refusal::NotABucket) => Figure::refusal(code::NOT_A_BUCKET),
         }
     }
 
@@ -415,8 +484,13 @@ impl OpenFile {
         }
     }
 
-    /// Joins as this number, whose lock the caller has just taken.
-    pub(crate) fn join(&self, alloc: Global, number: u32) -> Result<Box<JoinedFile>, u32>
+    /// Joins as this number, whose lock the caller has just taken. The file has queues of this depth.
+    pub(crate) fn join(
+        &self,
+        alloc: Global,
+        number: u32,
+        depth: u32,
+    ) -> Result<Box<JoinedFile>, u32>
         ensures joins { IfOk result (λ joined. JoinsAt self.now number joined.value) }
         ensures none_such { self.now.table.geometry.parties ≤ number → result ≡ Err no_party }
         ensures over { result ≡ Err no_party → HasNoParty self.now number }
@@ -434,7 +508,7 @@ impl OpenFile {
             self.bucket.size(),
             number,
         );
-        let party = match Joined::join(words, alloc, hint) {
+        let party = match Joined::join(words, alloc, hint, depth) {
             Ok(Ok(party)) => party,
             Ok(Err(_)) => return Err(code::NO_PARTY),
             Err(_) => return Err(code::MALLOC_REFUSED),

@@ -22,7 +22,7 @@ enum {
     PAGE = 4096,
     LINE = 128,
     // The bytes of the header.
-    HEADER = 96,
+    HEADER = 104,
     // No file has more bytes.
     MOST_BYTES = 1 << 20,
     // The seconds after which a run is killed, since it hangs.
