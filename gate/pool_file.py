@@ -40,7 +40,7 @@ CRATE = "crates/bb_memory_c"
 SOURCES = ("bb_pool_file.c", "pool_file_format.c", "pool_file_map.c")
 FLAGS = ("-O2", "-Wall", "-Wextra", "-Werror", "-pedantic", "-Wshadow", "-Wconversion")
 CHECKERS = ("-fsanitize=address,undefined", "-fno-sanitize-recover=all")
-PROGRAMS = ("cases", "kills", "leaks", "shown", "trace")
+PROGRAMS = ("cases", "kills", "leaks", "queue", "shown", "trace")
 # The seconds after which a program is killed, since it hangs.
 LONGEST = 600
 # How many files that are almost pools `bb-pool` shows or refuses.
