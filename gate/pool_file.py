@@ -165,6 +165,11 @@ class PoolFile:
         self.compile([*flags, "-o", program, *sources, self.work / "bb_memory.o"])
         return f"{self.run_program(program, self.folders)}, under the checkers"
 
+    def run_queue(self) -> str:
+        """Runs `queue` with each form of the library."""
+        queues = [self.work / f"queue.{form}" for form in KILLS]
+        return "\n".join(self.run_program(queue, [self.folders[0]]) for queue in queues)
+
     def run_leaks(self) -> str:
         """Runs `leaks` with each form of the library, in each folder."""
         ran = []
@@ -364,6 +369,7 @@ class PoolFile:
         jobs["cases"] = self.run_cases
         jobs["fuzz"] = self.run_fuzzed
         jobs["leaks"] = self.run_leaks
+        jobs["queue"] = self.run_queue
         if has("c++", self.environment):
             jobs["owners"] = self.run_owners
         jobs["mixed"] = self.run_mixed
