@@ -172,7 +172,7 @@ class Messages:
                 raise Failed(f"{started.process.args!r} ended with status {status}")
             self.senders[started.process.pid] = LAST
         end = time.monotonic() + LONGEST
-        while "slots: 0 full" not in self.shown():
+        while "\nmessages: 0\n" not in self.shown():
             if time.monotonic() > end:
                 raise Failed(f"a message is never received:\n{self.shown()}")
             time.sleep(0.1)

@@ -1,5 +1,5 @@
 // `bb-pool FILE` shows a shared pool in a file (bb_pool_file.h): its sizes, which parties are
-// alive, what each holds, which slots are full, and a map of the buckets.
+// alive, what each holds, the messages in slots, and a map of the buckets.
 #include <errno.h>
 #include <stdio.h>
 #include <stdlib.h>
@@ -17,23 +17,24 @@ enum {
 enum {
     // Buckets in a line of the map, and in all of it.
     IN_LINE = 64,
-    IN_MAP = 4096
+    IN_MAP = 4096,
+    // Messages of a slot that are listed.
+    IN_SLOT = 8
 };
 
 static const char USAGE[] =
     "usage: bb-pool [--reap [--detached] [--left]] [--watch] [--json] FILE\n"
     "\n"
-    "Shows the shared pool in FILE: its sizes, its parties, its full slots, and a map of its\n"
-    "buckets. Each party is a letter, A for party 0, in lower case if the party is dead.\n"
+    "Shows the shared pool in FILE: its sizes, its parties, the messages in its slots, and a map\n"
+    "of its buckets. Each party is a letter, A for party 0, in lower case if the party is dead.\n"
     "\n"
     "  --reap      first frees what dead parties hold; messages in slots stay. This needs the\n"
     "              permission to write FILE; everything else needs only that to read it\n"
     "  --detached  with --reap: also frees what dead parties detached, if it is in no slot\n"
     "  --left      with --reap: the same for parties that have left\n"
     "  --watch     shows the pool every second, until it is interrupted\n"
-    "  --json      prints one line of JSON for each look, with all parties and the full slots, "
-    "and\n"
-    "              one for what --reap frees\n"
+    "  --json      prints one line of JSON for each look, with all parties and messages, and one\n"
+    "              for what --reap frees\n"
     "  --version   prints the version\n"
     "  -h, --help  shows this text\n"
     "\n"
@@ -80,9 +81,9 @@ static void show_figures(const char *path, const bb_pool_file_figures *figures) 
     const bb_pool_file_options *options = &figures->options;
     const uint32_t used = figures->held + figures->detached + figures->wrong;
     const uint32_t free = used < options->buckets ? options->buckets - used : 0;
-    printf("%s: %u buckets of %zu bytes at multiples of %zu, %u parties, %u slots", path,
-           options->buckets, options->bucket_size, options->bucket_align, options->parties,
-           options->slots);
+    printf("%s: %u buckets of %zu bytes at multiples of %zu, %u parties, %u slots of depth %u",
+           path, options->buckets, options->bucket_size, options->bucket_align, options->parties,
+           options->slots, options->depth);
     if (options->user_bytes > 0)
         printf(", %zu bytes of the host", options->user_bytes);
     printf("\n");
@@ -105,21 +106,58 @@ static void show_parties(const bb_pool_file_options *options, const struct parti
     }
 }
 
-static void show_slots(bb_pool_file *file, const bb_pool_file_figures *figures) {
+// Returns whether a party has taken the message, and stores the party's number in `party`.
+static bool is_taken(bb_pool_file *file, bb_message message, uint32_t *party) {
     bb_holder holder;
-    printf("slots: %u full\n", figures->full_slots);
-    for (uint32_t slot = 0; slot < figures->options.slots; slot++) {
-        const bb_message message = bb_pool_file_look(file, slot);
-        if (message.code == BB_DETACHED_EMPTY)
+    if (bb_pool_file_holder(file, message.number, &holder) != BB_OK || holder.state != BB_HELD)
+        return false;
+    *party = holder.party;
+    return true;
+}
+
+// The messages of a slot, of which some are shown.
+struct slot {
+    bb_pool_file *file;
+    uint32_t shown;
+    uint32_t others;
+};
+
+static void count_message(void *context, bb_message message) {
+    uint32_t *messages = context;
+    (void)message;
+    ++*messages;
+}
+
+static void show_message(void *context, bb_message message) {
+    struct slot *slot = context;
+    uint32_t party;
+    if (slot->shown == IN_SLOT) {
+        slot->others++;
+        return;
+    }
+    slot->shown++;
+    if (message.code != BB_OK) {
+        printf("    wrong\n");
+        return;
+    }
+    printf("    %zu bytes in bucket %u", message.len, message.number);
+    if (is_taken(slot->file, message, &party))
+        printf(", taken by party %u", party);
+    printf("\n");
+}
+
+static void show_messages(bb_pool_file *file, const bb_pool_file_figures *figures) {
+    printf("messages: %u\n", figures->messages);
+    for (uint32_t at = 0; at < figures->options.slots; at++) {
+        struct slot slot = {file, 0, 0};
+        uint32_t messages = 0;
+        pool_file_each_message(file, at, count_message, &messages);
+        if (messages == 0)
             continue;
-        if (message.code != BB_OK) {
-            printf("  slot %u: wrong\n", slot);
-            continue;
-        }
-        printf("  slot %u: %zu bytes in bucket %u", slot, message.len, message.number);
-        if (bb_pool_file_holder(file, message.number, &holder) == BB_OK && holder.state == BB_HELD)
-            printf(", taken by party %u", holder.party);
-        printf("\n");
+        printf("  slot %u: %u message%s\n", at, messages, messages == 1 ? "" : "s");
+        pool_file_each_message(file, at, show_message, &slot);
+        if (slot.others > 0)
+            printf("    and %u more\n", slot.others);
     }
 }
 
@@ -161,17 +199,32 @@ static void print_parties(const bb_pool_file_options *options, const struct part
     printf("]");
 }
 
-static void print_slots(bb_pool_file *file, const bb_pool_file_options *options) {
-    const char *before = "";
-    printf(",\"slots\":%u,\"full_slots\":[", options->slots);
-    for (uint32_t slot = 0; slot < options->slots; slot++) {
-        const bb_message message = bb_pool_file_look(file, slot);
-        if (message.code != BB_OK)
-            continue;
-        printf("%s{\"slot\":%u,\"bucket\":%u,\"bytes\":%zu}", before, slot, message.number,
-               message.len);
-        before = ",";
-    }
+// Where a message is printed.
+struct printed {
+    bb_pool_file *file;
+    uint32_t slot;
+    const char *before;
+};
+
+static void print_message(void *context, bb_message message) {
+    struct printed *to = context;
+    uint32_t party;
+    if (message.code != BB_OK)
+        return;
+    printf("%s{\"slot\":%u,\"bucket\":%u,\"bytes\":%zu,\"taken_by\":", to->before, to->slot,
+           message.number, message.len);
+    if (is_taken(to->file, message, &party))
+        printf("%u}", party);
+    else
+        printf("null}");
+    to->before = ",";
+}
+
+static void print_messages(bb_pool_file *file, const bb_pool_file_options *options) {
+    struct printed to = {file, 0, ""};
+    printf(",\"slots\":%u,\"depth\":%u,\"messages\":[", options->slots, options->depth);
+    for (to.slot = 0; to.slot < options->slots; to.slot++)
+        pool_file_each_message(file, to.slot, print_message, &to);
     printf("]");
 }
 
@@ -184,7 +237,7 @@ static void print_json(bb_pool_file *file, const bb_pool_file_figures *figures,
     printf(",\"held\":%u,\"lost\":%u,\"detached\":%u,\"wrong\":%u,\"alive\":%u", figures->held,
            figures->lost, figures->detached, figures->wrong, figures->alive);
     print_parties(options, parties);
-    print_slots(file, options);
+    print_messages(file, options);
     printf("}\n");
 }
 
@@ -207,7 +260,7 @@ static uint32_t show(bb_pool_file *file, const char *path, bool as_json) {
         } else {
             show_figures(path, &figures);
             show_parties(options, &parties);
-            show_slots(file, &figures);
+            show_messages(file, &figures);
             show_map(file, options, &parties);
         }
     }

@@ -5,6 +5,10 @@
 //
 // A file has a header page, the row of words that memory.h describes, the events, the bytes that
 // the host uses, and the pages of the region. The file's pages have 4 KiB on every system.
+//
+// Each slot is as many cells in a row as it is deep. A cell has room for one message, and the
+// messages of a slot use its cells in turn. The calls of memory.h call a cell a slot, and a slot a
+// queue.
 #ifndef BB_POOL_FILE_HIDDEN_H
 #define BB_POOL_FILE_HIDDEN_H
 
@@ -59,6 +63,10 @@ struct header {
     // The machine's boot identifier when the file was made. After another boot no party is alive.
     char boot[40];
     uint64_t user_bytes;
+    // At least 1.
+    uint32_t depth;
+    // Nothing, so that the header ends at a multiple of 8 bytes.
+    uint32_t gap;
 };
 
 // A sleeper waits until the value changes. Bit 0 of it says that somebody may be asleep.
@@ -92,6 +100,8 @@ struct bb_file_party {
     struct file_party party;
     // The event of the file's free buckets.
     struct event *freed;
+    // The file, for a party that has joined.
+    bb_pool_file *file;
     // Keeps what different parties write on separate cache lines.
     char gap[LINE];
 };
@@ -145,6 +155,11 @@ static inline size_t smaller(size_t one, size_t other) {
     return one < other ? one : other;
 }
 
+// Returns how many cells all slots of a file together have, if a file can have this header.
+static inline uint32_t number_of_cells(const struct header *head) {
+    return head->slots * head->depth;
+}
+
 // A path of an open file of this process.
 struct fd_path {
     char text[32];
@@ -193,9 +208,15 @@ int pool_file_open_again(int fd);
 
 // Opens the pool in the file at `path` as `bb_pool_file_open` does, but only to read it, whoever
 // owns the file and may write it. Of the further calls, only `bb_pool_file_info`,
-// `bb_pool_file_holder`, `bb_pool_file_life`, `bb_pool_file_is_alive`, `bb_pool_file_look` and
-// `bb_pool_file_close` are allowed: others write the file, and crash. Only `bb-pool` calls this.
+// `bb_pool_file_holder`, `bb_pool_file_life`, `bb_pool_file_is_alive`, `bb_pool_file_look`,
+// `pool_file_each_message` and `bb_pool_file_close` are allowed: others write the file, and crash.
+// Only `bb-pool` calls this.
 uint32_t pool_file_open_to_look(bb_pool_file **file, const char *path);
+
+// Calls `use` for each message in this slot, the oldest first, as `bb_pool_file_look` returns it.
+// The file has the slot. Only `bb-pool` calls this.
+void pool_file_each_message(bb_pool_file *file, uint32_t slot,
+                            void (*use)(void *context, bb_message message), void *context);
 
 #pragma GCC visibility pop
 

@@ -104,9 +104,11 @@ size_t pool_file_bytes_of_events(const struct header *head) {
 static size_t lay_out(bb_pool_file *file) {
     const struct header *head = &file->head;
     const size_t region = bb_bytes_for(head->bucket_size, head->bucket_align, head->buckets);
-    const bb_number words = file_words(head->buckets, head->slots, head->parties);
     if (region == 0 || region > SIZE_MAX / 8 || head->bucket_align > SIZE_MAX / 8)
         return 0;
+    if (head->depth == 0 || (uint64_t)head->slots * head->depth > UINT32_MAX)
+        return 0;
+    const bb_number words = file_words(head->buckets, number_of_cells(head), head->parties);
     if (words.code != BB_OK || head->parties == 0 || head->parties > MOST_PARTIES)
         return 0;
     if (head->user_bytes > SIZE_MAX / 8)
@@ -264,11 +266,15 @@ static bool says_figures(const bb_pool_file_options *options) {
     return options != NULL && options->buckets > 0;
 }
 
+static uint32_t depth_of(const bb_pool_file_options *options) {
+    return options->depth == 0 ? 1 : options->depth;
+}
+
 static bool has_figures(const struct header *head, const bb_pool_file_options *options) {
     return head->bucket_size == options->bucket_size &&
            head->bucket_align == options->bucket_align && head->buckets == options->buckets &&
            head->parties == options->parties && head->slots == options->slots &&
-           head->user_bytes == options->user_bytes;
+           head->depth == depth_of(options) && head->user_bytes == options->user_bytes;
 }
 
 static void take_figures(struct header *head, const bb_pool_file_options *options) {
@@ -278,6 +284,7 @@ static void take_figures(struct header *head, const bb_pool_file_options *option
     head->buckets = options->buckets;
     head->parties = options->parties;
     head->slots = options->slots;
+    head->depth = depth_of(options);
     head->mode = options->mode == 0 ? 0600 : options->mode;
     head->user_bytes = options->user_bytes;
 }

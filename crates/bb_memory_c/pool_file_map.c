@@ -188,7 +188,7 @@ static uint32_t make_table(bb_pool_file *file) {
     memory_lend(file->words, file->words_size, ZEROS_REQUEST, WORDS_REQUESTS);
     const uint32_t code =
         file_table_init(&file->table, head->bucket_size, head->bucket_align, file->region, size,
-                        head->buckets, head->slots, head->parties);
+                        head->buckets, number_of_cells(head), head->parties);
     const bool is_kept = memory_end_loan();
     if (code != BB_OK)
         return code;

@@ -29,11 +29,11 @@ exec sleep 60
 LOSES = RECEIVES.replace("cat", "sed 1d")
 ENDS = "#!/bin/sh\nexit 1\n"
 SLEEPS = "#!/bin/sh\nexec sleep 60\n"
-# `bb-pool`, which shows that a slot is full if there are messages.
+# `bb-pool`, which shows a message if there are messages.
 SHOWS = """#!/bin/sh
 for file; do :; done
-echo "slots: $([ -e "$file" ] && echo 1 || echo 0) full"
 echo 'buckets: 0 held (0 of them by dead parties), 0 detached, 0 wrong'
+echo "messages: $([ -e "$file" ] && echo 1 || echo 0)"
 """
 # An interpreter, which sends if it is given a number.
 PYTHON = '#!/bin/sh\nshift\n[ $# = 2 ] && exec ./producer "$@"\nexec ./consumer "$@"\n'
