@@ -16,6 +16,7 @@
 #define _GNU_SOURCE
 #include <fcntl.h>
 #include <pthread.h>
+#include <sched.h>
 #include <signal.h>
 #include <spawn.h>
 #include <stdio.h>
@@ -784,6 +785,15 @@ static int run_make(uint32_t kills) {
 
 // STEP
 
+// Runs this program and its children on the processor where it is. To step a process that runs on
+// another one takes much longer.
+static void keep_processor(void) {
+    cpu_set_t one;
+    CPU_ZERO(&one);
+    CPU_SET((size_t)sched_getcpu(), &one);
+    EXPECT(sched_setaffinity(0, sizeof one, &one) == 0);
+}
+
 enum {
     OPENS,
     MAKES,
@@ -823,6 +833,68 @@ static const char *const NAMES[] = {"open",
                                     "give all back",
                                     "leave",
                                     "close"};
+
+// Posts a message with this identification, which is 8 bytes longer than it says.
+static void post_id(bb_pool_file *to, bb_file_party *party, uint32_t slot, uint64_t id) {
+    const bb_chunk chunk = bb_file_party_take(party);
+    EXPECT(chunk.code == BB_OK);
+    fill(chunk.place, id);
+    EXPECT(bb_pool_file_post(to, party, slot, chunk.place, 8 + id) == BB_OK);
+}
+
+// Returns the identification of such a message, or 0 if there was none to take.
+static uint64_t id_of(bb_message got) {
+    if (got.code != BB_OK) {
+        EXPECT(got.code == BB_DETACHED_EMPTY || got.code == BB_NOT_HELD);
+        return 0;
+    }
+    const uint64_t id = id_in(got.place);
+    EXPECT(is_filled(got.place, id) && got.len == 8 + id);
+    return id;
+}
+
+// Takes this many messages, which have to come with these identifications: the first one, and each
+// the next one.
+static void expect_ids(bb_pool_file *from, bb_file_party *party, uint32_t slot, uint64_t first,
+                       uint32_t count) {
+    for (uint32_t at = 0; at < count; at++)
+        EXPECT(id_of(bb_pool_file_take(from, party, slot)) == first + at);
+}
+
+// Takes the message out of its slot: by the slot's number if the depth is 1.
+static uint32_t be_done_with(bb_pool_file *of, bb_file_party *party, uint32_t slot,
+                             bb_place place) {
+    return options.depth == 1 ? bb_pool_file_done(of, party, slot)
+                              : bb_file_party_done(party, place);
+}
+
+// Has this many messages come and go in the slot, so that the next ones begin at another of its
+// cells.
+static void turn(bb_pool_file *of, bb_file_party *party, uint32_t slot, uint32_t count) {
+    for (uint32_t at = 0; at < count; at++) {
+        post_id(of, party, slot, 1);
+        const bb_message got = bb_pool_file_take(of, party, slot);
+        EXPECT(id_of(got) == 1);
+        EXPECT(be_done_with(of, party, slot, got.place) == BB_OK);
+        EXPECT(bb_file_party_deallocate(party, got.place) == BB_OK);
+    }
+}
+
+// Posts messages until the slot has no room. Returns how many.
+static uint32_t fill_up(bb_pool_file *to, bb_file_party *party, uint32_t slot) {
+    uint32_t count = 0;
+    for (;;) {
+        const bb_chunk chunk = bb_file_party_take(party);
+        EXPECT(chunk.code == BB_OK);
+        const uint32_t code = bb_pool_file_post(to, party, slot, chunk.place, 8);
+        if (code == BB_DETACHED_FULL) {
+            EXPECT(bb_file_party_deallocate(party, chunk.place) == BB_OK);
+            return count;
+        }
+        EXPECT(code == BB_OK);
+        count++;
+    }
+}
 
 // Leaves a dead party that holds two buckets, and one in slot 1 that it had taken.
 static void leave_dead_party(void) {
@@ -899,7 +971,7 @@ static void operate(int what, struct prepared with) {
     case POSTS: EXPECT(bb_pool_file_post(file, mine, 2, with.place, 33) == BB_OK); break;
     case RECEIVES:
         got = bb_pool_file_take(file, mine, 0);
-        EXPECT(bb_pool_file_done(file, mine, 0) == BB_OK);
+        EXPECT(be_done_with(file, mine, 0, got.place) == BB_OK);
         EXPECT(bb_file_party_deallocate(mine, got.place) == BB_OK);
         break;
     case PUTS_BACK:
@@ -1008,10 +1080,10 @@ static bool step_make(uint32_t steps) {
 // Looks at what a killed `detach` or `attach` by number leaves.
 static void check_number(bb_pool_file *ours, int what, uint32_t detached, struct outcome *outcome) {
     bb_pool_file_figures figures;
-    const uint32_t messages = what == DETACHES ? 1 : 0;
+    const uint32_t messages = what == DETACHES ? options.depth : 0;
     if (what == DETACHES) {
-        EXPECT(detached == 1 || detached == 2);
-        note(outcome, detached == 2);
+        EXPECT(detached == messages || detached == messages + 1);
+        note(outcome, detached == messages + 1);
     } else {
         EXPECT(detached <= 1);
         note(outcome, detached == 0);
@@ -1024,15 +1096,20 @@ static void check_number(bb_pool_file *ours, int what, uint32_t detached, struct
 }
 
 // Kills a process that many steps into the operation, and looks at what it leaves: each bucket is
-// free, but for those of messages, and each message was sent or not.
+// free, but for those of messages, and each message was sent or not. The other messages of the slots
+// come in order, and the slots have as much room as is left.
 static bool step_once(int what, uint32_t steps, struct outcome *outcome) {
     bb_pool_file *ours;
     bb_file_party *party;
     bb_pool_file_figures figures;
     EXPECT(bb_pool_file_open(&ours, path, &options) == BB_OK);
     EXPECT(bb_pool_file_join(ours, &party) == BB_OK);
+    // How many messages come before or after the one that the operation is about.
+    const uint32_t others = options.depth - 1;
+    for (uint32_t slot = 0; slot < 3; slot++)
+        turn(ours, party, slot, others);
     const bb_chunk chunk = bb_file_party_take(party);
-    fill(chunk.place, 99);
+    fill(chunk.place, 36);
     const uint32_t number = (uint32_t)bb_file_party_number_at(party, chunk.place).number;
     if (what == ATTACHES)
         EXPECT(bb_pool_file_detach(ours, party, chunk.place).code == BB_OK);
@@ -1041,6 +1118,14 @@ static bool step_once(int what, uint32_t steps, struct outcome *outcome) {
     const bool has_dead = what == JOINS || what == REAPS || what == OPENS;
     if (has_dead)
         leave_dead_party();
+    for (uint32_t at = 0; at < others; at++) {
+        if (what != ATTACHES)
+            post_id(ours, party, 0, 10 + at);
+        if (has_dead)
+            post_id(ours, party, 1, 20 + at);
+        if (what == POSTS)
+            post_id(ours, party, 2, 30 + at);
+    }
     const bool ended = run_steps(what, steps, number);
     EXPECT(bb_pool_file_reap(ours, BB_REAP_HELD, NULL) == BB_OK);
     EXPECT(bb_pool_file_info(ours, &figures) == BB_OK);
@@ -1052,28 +1137,37 @@ static bool step_once(int what, uint32_t steps, struct outcome *outcome) {
     if (has_dead) {
         const bb_message of_dead = bb_pool_file_take(ours, party, 1);
         EXPECT(of_dead.code == BB_OK && of_dead.len == 9 && is_filled(of_dead.place, 77));
+        expect_ids(ours, party, 1, 20, others);
     }
     if (what == POSTS) {
+        expect_ids(ours, party, 2, 30, others);
         const bb_message posted = bb_pool_file_take(ours, party, 2);
         if (posted.code == BB_OK)
             EXPECT(posted.len == 33 && is_filled(posted.place, 5));
         else
-            EXPECT(posted.code == BB_DETACHED_EMPTY);
+            EXPECT(posted.code == (others == 0 ? BB_DETACHED_EMPTY : BB_NOT_HELD));
         note(outcome, posted.code == BB_OK);
+        EXPECT(fill_up(ours, party, 2) == (posted.code == BB_OK ? 0 : 1));
     }
-    const bb_message first = bb_pool_file_take(ours, party, 0);
-    if (first.code == BB_OK)
-        EXPECT(first.len == 44 && first.number == number && is_filled(first.place, 99));
-    else
-        EXPECT(first.code == BB_DETACHED_EMPTY && (what == RECEIVES || what == ATTACHES));
+    const bool is_there = figures.messages == (has_dead ? 2 : 1) * options.depth;
     if (what == RECEIVES)
-        note(outcome, first.code != BB_OK);
+        note(outcome, !is_there);
+    else if (what != POSTS)
+        EXPECT(is_there == (what != ATTACHES));
+    if (what != ATTACHES && (what == POSTS || is_there)) {
+        const bb_message first = bb_pool_file_take(ours, party, 0);
+        EXPECT(first.code == BB_OK && first.number == number && id_of(first) == 36);
+    }
+    expect_ids(ours, party, 0, 10, what == ATTACHES ? 0 : others);
+    if (what != ATTACHES)
+        EXPECT(fill_up(ours, party, 0) == (what == RECEIVES && !is_there ? 1 : 0));
     EXPECT(bb_pool_file_close(ours) == BB_OK);
     return ended;
 }
 
 static int run_step(uint32_t long_stride) {
     uint32_t kills = 0;
+    keep_processor();
     for (int what = 0; what < OPERATIONS; what++) {
         const uint32_t stride = is_long(what) ? long_stride : 1;
         struct outcome outcome = {0, 0};
