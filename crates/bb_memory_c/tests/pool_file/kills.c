@@ -810,13 +810,17 @@ enum {
     LEAVES,
     CLOSES,
     OPERATIONS,
-    // For `pause` only: a take whose code is noted, a look that notes the message's length, or 0 if
-    // there is none, a reap of detached buckets, and an open that notes how many buckets it finds
-    // held.
+    // For `pause` only: a take whose code is noted, and the message's length, a look that notes the
+    // message's length, or 0 if there is none, a reap of detached buckets, an open that notes how many
+    // buckets it finds held, a post of two messages, and a `done` and a detach of a message that was
+    // taken before.
     NOTES_TAKE,
     NOTES_LOOK,
     REAPS_DETACHED,
-    NOTES_OPEN
+    NOTES_OPEN,
+    POSTS_TWO,
+    IS_DONE,
+    PUTS_TAKEN_BACK
 };
 
 static const char *const NAMES[] = {"open",
@@ -919,7 +923,7 @@ struct prepared {
     uint32_t number;
 };
 
-// The note of NOTES_TAKE, NOTES_LOOK or NOTES_OPEN, in shared memory.
+// The notes of NOTES_TAKE, NOTES_LOOK or NOTES_OPEN, in shared memory.
 static uint32_t *noted;
 
 static struct prepared prepare(int what, uint32_t number) {
@@ -933,10 +937,10 @@ static struct prepared prepare(int what, uint32_t number) {
     const bool leaves = what == LEAVES || what == GIVES_ALL_BACK;
     if (what == BURSTS || leaves)
         EXPECT(bb_file_party_cache(mine, 8) == BB_OK);
-    if (what == POSTS || what == DETACHES || leaves || what == CLOSES)
+    if (what == POSTS || what == POSTS_TWO || what == DETACHES || leaves || what == CLOSES)
         prepared.place = bb_file_party_take(mine).place;
     if (prepared.place != NULL)
-        fill(prepared.place, 5);
+        fill(prepared.place, 25);
     if (leaves) {
         bb_place places[2];
         EXPECT(bb_file_party_take_many(mine, places, 2).number == 2);
@@ -944,6 +948,8 @@ static struct prepared prepare(int what, uint32_t number) {
     }
     if (leaves || what == CLOSES)
         EXPECT(bb_pool_file_take(file, mine, 0).code == BB_OK);
+    if (what == IS_DONE || what == PUTS_TAKEN_BACK)
+        prepared.place = bb_pool_file_take(file, mine, 0).place;
     return prepared;
 }
 
@@ -983,7 +989,21 @@ static void operate(int what, struct prepared with) {
     case REAPS: EXPECT(bb_pool_file_reap(file, BB_REAP_HELD, NULL) == BB_OK); break;
     case GIVES_ALL_BACK: EXPECT(bb_pool_file_give_all_back(file, mine) == BB_OK); break;
     case LEAVES: EXPECT(bb_pool_file_leave(file, mine) == BB_OK); break;
-    case NOTES_TAKE: *noted = bb_pool_file_take(file, mine, 0).code; break;
+    case NOTES_TAKE:
+        got = bb_pool_file_take(file, mine, 0);
+        noted[0] = got.code;
+        noted[1] = (uint32_t)got.len;
+        break;
+    case POSTS_TWO:
+        EXPECT(bb_pool_file_post(file, mine, 0, with.place, 33) == BB_OK);
+        post_id(file, mine, 0, 26);
+        break;
+    case IS_DONE:
+        EXPECT(bb_file_party_done(mine, with.place) == BB_OK);
+        break;
+    case PUTS_TAKEN_BACK:
+        EXPECT(bb_pool_file_detach(file, mine, with.place).code == BB_OK);
+        break;
     case NOTES_LOOK:
         got = bb_pool_file_look(file, 0);
         *noted = got.code == BB_OK ? (uint32_t)got.len : NO_LENGTH + got.code;
@@ -1143,7 +1163,7 @@ static bool step_once(int what, uint32_t steps, struct outcome *outcome) {
         expect_ids(ours, party, 2, 30, others);
         const bb_message posted = bb_pool_file_take(ours, party, 2);
         if (posted.code == BB_OK)
-            EXPECT(posted.len == 33 && is_filled(posted.place, 5));
+            EXPECT(id_of(posted) == 25);
         else
             EXPECT(posted.code == (others == 0 ? BB_DETACHED_EMPTY : BB_NOT_HELD));
         note(outcome, posted.code == BB_OK);
@@ -1253,7 +1273,7 @@ struct stopped_take {
 // lets `party` take it.
 static struct stopped_take stop_take(bb_pool_file *ours, bb_file_party *party, uint32_t steps) {
     const bb_chunk chunk = bb_file_party_take(party);
-    fill(chunk.place, 99);
+    fill(chunk.place, 36);
     EXPECT(bb_pool_file_post(ours, party, 0, chunk.place, 44) == BB_OK);
     const pid_t child = start(NOTES_TAKE, 0);
     const bool ended = go(child, steps);
@@ -1267,7 +1287,7 @@ static bool pause_take(bb_pool_file *ours, bb_file_party *party, uint32_t steps)
     const struct stopped_take take = stop_take(ours, party, steps);
     const bb_message message = take.message;
     if (message.code == BB_OK) {
-        EXPECT(bb_pool_file_done(ours, party, 0) == BB_OK);
+        EXPECT(be_done_with(ours, party, 0, message.place) == BB_OK);
         fill(message.place, 55);
         EXPECT(bb_pool_file_detach(ours, party, message.place).code == BB_OK);
     }
@@ -1294,7 +1314,7 @@ static bool pause_posted(bb_pool_file *ours, bb_file_party *party, uint32_t step
     const struct stopped_take take = stop_take(ours, party, steps);
     const bb_message message = take.message;
     if (message.code == BB_OK) {
-        EXPECT(bb_pool_file_done(ours, party, 0) == BB_OK);
+        EXPECT(be_done_with(ours, party, 0, message.place) == BB_OK);
         fill(message.place, 55);
         EXPECT(bb_pool_file_post(ours, party, 1, message.place, 17) == BB_OK);
     }
@@ -1305,7 +1325,7 @@ static bool pause_posted(bb_pool_file *ours, bb_file_party *party, uint32_t step
         expect_flag(ours, message.number, BB_SENT, 1);
         const bb_message again = bb_pool_file_take(ours, party, 1);
         EXPECT(again.code == BB_OK && again.len == 17 && is_filled(again.place, 55));
-        EXPECT(bb_pool_file_done(ours, party, 1) == BB_OK);
+        EXPECT(be_done_with(ours, party, 1, again.place) == BB_OK);
     } else {
         EXPECT(*noted == BB_OK);
     }
@@ -1315,7 +1335,8 @@ static bool pause_posted(bb_pool_file *ours, bb_file_party *party, uint32_t step
 
 // While a look is stopped, a party takes the message, is done with it, and posts its bucket with
 // another length: to the same slot, to another one, or to both. Or it posts another bucket to the
-// slot. The look finds a message that the slot had, with its length, or that the slot is empty.
+// slot. The look finds a message that the slot had, with its length, or that the slot is empty. In a
+// slot of a greater depth, a later message is in another cell, so the slot may be found empty.
 static bool pause_look(bb_pool_file *ours, bb_file_party *party, uint32_t steps) {
     enum {
         TO_THE_SAME,
@@ -1332,20 +1353,21 @@ static bool pause_look(bb_pool_file *ours, bb_file_party *party, uint32_t steps)
     const pid_t child = start(NOTES_LOOK, 0);
     const bool ended = go(child, steps);
     EXPECT(bb_pool_file_take(ours, party, 0).len == 44);
-    EXPECT(bb_pool_file_done(ours, party, 0) == BB_OK);
+    EXPECT(be_done_with(ours, party, 0, chunk.place) == BB_OK);
     if (way == TO_ANOTHER || way == TO_BOTH) {
         EXPECT(bb_pool_file_post(ours, party, 1, chunk.place, 17) == BB_OK);
         EXPECT(bb_pool_file_take(ours, party, 1).len == 17);
     }
     if (way == TO_BOTH)
-        EXPECT(bb_pool_file_done(ours, party, 1) == BB_OK);
+        EXPECT(be_done_with(ours, party, 1, chunk.place) == BB_OK);
     if (way == TO_THE_SAME || way == TO_BOTH)
         EXPECT(bb_pool_file_post(ours, party, 0, chunk.place, 33) == BB_OK);
     if (way == OF_ANOTHER)
         EXPECT(bb_pool_file_post(ours, party, 0, bb_file_party_take(party).place, 22) == BB_OK);
     if (!ended)
         go_on(child);
-    EXPECT(*noted == 44 || *noted == later[way]);
+    const bool is_empty = options.depth > 1 && *noted == NO_LENGTH + BB_DETACHED_EMPTY;
+    EXPECT(*noted == 44 || *noted == later[way] || is_empty);
     end_killed(child);
     return ended;
 }
@@ -1354,7 +1376,7 @@ static bool pause_look(bb_pool_file *ours, bb_file_party *party, uint32_t steps)
 static bool pause_leave(bb_pool_file *ours, bb_file_party *party, uint32_t steps) {
     bb_file_party *other;
     const bb_chunk chunk = bb_file_party_take(party);
-    fill(chunk.place, 99);
+    fill(chunk.place, 36);
     EXPECT(bb_pool_file_post(ours, party, 0, chunk.place, 44) == BB_OK);
     const pid_t child = start(LEAVES, 0);
     const bool ended = go(child, steps);
@@ -1405,15 +1427,194 @@ static bool pause_open(bb_pool_file *ours, bb_file_party *party, uint32_t steps)
     return ended;
 }
 
+// OF A GREATER DEPTH
+
+// How often a scene had each of its outcomes.
+static uint32_t outcomes[3];
+
+static bool is_sent(bb_pool_file *ours, uint32_t number) {
+    bb_holder flag;
+    EXPECT(bb_pool_file_holder(ours, number, &flag) == BB_OK);
+    return flag.state == BB_SENT;
+}
+
+// While a post is stopped, another party posts two messages, and takes one. The stopped message comes
+// last if it wasn't in the slot then. If it was there and wasn't sent yet, it is passed, and comes
+// next once it is sent.
+static bool pause_passed(bb_pool_file *ours, bb_file_party *party, uint32_t steps) {
+    static const uint64_t orders[3][3] = {{21, 22, 25}, {21, 25, 22}, {25, 21, 22}};
+    turn(ours, party, 2, steps % options.depth);
+    const pid_t child = start(POSTS, 0);
+    const bool ended = go(child, steps);
+    const bb_message found = bb_pool_file_look(ours, 2);
+    uint32_t outcome = 0;
+    if (found.code == BB_OK)
+        outcome = is_sent(ours, found.number) ? 2 : 1;
+    post_id(ours, party, 2, 21);
+    post_id(ours, party, 2, 22);
+    EXPECT(id_of(bb_pool_file_take(ours, party, 2)) == orders[outcome][0]);
+    if (!ended)
+        go_on(child);
+    for (int at = 1; at < 3; at++)
+        EXPECT(id_of(bb_pool_file_take(ours, party, 2)) == orders[outcome][at]);
+    end_killed(child);
+    outcomes[outcome]++;
+    return ended;
+}
+
+// A post is stopped as soon as its message is in the slot, and then a take is stopped. The sender
+// goes on, and posts a second message. The take gets the first one, or none.
+static bool pause_take_again(bb_pool_file *ours, bb_file_party *party, uint32_t steps) {
+    turn(ours, party, 0, steps % options.depth);
+    const pid_t sender = start(POSTS_TWO, 0);
+    while (bb_pool_file_look(ours, 0).code == BB_DETACHED_EMPTY)
+        EXPECT(!go(sender, 1));
+    const pid_t receiver = start(NOTES_TAKE, 0);
+    const bool ended = go(receiver, steps);
+    go_on(sender);
+    if (!ended)
+        go_on(receiver);
+    if (noted[0] == BB_OK) {
+        EXPECT(noted[1] == 33);
+    } else {
+        EXPECT(noted[0] == BB_NOT_HELD);
+        EXPECT(id_of(bb_pool_file_take(ours, party, 0)) == 25);
+    }
+    EXPECT(id_of(bb_pool_file_take(ours, party, 0)) == 26);
+    outcomes[noted[0] != BB_OK]++;
+    end_killed(sender);
+    end_killed(receiver);
+    return ended;
+}
+
+// While a take is stopped, another party takes the message, is done with it, and posts its bucket to
+// the same slot, and a message behind that. The take gets the message in that bucket, or none.
+static bool pause_posted_behind(bb_pool_file *ours, bb_file_party *party, uint32_t steps) {
+    turn(ours, party, 0, steps % options.depth);
+    const struct stopped_take take = stop_take(ours, party, steps);
+    const bb_message message = take.message;
+    if (message.code == BB_OK) {
+        EXPECT(bb_file_party_done(party, message.place) == BB_OK);
+        fill(message.place, 25);
+        EXPECT(bb_pool_file_post(ours, party, 0, message.place, 33) == BB_OK);
+    }
+    post_id(ours, party, 0, 26);
+    if (!take.ended)
+        go_on(take.child);
+    if (message.code != BB_OK) {
+        EXPECT(noted[0] == BB_OK && noted[1] == 44);
+    } else if (noted[0] == BB_OK) {
+        EXPECT(noted[1] == 33);
+    } else {
+        EXPECT(noted[0] == BB_NOT_HELD || noted[0] == BB_DETACHED_EMPTY);
+        EXPECT(id_of(bb_pool_file_take(ours, party, 0)) == 25);
+    }
+    EXPECT(id_of(bb_pool_file_take(ours, party, 0)) == 26);
+    end_killed(take.child);
+    outcomes[message.code == BB_OK]++;
+    return take.ended;
+}
+
+// While a party is stopped that is to be done with the oldest message, another one is done with the
+// second one. The slot gets room for two when the first party is done.
+static bool pause_done(bb_pool_file *ours, bb_file_party *party, uint32_t steps) {
+    bb_pool_file_figures figures;
+    turn(ours, party, 0, steps % options.depth);
+    for (uint32_t at = 0; at < options.depth; at++)
+        post_id(ours, party, 0, 21 + at);
+    const pid_t child = start(IS_DONE, 0);
+    const bool ended = go(child, steps);
+    const bb_message second = bb_pool_file_take(ours, party, 0);
+    EXPECT(id_of(second) == 22);
+    EXPECT(bb_file_party_done(party, second.place) == BB_OK);
+    EXPECT(bb_pool_file_info(ours, &figures) == BB_OK);
+    const bool is_done = figures.messages == options.depth - 2;
+    EXPECT(is_done || figures.messages == options.depth - 1);
+    EXPECT(bb_pool_file_wait_empty(ours, 0, 0) == (is_done ? BB_OK : BB_FILE_TIMED_OUT));
+    EXPECT(fill_up(ours, party, 0) == (is_done ? 2 : 0));
+    if (!ended)
+        go_on(child);
+    EXPECT(fill_up(ours, party, 0) == (is_done ? 0 : 2));
+    expect_ids(ours, party, 0, 23, options.depth - 2);
+    end_killed(child);
+    outcomes[is_done]++;
+    return ended;
+}
+
+// While a party is stopped that puts back the older of two messages, another one takes the older one
+// if it is back already, otherwise the younger one.
+static bool pause_put_back(bb_pool_file *ours, bb_file_party *party, uint32_t steps) {
+    turn(ours, party, 0, steps % options.depth);
+    post_id(ours, party, 0, 21);
+    post_id(ours, party, 0, 22);
+    const uint32_t older = bb_pool_file_look(ours, 0).number;
+    const pid_t child = start(PUTS_TAKEN_BACK, 0);
+    const bool ended = go(child, steps);
+    const bool is_back = is_sent(ours, older);
+    EXPECT(id_of(bb_pool_file_take(ours, party, 0)) == (is_back ? 21 : 22));
+    if (!ended)
+        go_on(child);
+    EXPECT(id_of(bb_pool_file_take(ours, party, 0)) == (is_back ? 22 : 21));
+    end_killed(child);
+    outcomes[is_back]++;
+    return ended;
+}
+
+// While a look is stopped, another party posts a message behind the only one. The look finds the
+// older one.
+static bool pause_look_behind(bb_pool_file *ours, bb_file_party *party, uint32_t steps) {
+    turn(ours, party, 0, steps % options.depth);
+    post_id(ours, party, 0, 36);
+    const pid_t child = start(NOTES_LOOK, 0);
+    const bool ended = go(child, steps);
+    post_id(ours, party, 0, 26);
+    if (!ended)
+        go_on(child);
+    EXPECT(*noted == 44);
+    end_killed(child);
+    return ended;
+}
+
+// A scene of `pause`: it stops a process after that many instructions, and returns whether the
+// operation had ended before.
+struct scene {
+    const char *name;
+    bool (*play)(bb_pool_file *ours, bb_file_party *party, uint32_t steps);
+    // Whether it is long, so that it doesn't stop after each instruction, and is the same for slots of
+    // each depth.
+    bool is_long;
+    // Whether it needs a depth of at least 3, and then how many outcomes it has.
+    bool is_deep;
+    uint32_t outcomes;
+};
+
 static int run_pause(uint32_t long_stride) {
-    bool (*const scenes[])(bb_pool_file *, bb_file_party *, uint32_t) = {
-        pause_take, pause_posted, pause_look, pause_reap, pause_leave, pause_open};
-    const char *const names[] = {"take", "take, posted again", "look", "reap", "leave", "open"};
+    static const struct scene scenes[] = {
+        {"take", pause_take, false, false, 0},
+        {"take, posted again", pause_posted, false, false, 0},
+        {"look", pause_look, false, false, 0},
+        {"reap", pause_reap, true, false, 0},
+        {"leave", pause_leave, true, false, 0},
+        {"open", pause_open, true, false, 0},
+        {"post, passed", pause_passed, false, true, 3},
+        {"take, looks again", pause_take_again, false, true, 2},
+        {"take, posted behind", pause_posted_behind, false, true, 2},
+        {"done", pause_done, false, true, 2},
+        {"put back", pause_put_back, false, true, 2},
+        {"look, posted behind", pause_look_behind, false, true, 0},
+    };
+    const bool is_deep = options.depth > 1;
+    EXPECT(!is_deep || options.depth >= 3);
+    keep_processor();
     noted = mmap(NULL, 4096, PROT_READ | PROT_WRITE, MAP_SHARED | MAP_ANONYMOUS, -1, 0);
     EXPECT(noted != MAP_FAILED);
-    for (int scene = 0; scene < 6; scene++) {
-        const uint32_t stride = scene < 3 ? 1 : long_stride;
+    for (size_t at = 0; at < sizeof scenes / sizeof *scenes; at++) {
+        const struct scene *scene = &scenes[at];
+        if (is_deep ? scene->is_long : scene->is_deep)
+            continue;
+        const uint32_t stride = scene->is_long ? long_stride : 1;
         uint32_t steps = 1;
+        memset(outcomes, 0, sizeof outcomes);
         for (bool ended = false; !ended; steps += stride) {
             bb_pool_file *ours;
             bb_file_party *party;
@@ -1421,8 +1622,8 @@ static int run_pause(uint32_t long_stride) {
             unlink(path);
             EXPECT(bb_pool_file_open(&ours, path, &options) == BB_OK);
             EXPECT(bb_pool_file_join(ours, &party) == BB_OK);
-            ended = scenes[scene](ours, party, steps);
-            EXPECT(bb_pool_file_done(ours, party, 0) != BB_INVALID_ARGUMENT);
+            ended = scene->play(ours, party, steps);
+            EXPECT(is_deep || bb_pool_file_done(ours, party, 0) != BB_INVALID_ARGUMENT);
             EXPECT(bb_pool_file_close(ours) == BB_OK);
             EXPECT(bb_pool_file_open(&ours, path, NULL) == BB_OK);
             EXPECT(bb_pool_file_reap(ours, BB_REAP_DEAD, NULL) == BB_OK);
@@ -1430,7 +1631,9 @@ static int run_pause(uint32_t long_stride) {
             EXPECT(figures.held + figures.wrong == 0 && figures.detached == figures.messages);
             EXPECT(bb_pool_file_close(ours) == BB_OK);
         }
-        printf("kills: %-24s stopped after each", names[scene]);
+        for (uint32_t outcome = 0; outcome < scene->outcomes; outcome++)
+            EXPECT(outcomes[outcome] > 0);
+        printf("kills: %-24s stopped after each", scene->name);
         if (stride > 1)
             printf(" %uth", stride);
         printf(" of %u instructions\n", steps - stride);
