@@ -10,7 +10,7 @@ ghost use Rattle.bb_memory_file_machine.specs.declared.steps.file.Slot.TheVarian
 ghost use Rattle.bb_memory_traits.specs.Chunk.{region_at};
 ghost use Rattle.std.specs.Prelude.{◌≡◌};
 
-use crate::file_answer::{DetachedNumber, Message, SentMessage, ShownEntry, ShownFlag, ShownSlot};
+use crate::file_answer::{DetachedNumber, Message, PostedMessage, ShownEntry, ShownFlag, ShownSlot};
 use crate::file_party::{OpenFile, cut_file};
 use crate::handle::{FilePartyHandle, FileTableHandle, Handle};
 use bb_memory_c_calls::answer::{Answer, Figure, SharedPoolInfo};
@@ -192,13 +192,13 @@ pub extern "C" fn file_post(
     slot: u32,
     place: usize,
     len: usize,
-) -> u32
-    ensures { Answers handle.old.value handle.new.value (result ≡ uninitialized)
+) -> PostedMessage
+    ensures { Answers handle.old.value handle.new.value (result ≡ posted_as uninitialized)
         (λ party after. TellsPost party slot place len result after) }
 {
     match handle.made_mut() {
         Some(party) => party.post(slot, place, len),
-        None => code::UNINITIALIZED,
+        None => PostedMessage::of(code::UNINITIALIZED),
     }
 }
 
@@ -226,37 +226,6 @@ pub extern "C" fn file_done(handle: &mut FilePartyHandle, slot: u32) -> u32
     match handle.made_mut() {
         Some(party) => party.done(slot),
         None => code::UNINITIALIZED,
-    }
-}
-
-/// Posts the bucket at this place, as `file_post` does, in a queue. If other senders were faster each time that the call tried, it
-/// returns so, along with `BB_DETACHED_FULL`.
-#[unsafe(no_mangle)]
-pub extern "C" fn file_send(
-    handle: &mut FilePartyHandle,
-    queue: u32,
-    place: usize,
-    len: usize,
-) -> SentMessage
-    ensures { Answers handle.old.value handle.new.value (result ≡ sent_by uninitialized)
-        (λ party after. TellsSend party queue place len result after) }
-{
-    match handle.made_mut() {
-        Some(party) => party.send(queue, place, len),
-        None => SentMessage::of(code::UNINITIALIZED),
-    }
-}
-
-/// Takes the oldest message of this queue that is sent, as `file_take` does. It returns `BB_DETACHED_EMPTY` if the queue has no
-/// message, and `BB_NOT_HELD` if none of its messages is sent.
-#[unsafe(no_mangle)]
-pub extern "C" fn file_receive(handle: &mut FilePartyHandle, queue: u32) -> Message
-    ensures { Answers handle.old.value handle.new.value (result ≡ no_message uninitialized)
-        (λ party after. TellsReceipt party queue result after) }
-{
-    match handle.made_mut() {
-        Some(party) => party.receive(queue),
-        None => Message::refusal(code::UNINITIALIZED),
     }
 }
 

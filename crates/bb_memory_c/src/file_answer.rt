@@ -1,5 +1,5 @@
 //! Answers about files in the form that C gets them.
-ghost use Rattle.bb_memory_c.specs.Files.{detached_number, no_message, none_detached, overtaken, put_back_number, sent_by, shown_entry, shown_flag, shown_slot};
+ghost use Rattle.bb_memory_c.specs.Files.{detached_number, no_message, none_detached, overtaken, posted_as, put_back_number, shown_entry, shown_flag, shown_slot};
 ghost use Rattle.std.specs.Prelude.{◌≡◌};
 
 use bb_memory_c_calls::answer::{DETACHED, FREE, HELD};
@@ -20,10 +20,10 @@ pub struct Message {
     pub len: usize,
 }
 
-/// A code of a sender. If other senders were faster, it is `BB_DETACHED_FULL`, and `is_overtaken` is true: the sender may try again.
+/// A code. If other senders were faster, it is `BB_DETACHED_FULL`, and `is_overtaken` is true: the sender may try again.
 #[repr(C)]
 #[derive(Clone, Copy)]
-pub struct SentMessage {
+pub struct PostedMessage {
     pub code: u32,
     pub is_overtaken: bool,
 }
@@ -81,22 +81,22 @@ impl Message {
     }
 }
 
-impl SentMessage {
+impl PostedMessage {
     /// Returns the answer with this code.
-    pub fn of(code: u32) -> SentMessage
-        ensures { result ≡ sent_by code }
+    pub fn of(code: u32) -> PostedMessage
+        ensures { result ≡ posted_as code }
     {
-        SentMessage {
+        PostedMessage {
             code,
             is_overtaken: false,
         }
     }
 
     /// Returns the answer that other senders were faster.
-    pub fn overtaken() -> SentMessage
+    pub fn overtaken() -> PostedMessage
         ensures { result ≡ overtaken }
     {
-        SentMessage {
+        PostedMessage {
             code: code::DETACHED_FULL,
             is_overtaken: true,
         }

@@ -11,7 +11,7 @@ ghost use Rattle.bb_memory_traits.specs.PoolObject.{bucket_place};
 ghost use Rattle.std.specs.Align.{IsLayout};
 ghost use Rattle.std.specs.Prelude.{Err, IfErr, IfNone, IfOk, IfSome, None, length, ℕ, ◌<◌, ◌↔◌, ◌≡◌, ◌≢◌, ◌≤◌};
 
-use crate::file_answer::{DetachedNumber, Message, SentMessage, ShownEntry, ShownFlag, ShownSlot};
+use crate::file_answer::{DetachedNumber, Message, PostedMessage, ShownEntry, ShownFlag, ShownSlot};
 use bb_memory_c_calls::answer::{Answer, Figure, SharedPoolInfo};
 use bb_memory_c_calls::code;
 use bb_memory_c_calls::kind::{Bucketed, Gives, Keeps};
@@ -157,28 +157,66 @@ impl JoinedFile {
         party.leave()
     }
 
-    /// Returns the number of the bucket at this place, which the party may post with a message of `len` bytes, or the code of the
-    /// reason why it may not.
+    /// Returns how many slots C has: queues, or single slots at depth 1.
     #[inline(always)]
-    fn to_post(&self, place: usize, len: usize) -> Result<u32, u32> {
-        let number = self.in_use_at(place)?;
-        if len > self.places.bucket().size() || len > u32::MAX as usize {
-            return Err(code::SIZE_TOO_LARGE);
-        }
-        Ok(number)
-    }
-
-    /// Returns a bucket's size in bytes, or the greatest number of bytes that an entry has room for if that is less.
-    #[inline(always)]
-    fn size(&self) -> u32
-        ensures { result ≡ min self.now.places.bucket.size (2 ^ 32 - 1) }
+    fn slots(&self) -> u32
+        ensures { result ≡ slots_of self.now }
     {
-        self.places.bucket().size().min(u32::MAX as usize) as u32
+        if self.party.depth() == 1 {
+            self.party.slots()
+        } else {
+            self.party.queues()
+        }
     }
 
-    /// Returns C's answer to the taking of a message.
-    #[inline(always)]
-    fn message_of(&self, taken: Taken) -> Message {
+    /// Posts the bucket at this place, with a message of `len` bytes, in a slot.
+    pub(crate) fn post(&mut self, slot: u32, place: usize, len: usize) -> PostedMessage
+        ensures { TellsPost self.old slot place len result self.new }
+    {
+        if slot >= self.slots() {
+            return PostedMessage::of(code::INVALID_ARGUMENT);
+        }
+        let number = match self.in_use_at(place) {
+            Ok(number) => number,
+            Err(code) => return PostedMessage::of(code),
+        };
+        if len > self.places.bucket().size() || len > u32::MAX as usize {
+            return PostedMessage::of(code::SIZE_TOO_LARGE);
+        }
+        if self.party.depth() != 1 {
+            return self.send(slot, number, len as u32);
+        }
+        match self.party.post(slot, number, len as u32) {
+            Ok(true) => PostedMessage::of(code::OK),
+            Ok(false) => PostedMessage::of(code::DETACHED_FULL),
+            Err(refusal) => PostedMessage::of(code_of(refusal)),
+        }
+    }
+
+    /// Posts a bucket that the party has in use in a queue.
+    fn send(&mut self, queue: u32, number: u32, length: u32) -> PostedMessage {
+        match self.party.send(queue, number, length) {
+            Ok(Sending::Sent { slot: _ }) => PostedMessage::of(code::OK),
+            Ok(Sending::Full) => PostedMessage::of(code::DETACHED_FULL),
+            Ok(Sending::Overtaken) => PostedMessage::overtaken(),
+            Err(refusal) => PostedMessage::of(code_of(refusal)),
+        }
+    }
+
+    /// Takes a message in a slot.
+    pub(crate) fn take_message(&mut self, slot: u32) -> Message
+        ensures { TellsMessage self.old slot result self.new }
+    {
+        self.invariant();
+        if slot >= self.slots() {
+            return Message::refusal(code::INVALID_ARGUMENT);
+        }
+        let size = self.places.bucket().size().min(u32::MAX as usize) as u32;
+        let taken = if self.party.depth() == 1 {
+            self.party.take(slot, size)
+        } else {
+            self.party.receive(slot, size)
+        };
         match taken {
             Taken::Empty => Message::refusal(code::DETACHED_EMPTY),
             Taken::NotSent => Message::refusal(code::NOT_HELD),
@@ -192,41 +230,11 @@ impl JoinedFile {
         }
     }
 
-    /// Posts the bucket at this place, with a message of `len` bytes, in a slot.
-    pub(crate) fn post(&mut self, slot: u32, place: usize, len: usize) -> u32
-        ensures { TellsPost self.old slot place len result self.new }
-    {
-        if slot >= self.party.slots() {
-            return code::INVALID_ARGUMENT;
-        }
-        let number = match self.to_post(place, len) {
-            Ok(number) => number,
-            Err(code) => return code,
-        };
-        match self.party.post(slot, number, len as u32) {
-            Ok(true) => code::OK,
-            Ok(false) => code::DETACHED_FULL,
-            Err(refusal) => code_of(refusal),
-        }
-    }
-
-    /// Takes the message in a slot.
-    pub(crate) fn take_message(&mut self, slot: u32) -> Message
-        ensures { TellsMessage self.old slot result self.new }
-    {
-        self.invariant();
-        if slot >= self.party.slots() {
-            return Message::refusal(code::INVALID_ARGUMENT);
-        }
-        let taken = self.party.take(slot, self.size());
-        self.message_of(taken)
-    }
-
-    /// Says that the party is done with the message in a slot.
+    /// Says that the party is done with the message in a single slot.
     pub(crate) fn done(&mut self, slot: u32) -> u32
         ensures { TellsDone self.old slot result self.new }
     {
-        if slot >= self.party.slots() {
+        if self.party.depth() != 1 || slot >= self.party.slots() {
             return code::INVALID_ARGUMENT;
         }
         if self.party.done(slot) {
@@ -234,37 +242,6 @@ impl JoinedFile {
         } else {
             code::NOT_HELD
         }
-    }
-
-    /// Posts the bucket at this place, with a message of `len` bytes, in a queue.
-    pub(crate) fn send(&mut self, queue: u32, place: usize, len: usize) -> SentMessage
-        ensures { TellsSend self.old queue place len result self.new }
-    {
-        if queue >= self.party.queues() {
-            return SentMessage::of(code::INVALID_ARGUMENT);
-        }
-        let number = match self.to_post(place, len) {
-            Ok(number) => number,
-            Err(code) => return SentMessage::of(code),
-        };
-        match self.party.send(queue, number, len as u32) {
-            Ok(Sending::Sent { slot: _ }) => SentMessage::of(code::OK),
-            Ok(Sending::Full) => SentMessage::of(code::DETACHED_FULL),
-            Ok(Sending::Overtaken) => SentMessage::overtaken(),
-            Err(refusal) => SentMessage::of(code_of(refusal)),
-        }
-    }
-
-    /// Takes a message in a queue.
-    pub(crate) fn receive(&mut self, queue: u32) -> Message
-        ensures { TellsReceipt self.old queue result self.new }
-    {
-        self.invariant();
-        if queue >= self.party.queues() {
-            return Message::refusal(code::INVALID_ARGUMENT);
-        }
-        let taken = self.party.receive(queue, self.size());
-        self.message_of(taken)
     }
 
     /// Says that the party is done with the message in the bucket at this place, and returns the slot that it has emptied.
@@ -484,7 +461,7 @@ impl OpenFile {
         }
     }
 
-    /// Joins as this number, whose lock the caller has just taken. The file has queues of this depth.
+    /// Joins as this number, whose lock the caller has just taken. The file's slots are queues of this depth; 0 counts as 1.
     pub(crate) fn join(
         &self,
         alloc: Global,
@@ -508,7 +485,7 @@ impl OpenFile {
             self.bucket.size(),
             number,
         );
-        let party = match Joined::join(words, alloc, hint, depth) {
+        let party = match Joined::join(words, alloc, hint, depth.max(1)) {
             Ok(Ok(party)) => party,
             Ok(Err(_)) => return Err(code::NO_PARTY),
             Err(_) => return Err(code::MALLOC_REFUSED),
