@@ -1,6 +1,6 @@
 //! Pools in files: the exported functions of a party of a file, and of the words that the parties share. Those whose names begin
 //! with `file_` are hidden, and `bb_pool_file.c` calls them, which keeps the file, its locks and those who wait.
-ghost use Rattle.bb_memory_c.specs.Files.{AnswersJoin, AnswersLeave, GivesBack, GivesChunk, HoldsPlace, MayFree, ShowsParty, TellsAttach, TellsCache, TellsDeallocate, TellsDetach, TellsDone, TellsEntry, TellsFlag, TellsFlush, TellsFreed, TellsLife, TellsMessage, TellsPost, TellsReap, TellsSlot, TellsWords, cutting_file, no_message, none_detached, number_of, shown_entry, shown_flag, shown_slot};
+ghost use Rattle.bb_memory_c.specs.Files.{AnswersJoin, AnswersLeave, GivesBack, GivesChunk, HoldsPlace, MayFree, ShowsParty, TellsAttach, TellsCache, TellsDeallocate, TellsDetach, TellsDone, TellsDoneWith, TellsEntry, TellsFlag, TellsFlush, TellsFreed, TellsLife, TellsMessage, TellsPost, TellsReap, TellsSlot, TellsWords, cutting_file, no_message, none_detached, number_of, posted_as, shown_entry, shown_flag, shown_slot};
 ghost use Rattle.bb_memory_c_calls.specs.Answers.{figure_of, no_figure, refused};
 ghost use Rattle.bb_memory_c_calls.specs.Calls.{Answers, AnswersFree, AnswersInfo, AnswersNumber, AnswersPlace, AnswersPoolMake, AnswersRequest, AnswersReturns, AnswersTake, AnswersTakings, AnswersWhether};
 ghost use Rattle.bb_memory_c_calls.specs.declared.code.TheConstants.{UNINITIALIZED as uninitialized};
@@ -10,7 +10,9 @@ ghost use Rattle.bb_memory_file_machine.specs.declared.steps.file.Slot.TheVarian
 ghost use Rattle.bb_memory_traits.specs.Chunk.{region_at};
 ghost use Rattle.std.specs.Prelude.{◌≡◌};
 
-use crate::file_answer::{DetachedNumber, Message, PostedMessage, ShownEntry, ShownFlag, ShownSlot};
+use crate::file_answer::{
+    DetachedNumber, Message, PostedMessage, ShownEntry, ShownFlag, ShownSlot,
+};
 use crate::file_party::{OpenFile, cut_file};
 use crate::handle::{FilePartyHandle, FileTableHandle, Handle};
 use bb_memory_c_calls::answer::{Answer, Figure, SharedPoolInfo};
@@ -97,7 +99,7 @@ pub extern "C" fn file_party_join(
     depth: u32,
     party: &mut FilePartyHandle,
 ) -> u32
-    ensures { AnswersJoin handle.old.value handle.new.value party.old.value party.new.value number result }
+    ensures { AnswersJoin handle.old.value handle.new.value party.old.value party.new.value number depth result }
 {
     if call::is_made(party) {
         return code::ALREADY_INITIALIZED;

@@ -1,5 +1,5 @@
 //! A party of a file, and the words that the parties share, as kinds.
-ghost use Rattle.bb_memory_c.specs.Files.{Becomes, GivesBack, GivesChunk, GivesUp, HasNoParty, HoldsPlace, IsNoted, IsNotedAt, IsOpen, IsPlaced, JoinedFile, JoinsAt, LeavesFrom, MayFree, MissesFirstAt, OpenFile, ShowsParty, TellsAttach, TellsCache, TellsDeallocate, TellsDetach, TellsDone, TellsEntry, TellsFlag, TellsJoin, TellsLife, TellsMessage, TellsPost, TellsReap, TellsSlot, code_of, cutting_file, fresh_of, number_of};
+ghost use Rattle.bb_memory_c.specs.Files.{Becomes, GivesBack, GivesChunk, GivesUp, HasNoParty, HoldsPlace, IsNoted, IsNotedAt, IsOpen, IsPlaced, JoinedFile, JoinsAt, LeavesFrom, MayFree, MissesFirstAt, OpenFile, PostsQueued, PostsSingle, ShowsParty, TakesFrom, TellsAttach, TellsCache, TellsDeallocate, TellsDetach, TellsDone, TellsDoneWith, TellsEntry, TellsFlag, TellsJoin, TellsLife, TellsMessage, TellsPost, TellsReap, TellsSlot, code_of, cutting_file, fresh_of, number_of, slots_of};
 ghost use Rattle.bb_memory_c_calls.specs.Calls.{FailsOf, IsOf, LacksRoomOf};
 ghost use Rattle.bb_memory_c_calls.specs.declared.code.TheConstants.{FILE_NOT_DONE as file_not_done, INVALID_ARGUMENT as invalid_argument, INVALID_LAYOUT as invalid_layout, MALLOC_REFUSED as malloc_refused, NOT_HELD as not_held, NO_BUCKET as no_bucket, NO_PARTY as no_party, OK as ok, PARTIES_JOINED as parties_joined};
 ghost use Rattle.bb_memory_file.specs.FileFormat.{IsGeometry, geometry_of, words_of};
@@ -9,9 +9,11 @@ ghost use Rattle.bb_memory_file.specs.declared.joined.Note.TheVariants.{InUse, U
 ghost use Rattle.bb_memory_traits.specs.Chunk.{region_at};
 ghost use Rattle.bb_memory_traits.specs.PoolObject.{bucket_place};
 ghost use Rattle.std.specs.Align.{IsLayout};
-ghost use Rattle.std.specs.Prelude.{Err, IfErr, IfNone, IfOk, IfSome, None, length, ℕ, ◌<◌, ◌↔◌, ◌≡◌, ◌≢◌, ◌≤◌};
+ghost use Rattle.std.specs.Prelude.{Err, IfErr, IfNone, IfOk, IfSome, None, Some, length, slice_get, ℕ, ◌<◌, ◌↔◌, ◌≡◌, ◌≢◌, ◌≤◌};
 
-use crate::file_answer::{DetachedNumber, Message, PostedMessage, ShownEntry, ShownFlag, ShownSlot};
+use crate::file_answer::{
+    DetachedNumber, Message, PostedMessage, ShownEntry, ShownFlag, ShownSlot,
+};
 use bb_memory_c_calls::answer::{Answer, Figure, SharedPoolInfo};
 use bb_memory_c_calls::code;
 use bb_memory_c_calls::kind::{Bucketed, Gives, Keeps};
@@ -183,10 +185,22 @@ impl JoinedFile {
         if len > self.places.bucket().size() || len > u32::MAX as usize {
             return PostedMessage::of(code::SIZE_TOO_LARGE);
         }
-        if self.party.depth() != 1 {
-            return self.send(slot, number, len as u32);
+        if self.party.depth() == 1 {
+            self.post_single(slot, number, len as u32)
+        } else {
+            self.send(slot, number, len as u32)
         }
-        match self.party.post(slot, number, len as u32) {
+    }
+
+    /// Posts a bucket that the party has in use in a single slot.
+    #[inline(always)]
+    fn post_single(&mut self, slot: u32, number: u32, length: u32) -> PostedMessage
+        requires single { self.old.party.depth ≡ 1 }
+        requires slot { slot < slots_of self.old }
+        requires noted { slice_get self.old.party.notes number ≡ Some InUse }
+        ensures { PostsSingle self.old slot number length result self.new }
+    {
+        match self.party.post(slot, number, length) {
             Ok(true) => PostedMessage::of(code::OK),
             Ok(false) => PostedMessage::of(code::DETACHED_FULL),
             Err(refusal) => PostedMessage::of(code_of(refusal)),
@@ -194,7 +208,12 @@ impl JoinedFile {
     }
 
     /// Posts a bucket that the party has in use in a queue.
-    fn send(&mut self, queue: u32, number: u32, length: u32) -> PostedMessage {
+    fn send(&mut self, queue: u32, number: u32, length: u32) -> PostedMessage
+        requires queued { self.old.party.depth ≢ 1 }
+        requires queue { queue < slots_of self.old }
+        requires noted { slice_get self.old.party.notes number ≡ Some InUse }
+        ensures { PostsQueued self.old queue number length result self.new }
+    {
         match self.party.send(queue, number, length) {
             Ok(Sending::Sent { slot: _ }) => PostedMessage::of(code::OK),
             Ok(Sending::Full) => PostedMessage::of(code::DETACHED_FULL),
@@ -211,12 +230,7 @@ impl JoinedFile {
         if slot >= self.slots() {
             return Message::refusal(code::INVALID_ARGUMENT);
         }
-        let size = self.places.bucket().size().min(u32::MAX as usize) as u32;
-        let taken = if self.party.depth() == 1 {
-            self.party.take(slot, size)
-        } else {
-            self.party.receive(slot, size)
-        };
+        let taken = self.take_from(slot);
         match taken {
             Taken::Empty => Message::refusal(code::DETACHED_EMPTY),
             Taken::NotSent => Message::refusal(code::NOT_HELD),
@@ -227,6 +241,20 @@ impl JoinedFile {
                 place: self.places.chunk(bucket as usize, 0).place(),
                 len: length as usize,
             },
+        }
+    }
+
+    /// Takes a message from a single slot, or from a queue.
+    #[inline(always)]
+    fn take_from(&mut self, slot: u32) -> Taken
+        requires { slot < slots_of self.old }
+        ensures took { TakesFrom self.old slot result self.new }
+    {
+        let size = self.places.bucket().size().min(u32::MAX as usize) as u32;
+        if self.party.depth() == 1 {
+            self.party.take(slot, size)
+        } else {
+            self.party.receive(slot, size)
         }
     }
 
@@ -468,7 +496,7 @@ impl OpenFile {
         number: u32,
         depth: u32,
     ) -> Result<Box<JoinedFile>, u32>
-        ensures joins { IfOk result (λ joined. JoinsAt self.now number joined.value) }
+        ensures joins { IfOk result (λ joined. JoinsAt self.now number depth joined.value) }
         ensures none_such { self.now.table.geometry.parties ≤ number → result ≡ Err no_party }
         ensures over { result ≡ Err no_party → HasNoParty self.now number }
         ensures no_memory { result ≡ Err malloc_refused → GivesUp (fresh_of self.now number) }
