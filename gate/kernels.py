@@ -25,8 +25,8 @@ COMPILER = "aarch64-linux-gnu-gcc"
 # The commands in a machine.
 COMMANDS = (
     "/tests/cases /dev/shm",
-    "/tests/kills run /dev/shm 200 0 1",
-    "/tests/kills run /dev/shm 200 8 2",
+    "/tests/kills run /dev/shm 200 0 1 2",
+    "/tests/kills run /dev/shm 200 8 2 8",
     "/tests/kills make /dev/shm 100",
 )
 # The programs: the source among the tests of pools in files, and flags.

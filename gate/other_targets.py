@@ -30,7 +30,12 @@ WEAK = re.compile(
 # The loads, stores and exchanges that the library for ARM64 has to have.
 ORDERED = ("ldar", "stlr", "ldaxr", "stlxr")
 # Runs of `kills` with musl: the arguments, except the second, the folder.
-KILLS = (("run", "300", "0", "1"), ("run", "300", "8", "2"), ("make", "100"), ("step", "997"))
+KILLS = (
+    ("run", "300", "0", "1", "2"),
+    ("run", "300", "8", "2", "8"),
+    ("make", "100"),
+    ("step", "997", "1"),
+)
 
 
 @dataclass(frozen=True)

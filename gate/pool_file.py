@@ -6,7 +6,7 @@ are almost pools. There are also mutants of SOURCES, the C files of pools in fil
 refused by the program that its file names:
 
     # function: bb_pool_file_look
-    # refused by: kills pause 499
+    # refused by: kills pause 499 1
     file: bb_pool_file.c
     old: if (!is_same_slot(file_slot(&file->table, slot), found))
     new: if (!found.is_full)
@@ -50,16 +50,17 @@ ROOM = 48 << 20
 # Runs of `kills` with each form of the library: the arguments, except the second, the folder.
 KILLS = {
     "archive": (
-        ("run", "2500", "0", "1"),
-        ("run", "2500", "8", "2"),
+        ("run", "2500", "0", "1", "2"),
+        ("run", "2500", "8", "2", "8"),
         ("make", "600"),
-        ("step", "97"),
-        ("pause", "61"),
+        ("step", "97", "1"),
+        ("pause", "61", "1"),
+        ("pause", "61", "3"),
     ),
     "shared": (
-        ("run", "2500", "8", "1"),
-        ("run", "2500", "0", "2"),
-        ("step", "499"),
+        ("run", "2500", "8", "1", "64"),
+        ("run", "2500", "0", "2", "1"),
+        ("step", "499", "3"),
     ),
 }
 

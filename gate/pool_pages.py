@@ -21,10 +21,10 @@ from gate.verdicts import Control
 SIZES = (16384, 65536)
 # Runs of `kills`: the arguments, except the second, the folder.
 KILLS = (
-    ("run", "400", "0", "1"),
-    ("run", "400", "8", "2"),
+    ("run", "400", "0", "1", "2"),
+    ("run", "400", "8", "2", "8"),
     ("make", "200"),
-    ("step", "997"),
+    ("step", "997", "1"),
 )
 # The seconds after which a program is killed, since it hangs.
 LONGEST = 600

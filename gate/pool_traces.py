@@ -26,15 +26,24 @@ from gate.verdicts import Control
 DIFFERENCE = 1
 # The seconds after which a trace is taken to hang.
 LONGEST = 600
+
+
+def random_trace(seed: int) -> tuple[str, ...]:
+    """Returns the arguments, except the folder, of a random trace with caches or deep slots."""
+    cached = "8" if seed % 2 == 1 else "0"
+    depth = "3" if seed % 4 < 2 else "1"
+    return ("random", str(seed), "400", cached, depth)
+
+
 # The traces of a mutant, which end at the first one that the machine refuses: the arguments, except
 # the second, the folder.
 OF_MUTANT = (
-    ("random", "1", "200", "0"),
-    ("duels", "13"),
-    *(("random", str(seed), "400", str(seed % 2 * 8)) for seed in range(2, 10)),
+    ("random", "1", "200", "0", "1"),
+    ("duels", "13", "1"),
+    *(random_trace(seed) for seed in range(2, 10)),
 )
 # The traces of the code, the longest first.
-OF_CODE = (("duels", "7"), *reversed(OF_MUTANT))
+OF_CODE = (("duels", "7", "3"), *reversed(OF_MUTANT))
 # The word that a mutant has instead of a program if only the machine refuses it.
 MACHINE = "machine"
 # The least number of instructions of each call that have to be stepped and compared.

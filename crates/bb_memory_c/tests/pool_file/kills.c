@@ -1,17 +1,22 @@
 // Kills processes that share a pool in a file, each at an address of its own, and checks that no
-// byte is wrong, no bucket is lost, and no message is missing. Only the processes clean up, when
-// they join and reap.
+// byte is wrong, no bucket is lost, no message is missing, and that messages come in order. Only the
+// processes clean up, when they join and reap.
 //
-//     kills run FOLDER KILLS CACHED THREADS   workers are killed at random moments; each has that
-//                                             many threads, 1 or 2, with a party each
-//     kills make FOLDER KILLS                 makers of the file are killed at random moments
-//     kills step FOLDER STRIDE                a process is killed after each instruction of each
-//                                             call, or after each STRIDE-th of the long calls
-//     kills pause FOLDER STRIDE               a process is stopped there, another party interferes,
-//                                             and the call goes on
+//     kills run FOLDER KILLS CACHED THREADS DEPTH
+//         Workers are killed at random moments. Each has that many threads, 1 or 2, with a party each.
+//     kills make FOLDER KILLS
+//         Makers of the file are killed at random moments.
+//     kills step FOLDER STRIDE DEPTH
+//         A process is killed after each instruction of each call, or after each STRIDE-th of the long
+//         calls.
+//     kills pause FOLDER STRIDE DEPTH
+//         A process is stopped there, another party interferes, and the call goes on.
+//
+// The slots have this depth. For `pause` it is 1, or at least 3.
 #define _GNU_SOURCE
 #include <fcntl.h>
 #include <pthread.h>
+#include <sched.h>
 #include <signal.h>
 #include <spawn.h>
 #include <stdio.h>
@@ -31,10 +36,15 @@ enum {
     WORDS = 8,
     SIZE = WORDS * 8,
     BUCKETS = 64,
+    // The slots that are numbered as the workers have one receiver each: the first thread of that
+    // worker. From ONCE on, a receiver is done with a message before it works on it.
     SLOTS = 8,
+    ONCE = 6,
     // Places where one process leaves the number of a detached bucket for another.
     HANDS = 4,
     BURST = 6,
+    // The most messages that a receiver has taken and isn't done with.
+    MOST_UNDONE = 3,
     // What a look that finds no message notes: this, plus its code.
     NO_LENGTH = 1000,
     // The most threads that live, over all, and the most messages that each posts.
@@ -43,17 +53,38 @@ enum {
     COUNTS_FD = 200
 };
 
-static const bb_pool_file_options OPTIONS = {.bucket_size = SIZE,
-                                             .bucket_align = 64,
-                                             .buckets = BUCKETS,
-                                             .parties = 16,
-                                             .slots = SLOTS,
-                                             .mode = 0};
+static bb_pool_file_options options = {.bucket_size = SIZE,
+                                       .bucket_align = 64,
+                                       .buckets = BUCKETS,
+                                       .parties = 16,
+                                       .slots = SLOTS,
+                                       .depth = 1,
+                                       .mode = 0};
 
 // The messages of a thread: how many it has begun to post, and how many it has posted.
 struct sent {
     uint32_t begun;
     uint32_t posted;
+};
+
+// A message: when its post began and ended, as the clock counts, or 0 if it hasn't ended. A late one
+// may come after younger ones: it was put back, or its receiver or its sender was killed.
+struct message {
+    uint32_t begun;
+    uint32_t ended;
+    uint8_t slot;
+    uint8_t is_late;
+    uint8_t seen;
+};
+
+// What is known of the order of a slot's messages. Of those that were taken, `latest` is the greatest
+// moment at which the post of one began. `unknown` is how many messages may be late that aren't noted
+// as late, since a receiver was killed while it took one. If the slot has one receiver, `put_back` is
+// the message that it has put back, which comes before younger ones.
+struct order {
+    uint32_t latest;
+    uint32_t unknown;
+    uint64_t put_back;
 };
 
 // The counts of the driver and of the workers, in a memfd.
@@ -67,12 +98,24 @@ struct counts {
     uint64_t waited;
     uint64_t reopened;
     uint64_t ends;
+    // How many messages came after one that was posted later.
+    uint64_t passed;
+    uint64_t ordered;
+    // How many receivers were killed that may have been done with a message before they worked on it.
+    uint64_t unworked;
+    // Odd while the driver kills a worker and notes what that had.
+    uint64_t kills;
+    // Counts the beginnings and the ends of posts.
+    uint32_t clock;
+    struct order orders[SLOTS];
+    // What each thread of a worker takes or isn't done with: 0, or the slot plus 1, or the message.
+    uint64_t undone[2 * WORKERS][MOST_UNDONE];
     // The channel of messages by number: each the identification times 256, plus the number plus 1.
     uint64_t hands[HANDS];
     // Where each worker has the region.
     uint64_t starts[LIVES];
     struct sent sent[LIVES];
-    uint8_t seen[LIVES][SEQUENCES];
+    struct message posts[LIVES][SEQUENCES];
 };
 
 static struct counts *counts;
@@ -89,6 +132,8 @@ static void expect(bool holds, const char *what, int line) {
 
 #define EXPECT(holds) expect(holds, #holds, __LINE__)
 #define ADD(field, by) __atomic_fetch_add(&counts->field, by, __ATOMIC_SEQ_CST)
+#define LOAD(word) __atomic_load_n(word, __ATOMIC_SEQ_CST)
+#define STORE(word, value) __atomic_store_n(word, value, __ATOMIC_SEQ_CST)
 
 static uint32_t next(uint32_t *seed) {
     *seed = *seed * 1664525u + 1013904223u;
@@ -127,6 +172,7 @@ static void check(bb_place place, uint64_t id) {
 static bb_pool_file *file;
 static uint32_t cached;
 static uint32_t threads;
+static uint32_t position;
 static _Thread_local bb_file_party *mine;
 static _Thread_local uint32_t life;
 static _Thread_local uint32_t seed;
@@ -139,7 +185,7 @@ static void join(void) {
 }
 
 static void enter(void) {
-    EXPECT(bb_pool_file_open(&file, path, next(&seed) % 2 == 0 ? NULL : &OPTIONS) == BB_OK);
+    EXPECT(bb_pool_file_open(&file, path, next(&seed) % 2 == 0 ? NULL : &options) == BB_OK);
     join();
 }
 
@@ -184,22 +230,127 @@ static void take_some(void) {
     ids += count;
 }
 
+static bool exchange(uint64_t *word, uint64_t from, uint64_t to) {
+    return __atomic_compare_exchange_n(word, &from, to, false, __ATOMIC_SEQ_CST, __ATOMIC_SEQ_CST);
+}
+
+static bool exchange_32(uint32_t *word, uint32_t from, uint32_t to) {
+    return __atomic_compare_exchange_n(word, &from, to, false, __ATOMIC_SEQ_CST, __ATOMIC_SEQ_CST);
+}
+
+// The identification of a message has the sender's life, the slot and the number of the message.
+static uint64_t message_id(uint32_t slot) {
+    return (uint64_t)life << 32 | 1ull << 31 | slot << 16 | sequence;
+}
+
+static uint32_t slot_in(uint64_t id) {
+    return (uint32_t)(id >> 16) % SLOTS;
+}
+
+static struct message *message_of(uint64_t id) {
+    return &counts->posts[(id >> 32) % LIVES][id % SEQUENCES];
+}
+
 static void post(void) {
     if (sequence == SEQUENCES)
         return;
-    const uint64_t id = (uint64_t)life << 32 | 1ull << 31 | sequence;
+    const uint32_t slot = next(&seed) % SLOTS;
+    const uint64_t id = message_id(slot);
     bb_place place = take_one(id);
     if (place == NULL)
         return;
-    __atomic_store_n(&counts->sent[life].begun, sequence + 1, __ATOMIC_SEQ_CST);
-    const uint32_t code = bb_pool_file_post(file, mine, next(&seed) % SLOTS, place, len_of(id));
+    struct message *message = message_of(id);
+    message->slot = (uint8_t)slot;
+    STORE(&message->begun, ADD(clock, 1) + 1);
+    STORE(&counts->sent[life].begun, sequence + 1);
+    const uint32_t code = bb_pool_file_post(file, mine, slot, place, len_of(id));
     if (code == BB_DETACHED_FULL) {
         give_back(place, id);
         return;
     }
     EXPECT(code == BB_OK);
+    STORE(&message->ended, ADD(clock, 1) + 1);
     sequence++;
-    __atomic_store_n(&counts->sent[life].posted, sequence, __ATOMIC_SEQ_CST);
+    STORE(&counts->sent[life].posted, sequence);
+}
+
+// RECEIVERS
+
+// Returns where this thread notes a message that it takes, or isn't done with.
+static uint64_t *undone_at(uint32_t at) {
+    return &counts->undone[2 * position + life % 2][at];
+}
+
+// Waits until the driver has noted what those had whom it has killed so far.
+static void await_notes(void) {
+    while (LOAD(&counts->kills) % 2 != 0)
+        usleep(20);
+}
+
+// Returns whether a receiver of the slot was killed while it took a message, which may be this one.
+static bool may_be_unknown(struct order *order) {
+    for (;;) {
+        const uint32_t unknown = LOAD(&order->unknown);
+        if (unknown == 0)
+            return false;
+        if (exchange_32(&order->unknown, unknown, unknown - 1))
+            return true;
+    }
+}
+
+// Returns whether the post of the message had ended before that moment.
+static bool had_ended(const struct message *message, uint32_t moment) {
+    const uint32_t ended = LOAD(&message->ended);
+    return ended != 0 && ended < moment;
+}
+
+// Checks that a message that was taken isn't late, unless that is noted: its post hadn't ended before
+// the post of another one began that was taken before this take began, when `latest` was noted. If
+// the receiver of the slot has put back another message, the post of that one hadn't ended before
+// this one began.
+static void check_order(uint64_t id, uint32_t latest) {
+    struct order *order = &counts->orders[slot_in(id)];
+    const struct message *message = message_of(id);
+    const uint64_t back = order->put_back;
+    const bool is_after = back != 0 && back != id && had_ended(message_of(back), message->begun);
+    if (had_ended(message, latest) || is_after) {
+        await_notes();
+        if (LOAD(&message->is_late) == 0 && !may_be_unknown(order))
+            ADD(passed, 1);
+    }
+    if (back == id)
+        STORE(&order->put_back, 0);
+    uint32_t greatest = LOAD(&order->latest);
+    while (greatest < message->begun && !exchange_32(&order->latest, greatest, message->begun))
+        greatest = LOAD(&order->latest);
+    ADD(ordered, 1);
+}
+
+// Takes a message, and notes it as this thread's undone message number `at`.
+static bb_message take(uint32_t slot, uint32_t at) {
+    struct order *order = &counts->orders[slot];
+    const uint32_t unknown = LOAD(&order->unknown);
+    const uint32_t latest = LOAD(&order->latest);
+    STORE(undone_at(at), slot + 1);
+    const bb_message got = bb_pool_file_take(file, mine, slot);
+    if (got.code != BB_OK) {
+        EXPECT(got.code == BB_DETACHED_EMPTY || got.code == BB_NOT_HELD);
+        EXPECT(at == 0 || got.code == BB_NOT_HELD);
+        STORE(undone_at(at), 0);
+        // If the slot has no message, it has no late one, either.
+        if (got.code == BB_DETACHED_EMPTY)
+            exchange_32(&order->unknown, unknown, 0);
+        return got;
+    }
+    const uint64_t id = id_in(got.place);
+    STORE(undone_at(at), id);
+    check(got.place, id);
+    if (got.len != len_of(id) || slot_in(id) != slot)
+        ADD(wrong, 1);
+    if (id % SEQUENCES >= LOAD(&counts->sent[(id >> 32) % LIVES].begun))
+        ADD(wrong, 1);
+    check_order(id, latest);
+    return got;
 }
 
 // Tries what is refused as long as the message isn't done.
@@ -213,40 +364,82 @@ static void try_undone(bb_place place) {
         EXPECT(bb_pool_file_post(file, mine, next(&seed) % SLOTS, place, 8) == BB_FILE_NOT_DONE);
 }
 
-// Takes a message. It is noted as seen before it is done with: so it comes at least once, and again
-// only after a kill.
-static bool receive(uint32_t slot) {
-    const bb_message got = bb_pool_file_take(file, mine, slot);
-    if (got.code != BB_OK) {
-        EXPECT(got.code == BB_DETACHED_EMPTY || got.code == BB_NOT_HELD);
-        return false;
-    }
+// Puts back the only message that this thread has taken.
+static void put_back(bb_message got) {
     const uint64_t id = id_in(got.place);
-    try_undone(got.place);
-    if (next(&seed) % 8 == 0) {  // put it back
-        EXPECT(bb_pool_file_detach(file, mine, got.place).number == got.number);
-        return false;
-    }
-    if (next(&seed) % 32 == 0) {  // this puts it back, too
+    const uint32_t slot = slot_in(id);
+    STORE(&message_of(id)->is_late, 1);
+    if (slot < WORKERS)
+        STORE(&counts->orders[slot].put_back, id);
+    if (next(&seed) % 4 == 0)
         EXPECT(bb_pool_file_give_all_back(file, mine) == BB_OK);
-        return false;
+    else
+        EXPECT(bb_pool_file_detach(file, mine, got.place).number == got.number);
+    STORE(undone_at(0), 0);
+}
+
+static void be_done(bb_message got) {
+    const uint32_t slot = slot_in(id_in(got.place));
+    if (options.depth == 1 && next(&seed) % 2 == 0)
+        EXPECT(bb_pool_file_done(file, mine, slot) == BB_OK);
+    else
+        EXPECT(bb_file_party_done(mine, got.place) == BB_OK);
+    EXPECT(bb_file_party_done(mine, got.place) == BB_NOT_HELD);
+}
+
+// Works on a message, and is done with it. If it is done afterwards, the message comes at least once,
+// and again only after a kill. If it is done before that, the message comes at most once.
+static void process(bb_message got, uint32_t at) {
+    const uint64_t id = id_in(got.place);
+    const bool is_once = slot_in(id) >= ONCE;
+    idle();
+    if (is_once)
+        be_done(got);
+    if (__atomic_fetch_add(&message_of(id)->seen, 1, __ATOMIC_SEQ_CST) > 0) {
+        if (is_once)
+            ADD(wrong, 1);
+        ADD(again, 1);
     }
     idle();
     check(got.place, id);
-    if (got.len != len_of(id))
-        ADD(wrong, 1);
-    if (ADD(seen[(id >> 32) % LIVES][id % SEQUENCES], 1) > 0)
-        ADD(again, 1);
-    idle();
-    EXPECT(bb_pool_file_done(file, mine, slot) == BB_OK);
+    if (!is_once)
+        be_done(got);
+    STORE(undone_at(at), 0);
     ADD(messages, 1);
     give_back(got.place, id);
-    return true;
 }
 
-static bool exchange(uint64_t *word, uint64_t from, uint64_t to) {
-    return __atomic_compare_exchange_n(word, &from, to, false, __ATOMIC_SEQ_CST, __ATOMIC_SEQ_CST);
+// Takes messages, and is done with them in another order. Returns the code of the last take.
+static uint32_t receive(uint32_t slot) {
+    const uint32_t most = next(&seed) % 4 == 0 ? MOST_UNDONE : 1;
+    bb_message got[MOST_UNDONE];
+    uint32_t code = BB_OK;
+    uint32_t count = 0;
+    while (count < most) {
+        got[count] = take(slot, count);
+        code = got[count].code;
+        if (code != BB_OK)
+            break;
+        try_undone(got[count].place);
+        count++;
+    }
+    if (count == 1 && next(&seed) % 6 == 0) {
+        put_back(got[0]);
+        return code;
+    }
+    for (; count > 0; count--)
+        process(got[count - 1], count - 1);
+    return code;
 }
+
+// Chooses a slot from which this thread may receive.
+static uint32_t choose_slot(void) {
+    if (life % 2 == 0 && next(&seed) % 2 == 0)
+        return position;
+    return WORKERS + next(&seed) % (SLOTS - WORKERS);
+}
+
+// BY NUMBER
 
 static void send_number(uint64_t *hand) {
     ids++;
@@ -322,12 +515,12 @@ static void reopen(void) {
 static void work(void) {
     while (__atomic_load_n(&counts->ends, __ATOMIC_SEQ_CST) == 0) {
         const uint32_t what = next(&seed) % 64;
-        if (what < 24) {
+        if (what < 22) {
             take_some();
-        } else if (what < 40) {
+        } else if (what < 37) {
             post();
         } else if (what < 55) {
-            receive(next(&seed) % SLOTS);
+            receive(choose_slot());
         } else if (what < 56) {
             wait_a_little();
         } else if (what < 60) {
@@ -374,6 +567,8 @@ static int run_worker(char **argv) {
     life = number;
     cached = (uint32_t)atoi(argv[4]);
     threads = (uint32_t)atoi(argv[5]);
+    options.depth = (uint32_t)atoi(argv[6]);
+    position = (uint32_t)atoi(argv[7]);
     seed = life * 7919;
     move_mappings(65536);
     enter();
@@ -398,14 +593,19 @@ static void end_with_parent(void) {
 
 // RUN
 
-static pid_t start_worker(uint32_t number) {
+static pid_t start_worker(uint32_t number, uint32_t at) {
     extern char **environ;
     char name[16];
     char most[16];
-    char *argv[] = {"kills", "work", path, name, most, threads == 2 ? "2" : "1", NULL};
+    char depth[16];
+    char place[16];
+    char *two = threads == 2 ? "2" : "1";
+    char *argv[] = {"kills", "work", path, name, most, two, depth, place, NULL};
     pid_t process;
     snprintf(name, sizeof name, "%u", 2 * number);
     snprintf(most, sizeof most, "%u", cached);
+    snprintf(depth, sizeof depth, "%u", options.depth);
+    snprintf(place, sizeof place, "%u", at);
     EXPECT(posix_spawn(&process, "/proc/self/exe", NULL, NULL, argv, environ) == 0);
     return process;
 }
@@ -424,18 +624,49 @@ static uint32_t count_addresses(uint32_t lives) {
     return addresses;
 }
 
-// Counts the messages that were posted and not seen, and as wrong those seen and never begun.
-static uint32_t count_missing(uint32_t lives) {
-    uint32_t missing = 0;
+// Notes what a worker that was killed had: the messages that it had taken come again, and the one
+// that it was about to post may come late.
+static void note_killed(uint32_t number, uint32_t at) {
+    counts->orders[at].put_back = 0;
+    for (uint32_t of = 0; of < 2; of++) {
+        uint64_t *undone = counts->undone[2 * at + of];
+        for (uint32_t each = 0; each < MOST_UNDONE; each++) {
+            const uint64_t had = undone[each];
+            undone[each] = 0;
+            if (had == 0)
+                continue;
+            const uint32_t slot = had <= SLOTS ? (uint32_t)had - 1 : slot_in(had);
+            if (had <= SLOTS)
+                __atomic_fetch_add(&counts->orders[slot].unknown, 1, __ATOMIC_SEQ_CST);
+            else
+                STORE(&message_of(had)->is_late, 1);
+            counts->unworked += slot >= ONCE;
+        }
+        const struct sent sent = counts->sent[2 * number + of];
+        if (sent.begun > sent.posted)
+            STORE(&counts->posts[2 * number + of][sent.begun - 1].is_late, 1);
+    }
+}
+
+// The messages that were posted and not seen: those that come at least once, and those that come at
+// most once.
+struct unseen {
+    uint32_t missing;
+    uint32_t unworked;
+};
+
+static struct unseen count_unseen(uint32_t lives) {
+    struct unseen unseen = {0, 0};
     for (uint32_t of = 0; of < lives; of++) {
-        for (uint32_t number = 0; number < SEQUENCES; number++) {
-            if (number < counts->sent[of].posted)
-                missing += counts->seen[of][number] == 0;
-            if (number >= counts->sent[of].begun && counts->seen[of][number] > 0)
-                ADD(wrong, 1);
+        for (uint32_t number = 0; number < counts->sent[of].posted; number++) {
+            const struct message *message = &counts->posts[of][number];
+            if (message->seen == 0 && message->slot < ONCE)
+                unseen.missing++;
+            if (message->seen == 0 && message->slot >= ONCE)
+                unseen.unworked++;
         }
     }
-    return missing;
+    return unseen;
 }
 
 // Receives what is left, and reaps. Returns how many buckets are lost.
@@ -445,9 +676,9 @@ static uint32_t finish(uint32_t lives) {
     cached = 0;
     enter();
     EXPECT(bb_pool_file_reap(file, BB_REAP_HELD, NULL) == BB_OK);
-    for (uint32_t round = 0; round < 64; round++)
-        for (uint32_t slot = 0; slot < SLOTS; slot++)
-            receive(slot);
+    for (uint32_t slot = 0; slot < SLOTS; slot++)
+        while (receive(slot) != BB_DETACHED_EMPTY)
+            continue;
     EXPECT(bb_pool_file_leave(file, mine) == BB_OK);
     EXPECT(bb_pool_file_reap(file, BB_REAP_DEAD | BB_REAP_LEFT, NULL) == BB_OK);
     EXPECT(bb_pool_file_info(file, &figures) == BB_OK);
@@ -456,6 +687,7 @@ static uint32_t finish(uint32_t lives) {
 
 static int run(uint32_t kills) {
     pid_t processes[WORKERS];
+    uint32_t numbers[WORKERS];
     uint32_t lives = 0;
     int status;
     const int fd = memfd_create("counts", 0);
@@ -463,34 +695,43 @@ static int run(uint32_t kills) {
     EXPECT(ftruncate(fd, sizeof *counts) == 0 && dup2(fd, COUNTS_FD) == COUNTS_FD);
     map_counts();
     seed = (uint32_t)getpid();
-    EXPECT(bb_pool_file_open(&file, path, &OPTIONS) == BB_OK);
+    EXPECT(bb_pool_file_open(&file, path, &options) == BB_OK);
     EXPECT(bb_pool_file_close(file) == BB_OK);
-    for (uint32_t at = 0; at < WORKERS; at++)
-        processes[at] = start_worker(lives++);
+    for (uint32_t at = 0; at < WORKERS; at++) {
+        numbers[at] = lives++;
+        processes[at] = start_worker(numbers[at], at);
+    }
     for (uint32_t killed = 0; killed < kills && counts->wrong == 0; killed++) {
         const uint32_t at = next(&seed) % WORKERS;
         usleep(next(&seed) % 1500);
+        ADD(kills, 1);
         EXPECT(kill(processes[at], SIGKILL) == 0 && waitpid(processes[at], &status, 0) > 0);
         EXPECT(WIFSIGNALED(status) && WTERMSIG(status) == SIGKILL);  // it hadn't ended by itself
-        processes[at] = start_worker(lives++);
+        note_killed(numbers[at], at);
+        ADD(kills, 1);
+        numbers[at] = lives++;
+        processes[at] = start_worker(numbers[at], at);
     }
-    __atomic_store_n(&counts->ends, 1, __ATOMIC_SEQ_CST);
+    STORE(&counts->ends, 1);
     for (uint32_t at = 0; at < WORKERS; at++) {
         EXPECT(waitpid(processes[at], &status, 0) > 0);
         EXPECT(WIFEXITED(status) && WEXITSTATUS(status) == 0);
     }
     const uint32_t most_cached = cached;
     const uint32_t lost = finish(2 * lives);
-    const uint32_t missing = count_missing(2 * lives);
-    printf("kills: %u at random, cache %u, threads %u: %u wrong, %u lost, %u messages missing\n",
-           kills, most_cached, threads, (unsigned)counts->wrong, lost, missing);
-    printf("kills: %u addresses, %u takings, %u messages (%u came again), %u by number, "
-           "%u waits, %u opened again, %u buckets reaped\n",
+    const struct unseen unseen = count_unseen(2 * lives);
+    printf("kills: %u at random, cache %u, threads %u, depth %u: %u wrong, %u lost, %u messages "
+           "missing, %u out of order\n",
+           kills, most_cached, threads, options.depth, (unsigned)counts->wrong, lost,
+           unseen.missing, (unsigned)counts->passed);
+    printf("kills: %u addresses, %u takings, %u messages (%u came again, %u were done and then not "
+           "worked on), %u by number, %u waits, %u opened again, %u buckets reaped\n",
            count_addresses(2 * lives), (unsigned)counts->takings, (unsigned)counts->messages,
-           (unsigned)counts->again, (unsigned)counts->numbers, (unsigned)counts->waited,
-           (unsigned)counts->reopened, (unsigned)counts->reaped);
+           (unsigned)counts->again, unseen.unworked, (unsigned)counts->numbers,
+           (unsigned)counts->waited, (unsigned)counts->reopened, (unsigned)counts->reaped);
     EXPECT(counts->messages > 0 || kills < 10);
-    return counts->wrong != 0 || lost + missing != 0 || counts->again > kills;
+    return counts->wrong + counts->passed + lost + unseen.missing != 0 ||
+           unseen.unworked > counts->unworked || counts->again > kills * threads;
 }
 
 // MAKE
@@ -506,7 +747,7 @@ static void make_once(void) {
         if (makers[at] != 0)
             continue;
         end_with_parent();
-        EXPECT(bb_pool_file_open(&file, path, &OPTIONS) == BB_OK);
+        EXPECT(bb_pool_file_open(&file, path, &options) == BB_OK);
         for (int joined = 0; joined < 2; joined++) {
             EXPECT(bb_pool_file_join(file, &mine) == BB_OK);
             EXPECT(bb_file_party_take(mine).code == BB_OK);
@@ -519,7 +760,7 @@ static void make_once(void) {
         kill(makers[at], SIGKILL);
     for (uint32_t at = 0; at < 2; at++)
         EXPECT(waitpid(makers[at], &status, 0) > 0 && WIFSIGNALED(status));
-    EXPECT(bb_pool_file_open(&file, path, &OPTIONS) == BB_OK);
+    EXPECT(bb_pool_file_open(&file, path, &options) == BB_OK);
     EXPECT(bb_pool_file_reap(file, BB_REAP_DEAD, NULL) == BB_OK);
     kill(makers[2], SIGKILL);
     EXPECT(waitpid(makers[2], &status, 0) > 0 && WIFSIGNALED(status));
@@ -544,6 +785,15 @@ static int run_make(uint32_t kills) {
 
 // STEP
 
+// Runs this program and its children on the processor where it is. To step a process that runs on
+// another one takes much longer.
+static void keep_processor(void) {
+    cpu_set_t one;
+    CPU_ZERO(&one);
+    CPU_SET((size_t)sched_getcpu(), &one);
+    EXPECT(sched_setaffinity(0, sizeof one, &one) == 0);
+}
+
 enum {
     OPENS,
     MAKES,
@@ -560,13 +810,17 @@ enum {
     LEAVES,
     CLOSES,
     OPERATIONS,
-    // For `pause` only: a take whose code is noted, a look that notes the message's length, or 0 if
-    // there is none, a reap of detached buckets, and an open that notes how many buckets it finds
-    // held.
+    // For `pause` only: a take whose code is noted, and the message's length, a look that notes the
+    // message's length, or 0 if there is none, a reap of detached buckets, an open that notes how many
+    // buckets it finds held, a post of two messages, and a `done` and a detach of a message that was
+    // taken before.
     NOTES_TAKE,
     NOTES_LOOK,
     REAPS_DETACHED,
-    NOTES_OPEN
+    NOTES_OPEN,
+    POSTS_TWO,
+    IS_DONE,
+    PUTS_TAKEN_BACK
 };
 
 static const char *const NAMES[] = {"open",
@@ -583,6 +837,68 @@ static const char *const NAMES[] = {"open",
                                     "give all back",
                                     "leave",
                                     "close"};
+
+// Posts a message with this identification, which is 8 bytes longer than it says.
+static void post_id(bb_pool_file *to, bb_file_party *party, uint32_t slot, uint64_t id) {
+    const bb_chunk chunk = bb_file_party_take(party);
+    EXPECT(chunk.code == BB_OK);
+    fill(chunk.place, id);
+    EXPECT(bb_pool_file_post(to, party, slot, chunk.place, 8 + id) == BB_OK);
+}
+
+// Returns the identification of such a message, or 0 if there was none to take.
+static uint64_t id_of(bb_message got) {
+    if (got.code != BB_OK) {
+        EXPECT(got.code == BB_DETACHED_EMPTY || got.code == BB_NOT_HELD);
+        return 0;
+    }
+    const uint64_t id = id_in(got.place);
+    EXPECT(is_filled(got.place, id) && got.len == 8 + id);
+    return id;
+}
+
+// Takes this many messages, which have to come with these identifications: the first one, and each
+// the next one.
+static void expect_ids(bb_pool_file *from, bb_file_party *party, uint32_t slot, uint64_t first,
+                       uint32_t count) {
+    for (uint32_t at = 0; at < count; at++)
+        EXPECT(id_of(bb_pool_file_take(from, party, slot)) == first + at);
+}
+
+// Takes the message out of its slot: by the slot's number if the depth is 1.
+static uint32_t be_done_with(bb_pool_file *of, bb_file_party *party, uint32_t slot,
+                             bb_place place) {
+    return options.depth == 1 ? bb_pool_file_done(of, party, slot)
+                              : bb_file_party_done(party, place);
+}
+
+// Has this many messages come and go in the slot, so that the next ones begin at another of its
+// cells.
+static void turn(bb_pool_file *of, bb_file_party *party, uint32_t slot, uint32_t count) {
+    for (uint32_t at = 0; at < count; at++) {
+        post_id(of, party, slot, 1);
+        const bb_message got = bb_pool_file_take(of, party, slot);
+        EXPECT(id_of(got) == 1);
+        EXPECT(be_done_with(of, party, slot, got.place) == BB_OK);
+        EXPECT(bb_file_party_deallocate(party, got.place) == BB_OK);
+    }
+}
+
+// Posts messages until the slot has no room. Returns how many.
+static uint32_t fill_up(bb_pool_file *to, bb_file_party *party, uint32_t slot) {
+    uint32_t count = 0;
+    for (;;) {
+        const bb_chunk chunk = bb_file_party_take(party);
+        EXPECT(chunk.code == BB_OK);
+        const uint32_t code = bb_pool_file_post(to, party, slot, chunk.place, 8);
+        if (code == BB_DETACHED_FULL) {
+            EXPECT(bb_file_party_deallocate(party, chunk.place) == BB_OK);
+            return count;
+        }
+        EXPECT(code == BB_OK);
+        count++;
+    }
+}
 
 // Leaves a dead party that holds two buckets, and one in slot 1 that it had taken.
 static void leave_dead_party(void) {
@@ -607,7 +923,7 @@ struct prepared {
     uint32_t number;
 };
 
-// The note of NOTES_TAKE, NOTES_LOOK or NOTES_OPEN, in shared memory.
+// The notes of NOTES_TAKE, NOTES_LOOK or NOTES_OPEN, in shared memory.
 static uint32_t *noted;
 
 static struct prepared prepare(int what, uint32_t number) {
@@ -621,10 +937,10 @@ static struct prepared prepare(int what, uint32_t number) {
     const bool leaves = what == LEAVES || what == GIVES_ALL_BACK;
     if (what == BURSTS || leaves)
         EXPECT(bb_file_party_cache(mine, 8) == BB_OK);
-    if (what == POSTS || what == DETACHES || leaves || what == CLOSES)
+    if (what == POSTS || what == POSTS_TWO || what == DETACHES || leaves || what == CLOSES)
         prepared.place = bb_file_party_take(mine).place;
     if (prepared.place != NULL)
-        fill(prepared.place, 5);
+        fill(prepared.place, 25);
     if (leaves) {
         bb_place places[2];
         EXPECT(bb_file_party_take_many(mine, places, 2).number == 2);
@@ -632,6 +948,8 @@ static struct prepared prepare(int what, uint32_t number) {
     }
     if (leaves || what == CLOSES)
         EXPECT(bb_pool_file_take(file, mine, 0).code == BB_OK);
+    if (what == IS_DONE || what == PUTS_TAKEN_BACK)
+        prepared.place = bb_pool_file_take(file, mine, 0).place;
     return prepared;
 }
 
@@ -643,7 +961,7 @@ static void take_many(size_t count) {
 
 static void note_open(void) {
     bb_pool_file_figures figures;
-    EXPECT(bb_pool_file_open(&file, path, &OPTIONS) == BB_OK);
+    EXPECT(bb_pool_file_open(&file, path, &options) == BB_OK);
     EXPECT(bb_pool_file_info(file, &figures) == BB_OK);
     *noted = figures.held;
 }
@@ -652,14 +970,14 @@ static void operate(int what, struct prepared with) {
     bb_message got;
     switch (what) {
     case OPENS:
-    case MAKES: EXPECT(bb_pool_file_open(&file, path, &OPTIONS) == BB_OK); break;
+    case MAKES: EXPECT(bb_pool_file_open(&file, path, &options) == BB_OK); break;
     case JOINS: EXPECT(bb_pool_file_join(file, &mine) == BB_OK); break;
     case TAKES: take_many(1); break;
     case BURSTS: take_many(3); break;
     case POSTS: EXPECT(bb_pool_file_post(file, mine, 2, with.place, 33) == BB_OK); break;
     case RECEIVES:
         got = bb_pool_file_take(file, mine, 0);
-        EXPECT(bb_pool_file_done(file, mine, 0) == BB_OK);
+        EXPECT(be_done_with(file, mine, 0, got.place) == BB_OK);
         EXPECT(bb_file_party_deallocate(mine, got.place) == BB_OK);
         break;
     case PUTS_BACK:
@@ -671,7 +989,21 @@ static void operate(int what, struct prepared with) {
     case REAPS: EXPECT(bb_pool_file_reap(file, BB_REAP_HELD, NULL) == BB_OK); break;
     case GIVES_ALL_BACK: EXPECT(bb_pool_file_give_all_back(file, mine) == BB_OK); break;
     case LEAVES: EXPECT(bb_pool_file_leave(file, mine) == BB_OK); break;
-    case NOTES_TAKE: *noted = bb_pool_file_take(file, mine, 0).code; break;
+    case NOTES_TAKE:
+        got = bb_pool_file_take(file, mine, 0);
+        noted[0] = got.code;
+        noted[1] = (uint32_t)got.len;
+        break;
+    case POSTS_TWO:
+        EXPECT(bb_pool_file_post(file, mine, 0, with.place, 33) == BB_OK);
+        post_id(file, mine, 0, 26);
+        break;
+    case IS_DONE:
+        EXPECT(bb_file_party_done(mine, with.place) == BB_OK);
+        break;
+    case PUTS_TAKEN_BACK:
+        EXPECT(bb_pool_file_detach(file, mine, with.place).code == BB_OK);
+        break;
     case NOTES_LOOK:
         got = bb_pool_file_look(file, 0);
         *noted = got.code == BB_OK ? (uint32_t)got.len : NO_LENGTH + got.code;
@@ -758,7 +1090,7 @@ static bool step_make(uint32_t steps) {
     bb_pool_file *ours;
     bb_pool_file_figures figures;
     const bool ended = run_steps(MAKES, steps, 0);
-    EXPECT(bb_pool_file_open(&ours, path, &OPTIONS) == BB_OK);
+    EXPECT(bb_pool_file_open(&ours, path, &options) == BB_OK);
     EXPECT(bb_pool_file_info(ours, &figures) == BB_OK);
     EXPECT(figures.held + figures.detached + figures.wrong + figures.alive == 0);
     EXPECT(bb_pool_file_close(ours) == BB_OK);
@@ -768,10 +1100,10 @@ static bool step_make(uint32_t steps) {
 // Looks at what a killed `detach` or `attach` by number leaves.
 static void check_number(bb_pool_file *ours, int what, uint32_t detached, struct outcome *outcome) {
     bb_pool_file_figures figures;
-    const uint32_t messages = what == DETACHES ? 1 : 0;
+    const uint32_t messages = what == DETACHES ? options.depth : 0;
     if (what == DETACHES) {
-        EXPECT(detached == 1 || detached == 2);
-        note(outcome, detached == 2);
+        EXPECT(detached == messages || detached == messages + 1);
+        note(outcome, detached == messages + 1);
     } else {
         EXPECT(detached <= 1);
         note(outcome, detached == 0);
@@ -784,15 +1116,20 @@ static void check_number(bb_pool_file *ours, int what, uint32_t detached, struct
 }
 
 // Kills a process that many steps into the operation, and looks at what it leaves: each bucket is
-// free, but for those of messages, and each message was sent or not.
+// free, but for those of messages, and each message was sent or not. The other messages of the slots
+// come in order, and the slots have as much room as is left.
 static bool step_once(int what, uint32_t steps, struct outcome *outcome) {
     bb_pool_file *ours;
     bb_file_party *party;
     bb_pool_file_figures figures;
-    EXPECT(bb_pool_file_open(&ours, path, &OPTIONS) == BB_OK);
+    EXPECT(bb_pool_file_open(&ours, path, &options) == BB_OK);
     EXPECT(bb_pool_file_join(ours, &party) == BB_OK);
+    // How many messages come before or after the one that the operation is about.
+    const uint32_t others = options.depth - 1;
+    for (uint32_t slot = 0; slot < 3; slot++)
+        turn(ours, party, slot, others);
     const bb_chunk chunk = bb_file_party_take(party);
-    fill(chunk.place, 99);
+    fill(chunk.place, 36);
     const uint32_t number = (uint32_t)bb_file_party_number_at(party, chunk.place).number;
     if (what == ATTACHES)
         EXPECT(bb_pool_file_detach(ours, party, chunk.place).code == BB_OK);
@@ -801,6 +1138,14 @@ static bool step_once(int what, uint32_t steps, struct outcome *outcome) {
     const bool has_dead = what == JOINS || what == REAPS || what == OPENS;
     if (has_dead)
         leave_dead_party();
+    for (uint32_t at = 0; at < others; at++) {
+        if (what != ATTACHES)
+            post_id(ours, party, 0, 10 + at);
+        if (has_dead)
+            post_id(ours, party, 1, 20 + at);
+        if (what == POSTS)
+            post_id(ours, party, 2, 30 + at);
+    }
     const bool ended = run_steps(what, steps, number);
     EXPECT(bb_pool_file_reap(ours, BB_REAP_HELD, NULL) == BB_OK);
     EXPECT(bb_pool_file_info(ours, &figures) == BB_OK);
@@ -812,28 +1157,37 @@ static bool step_once(int what, uint32_t steps, struct outcome *outcome) {
     if (has_dead) {
         const bb_message of_dead = bb_pool_file_take(ours, party, 1);
         EXPECT(of_dead.code == BB_OK && of_dead.len == 9 && is_filled(of_dead.place, 77));
+        expect_ids(ours, party, 1, 20, others);
     }
     if (what == POSTS) {
+        expect_ids(ours, party, 2, 30, others);
         const bb_message posted = bb_pool_file_take(ours, party, 2);
         if (posted.code == BB_OK)
-            EXPECT(posted.len == 33 && is_filled(posted.place, 5));
+            EXPECT(id_of(posted) == 25);
         else
-            EXPECT(posted.code == BB_DETACHED_EMPTY);
+            EXPECT(posted.code == (others == 0 ? BB_DETACHED_EMPTY : BB_NOT_HELD));
         note(outcome, posted.code == BB_OK);
+        EXPECT(fill_up(ours, party, 2) == (posted.code == BB_OK ? 0 : 1));
     }
-    const bb_message first = bb_pool_file_take(ours, party, 0);
-    if (first.code == BB_OK)
-        EXPECT(first.len == 44 && first.number == number && is_filled(first.place, 99));
-    else
-        EXPECT(first.code == BB_DETACHED_EMPTY && (what == RECEIVES || what == ATTACHES));
+    const bool is_there = figures.messages == (has_dead ? 2 : 1) * options.depth;
     if (what == RECEIVES)
-        note(outcome, first.code != BB_OK);
+        note(outcome, !is_there);
+    else if (what != POSTS)
+        EXPECT(is_there == (what != ATTACHES));
+    if (what != ATTACHES && (what == POSTS || is_there)) {
+        const bb_message first = bb_pool_file_take(ours, party, 0);
+        EXPECT(first.code == BB_OK && first.number == number && id_of(first) == 36);
+    }
+    expect_ids(ours, party, 0, 10, what == ATTACHES ? 0 : others);
+    if (what != ATTACHES)
+        EXPECT(fill_up(ours, party, 0) == (what == RECEIVES && !is_there ? 1 : 0));
     EXPECT(bb_pool_file_close(ours) == BB_OK);
     return ended;
 }
 
 static int run_step(uint32_t long_stride) {
     uint32_t kills = 0;
+    keep_processor();
     for (int what = 0; what < OPERATIONS; what++) {
         const uint32_t stride = is_long(what) ? long_stride : 1;
         struct outcome outcome = {0, 0};
@@ -919,7 +1273,7 @@ struct stopped_take {
 // lets `party` take it.
 static struct stopped_take stop_take(bb_pool_file *ours, bb_file_party *party, uint32_t steps) {
     const bb_chunk chunk = bb_file_party_take(party);
-    fill(chunk.place, 99);
+    fill(chunk.place, 36);
     EXPECT(bb_pool_file_post(ours, party, 0, chunk.place, 44) == BB_OK);
     const pid_t child = start(NOTES_TAKE, 0);
     const bool ended = go(child, steps);
@@ -933,7 +1287,7 @@ static bool pause_take(bb_pool_file *ours, bb_file_party *party, uint32_t steps)
     const struct stopped_take take = stop_take(ours, party, steps);
     const bb_message message = take.message;
     if (message.code == BB_OK) {
-        EXPECT(bb_pool_file_done(ours, party, 0) == BB_OK);
+        EXPECT(be_done_with(ours, party, 0, message.place) == BB_OK);
         fill(message.place, 55);
         EXPECT(bb_pool_file_detach(ours, party, message.place).code == BB_OK);
     }
@@ -960,7 +1314,7 @@ static bool pause_posted(bb_pool_file *ours, bb_file_party *party, uint32_t step
     const struct stopped_take take = stop_take(ours, party, steps);
     const bb_message message = take.message;
     if (message.code == BB_OK) {
-        EXPECT(bb_pool_file_done(ours, party, 0) == BB_OK);
+        EXPECT(be_done_with(ours, party, 0, message.place) == BB_OK);
         fill(message.place, 55);
         EXPECT(bb_pool_file_post(ours, party, 1, message.place, 17) == BB_OK);
     }
@@ -971,7 +1325,7 @@ static bool pause_posted(bb_pool_file *ours, bb_file_party *party, uint32_t step
         expect_flag(ours, message.number, BB_SENT, 1);
         const bb_message again = bb_pool_file_take(ours, party, 1);
         EXPECT(again.code == BB_OK && again.len == 17 && is_filled(again.place, 55));
-        EXPECT(bb_pool_file_done(ours, party, 1) == BB_OK);
+        EXPECT(be_done_with(ours, party, 1, again.place) == BB_OK);
     } else {
         EXPECT(*noted == BB_OK);
     }
@@ -981,7 +1335,8 @@ static bool pause_posted(bb_pool_file *ours, bb_file_party *party, uint32_t step
 
 // While a look is stopped, a party takes the message, is done with it, and posts its bucket with
 // another length: to the same slot, to another one, or to both. Or it posts another bucket to the
-// slot. The look finds a message that the slot had, with its length, or that the slot is empty.
+// slot. The look finds a message that the slot had, with its length, or that the slot is empty. In a
+// slot of a greater depth, a later message is in another cell, so the slot may be found empty.
 static bool pause_look(bb_pool_file *ours, bb_file_party *party, uint32_t steps) {
     enum {
         TO_THE_SAME,
@@ -998,20 +1353,21 @@ static bool pause_look(bb_pool_file *ours, bb_file_party *party, uint32_t steps)
     const pid_t child = start(NOTES_LOOK, 0);
     const bool ended = go(child, steps);
     EXPECT(bb_pool_file_take(ours, party, 0).len == 44);
-    EXPECT(bb_pool_file_done(ours, party, 0) == BB_OK);
+    EXPECT(be_done_with(ours, party, 0, chunk.place) == BB_OK);
     if (way == TO_ANOTHER || way == TO_BOTH) {
         EXPECT(bb_pool_file_post(ours, party, 1, chunk.place, 17) == BB_OK);
         EXPECT(bb_pool_file_take(ours, party, 1).len == 17);
     }
     if (way == TO_BOTH)
-        EXPECT(bb_pool_file_done(ours, party, 1) == BB_OK);
+        EXPECT(be_done_with(ours, party, 1, chunk.place) == BB_OK);
     if (way == TO_THE_SAME || way == TO_BOTH)
         EXPECT(bb_pool_file_post(ours, party, 0, chunk.place, 33) == BB_OK);
     if (way == OF_ANOTHER)
         EXPECT(bb_pool_file_post(ours, party, 0, bb_file_party_take(party).place, 22) == BB_OK);
     if (!ended)
         go_on(child);
-    EXPECT(*noted == 44 || *noted == later[way]);
+    const bool is_empty = options.depth > 1 && *noted == NO_LENGTH + BB_DETACHED_EMPTY;
+    EXPECT(*noted == 44 || *noted == later[way] || is_empty);
     end_killed(child);
     return ended;
 }
@@ -1020,7 +1376,7 @@ static bool pause_look(bb_pool_file *ours, bb_file_party *party, uint32_t steps)
 static bool pause_leave(bb_pool_file *ours, bb_file_party *party, uint32_t steps) {
     bb_file_party *other;
     const bb_chunk chunk = bb_file_party_take(party);
-    fill(chunk.place, 99);
+    fill(chunk.place, 36);
     EXPECT(bb_pool_file_post(ours, party, 0, chunk.place, 44) == BB_OK);
     const pid_t child = start(LEAVES, 0);
     const bool ended = go(child, steps);
@@ -1051,7 +1407,7 @@ static bool pause_open(bb_pool_file *ours, bb_file_party *party, uint32_t steps)
     bb_file_party *joined;
     const size_t length = strlen(path);
     path[length] = '2';
-    EXPECT(bb_pool_file_open(&other, path, &OPTIONS) == BB_OK);
+    EXPECT(bb_pool_file_open(&other, path, &options) == BB_OK);
     EXPECT(bb_pool_file_close(other) == BB_OK);
     const int fd = open(path, O_RDWR | O_CLOEXEC);
     EXPECT(fd >= 0);
@@ -1059,7 +1415,7 @@ static bool pause_open(bb_pool_file *ours, bb_file_party *party, uint32_t steps)
     const bool ended = go(child, steps);
     const bool has_lock = is_locked(fd, 0) || is_locked(fd, 1);
     EXPECT(close(fd) == 0 && unlink(path) == 0);
-    EXPECT(bb_pool_file_open(&other, path, &OPTIONS) == BB_OK);
+    EXPECT(bb_pool_file_open(&other, path, &options) == BB_OK);
     EXPECT(bb_pool_file_join(other, &joined) == BB_OK);
     EXPECT(bb_file_party_take(joined).code == BB_OK);
     if (!ended)
@@ -1071,24 +1427,203 @@ static bool pause_open(bb_pool_file *ours, bb_file_party *party, uint32_t steps)
     return ended;
 }
 
+// OF A GREATER DEPTH
+
+// How often a scene had each of its outcomes.
+static uint32_t outcomes[3];
+
+static bool is_sent(bb_pool_file *ours, uint32_t number) {
+    bb_holder flag;
+    EXPECT(bb_pool_file_holder(ours, number, &flag) == BB_OK);
+    return flag.state == BB_SENT;
+}
+
+// While a post is stopped, another party posts two messages, and takes one. The stopped message comes
+// last if it wasn't in the slot then. If it was there and wasn't sent yet, it is passed, and comes
+// next once it is sent.
+static bool pause_passed(bb_pool_file *ours, bb_file_party *party, uint32_t steps) {
+    static const uint64_t orders[3][3] = {{21, 22, 25}, {21, 25, 22}, {25, 21, 22}};
+    turn(ours, party, 2, steps % options.depth);
+    const pid_t child = start(POSTS, 0);
+    const bool ended = go(child, steps);
+    const bb_message found = bb_pool_file_look(ours, 2);
+    uint32_t outcome = 0;
+    if (found.code == BB_OK)
+        outcome = is_sent(ours, found.number) ? 2 : 1;
+    post_id(ours, party, 2, 21);
+    post_id(ours, party, 2, 22);
+    EXPECT(id_of(bb_pool_file_take(ours, party, 2)) == orders[outcome][0]);
+    if (!ended)
+        go_on(child);
+    for (int at = 1; at < 3; at++)
+        EXPECT(id_of(bb_pool_file_take(ours, party, 2)) == orders[outcome][at]);
+    end_killed(child);
+    outcomes[outcome]++;
+    return ended;
+}
+
+// A post is stopped as soon as its message is in the slot, and then a take is stopped. The sender
+// goes on, and posts a second message. The take gets the first one, or none.
+static bool pause_take_again(bb_pool_file *ours, bb_file_party *party, uint32_t steps) {
+    turn(ours, party, 0, steps % options.depth);
+    const pid_t sender = start(POSTS_TWO, 0);
+    while (bb_pool_file_look(ours, 0).code == BB_DETACHED_EMPTY)
+        EXPECT(!go(sender, 1));
+    const pid_t receiver = start(NOTES_TAKE, 0);
+    const bool ended = go(receiver, steps);
+    go_on(sender);
+    if (!ended)
+        go_on(receiver);
+    if (noted[0] == BB_OK) {
+        EXPECT(noted[1] == 33);
+    } else {
+        EXPECT(noted[0] == BB_NOT_HELD);
+        EXPECT(id_of(bb_pool_file_take(ours, party, 0)) == 25);
+    }
+    EXPECT(id_of(bb_pool_file_take(ours, party, 0)) == 26);
+    outcomes[noted[0] != BB_OK]++;
+    end_killed(sender);
+    end_killed(receiver);
+    return ended;
+}
+
+// While a take is stopped, another party takes the message, is done with it, and posts its bucket to
+// the same slot, and a message behind that. The take gets the message in that bucket, or none.
+static bool pause_posted_behind(bb_pool_file *ours, bb_file_party *party, uint32_t steps) {
+    turn(ours, party, 0, steps % options.depth);
+    const struct stopped_take take = stop_take(ours, party, steps);
+    const bb_message message = take.message;
+    if (message.code == BB_OK) {
+        EXPECT(bb_file_party_done(party, message.place) == BB_OK);
+        fill(message.place, 25);
+        EXPECT(bb_pool_file_post(ours, party, 0, message.place, 33) == BB_OK);
+    }
+    post_id(ours, party, 0, 26);
+    if (!take.ended)
+        go_on(take.child);
+    if (message.code != BB_OK) {
+        EXPECT(noted[0] == BB_OK && noted[1] == 44);
+    } else if (noted[0] == BB_OK) {
+        EXPECT(noted[1] == 33);
+    } else {
+        EXPECT(noted[0] == BB_NOT_HELD || noted[0] == BB_DETACHED_EMPTY);
+        EXPECT(id_of(bb_pool_file_take(ours, party, 0)) == 25);
+    }
+    EXPECT(id_of(bb_pool_file_take(ours, party, 0)) == 26);
+    end_killed(take.child);
+    outcomes[message.code == BB_OK]++;
+    return take.ended;
+}
+
+// While a party is stopped that is to be done with the oldest message, another one is done with the
+// second one. The slot gets room for two when the first party is done.
+static bool pause_done(bb_pool_file *ours, bb_file_party *party, uint32_t steps) {
+    bb_pool_file_figures figures;
+    turn(ours, party, 0, steps % options.depth);
+    for (uint32_t at = 0; at < options.depth; at++)
+        post_id(ours, party, 0, 21 + at);
+    const pid_t child = start(IS_DONE, 0);
+    const bool ended = go(child, steps);
+    const bb_message second = bb_pool_file_take(ours, party, 0);
+    EXPECT(id_of(second) == 22);
+    EXPECT(bb_file_party_done(party, second.place) == BB_OK);
+    EXPECT(bb_pool_file_info(ours, &figures) == BB_OK);
+    const bool is_done = figures.messages == options.depth - 2;
+    EXPECT(is_done || figures.messages == options.depth - 1);
+    EXPECT(bb_pool_file_wait_empty(ours, 0, 0) == (is_done ? BB_OK : BB_FILE_TIMED_OUT));
+    EXPECT(fill_up(ours, party, 0) == (is_done ? 2 : 0));
+    if (!ended)
+        go_on(child);
+    EXPECT(fill_up(ours, party, 0) == (is_done ? 0 : 2));
+    expect_ids(ours, party, 0, 23, options.depth - 2);
+    end_killed(child);
+    outcomes[is_done]++;
+    return ended;
+}
+
+// While a party is stopped that puts back the older of two messages, another one takes the older one
+// if it is back already, otherwise the younger one.
+static bool pause_put_back(bb_pool_file *ours, bb_file_party *party, uint32_t steps) {
+    turn(ours, party, 0, steps % options.depth);
+    post_id(ours, party, 0, 21);
+    post_id(ours, party, 0, 22);
+    const uint32_t older = bb_pool_file_look(ours, 0).number;
+    const pid_t child = start(PUTS_TAKEN_BACK, 0);
+    const bool ended = go(child, steps);
+    const bool is_back = is_sent(ours, older);
+    EXPECT(id_of(bb_pool_file_take(ours, party, 0)) == (is_back ? 21 : 22));
+    if (!ended)
+        go_on(child);
+    EXPECT(id_of(bb_pool_file_take(ours, party, 0)) == (is_back ? 22 : 21));
+    end_killed(child);
+    outcomes[is_back]++;
+    return ended;
+}
+
+// While a look is stopped, another party posts a message behind the only one. The look finds the
+// older one.
+static bool pause_look_behind(bb_pool_file *ours, bb_file_party *party, uint32_t steps) {
+    turn(ours, party, 0, steps % options.depth);
+    post_id(ours, party, 0, 36);
+    const pid_t child = start(NOTES_LOOK, 0);
+    const bool ended = go(child, steps);
+    post_id(ours, party, 0, 26);
+    if (!ended)
+        go_on(child);
+    EXPECT(*noted == 44);
+    end_killed(child);
+    return ended;
+}
+
+// A scene of `pause`: it stops a process after that many instructions, and returns whether the
+// operation had ended before.
+struct scene {
+    const char *name;
+    bool (*play)(bb_pool_file *ours, bb_file_party *party, uint32_t steps);
+    // Whether it is long, so that it doesn't stop after each instruction, and is the same for slots of
+    // each depth.
+    bool is_long;
+    // Whether it needs a depth of at least 3, and then how many outcomes it has.
+    bool is_deep;
+    uint32_t outcomes;
+};
+
 static int run_pause(uint32_t long_stride) {
-    bool (*const scenes[])(bb_pool_file *, bb_file_party *, uint32_t) = {
-        pause_take, pause_posted, pause_look, pause_reap, pause_leave, pause_open};
-    const char *const names[] = {"take", "take, posted again", "look", "reap", "leave", "open"};
+    static const struct scene scenes[] = {
+        {"take", pause_take, false, false, 0},
+        {"take, posted again", pause_posted, false, false, 0},
+        {"look", pause_look, false, false, 0},
+        {"reap", pause_reap, true, false, 0},
+        {"leave", pause_leave, true, false, 0},
+        {"open", pause_open, true, false, 0},
+        {"post, passed", pause_passed, false, true, 3},
+        {"take, looks again", pause_take_again, false, true, 2},
+        {"take, posted behind", pause_posted_behind, false, true, 2},
+        {"done", pause_done, false, true, 2},
+        {"put back", pause_put_back, false, true, 2},
+        {"look, posted behind", pause_look_behind, false, true, 0},
+    };
+    const bool is_deep = options.depth > 1;
+    EXPECT(!is_deep || options.depth >= 3);
+    keep_processor();
     noted = mmap(NULL, 4096, PROT_READ | PROT_WRITE, MAP_SHARED | MAP_ANONYMOUS, -1, 0);
     EXPECT(noted != MAP_FAILED);
-    for (int scene = 0; scene < 6; scene++) {
-        const uint32_t stride = scene < 3 ? 1 : long_stride;
+    for (size_t at = 0; at < sizeof scenes / sizeof *scenes; at++) {
+        const struct scene *scene = &scenes[at];
+        if (is_deep ? scene->is_long : scene->is_deep)
+            continue;
+        const uint32_t stride = scene->is_long ? long_stride : 1;
         uint32_t steps = 1;
+        memset(outcomes, 0, sizeof outcomes);
         for (bool ended = false; !ended; steps += stride) {
             bb_pool_file *ours;
             bb_file_party *party;
             bb_pool_file_figures figures;
             unlink(path);
-            EXPECT(bb_pool_file_open(&ours, path, &OPTIONS) == BB_OK);
+            EXPECT(bb_pool_file_open(&ours, path, &options) == BB_OK);
             EXPECT(bb_pool_file_join(ours, &party) == BB_OK);
-            ended = scenes[scene](ours, party, steps);
-            EXPECT(bb_pool_file_done(ours, party, 0) != BB_INVALID_ARGUMENT);
+            ended = scene->play(ours, party, steps);
+            EXPECT(is_deep || bb_pool_file_done(ours, party, 0) != BB_INVALID_ARGUMENT);
             EXPECT(bb_pool_file_close(ours) == BB_OK);
             EXPECT(bb_pool_file_open(&ours, path, NULL) == BB_OK);
             EXPECT(bb_pool_file_reap(ours, BB_REAP_DEAD, NULL) == BB_OK);
@@ -1096,7 +1631,9 @@ static int run_pause(uint32_t long_stride) {
             EXPECT(figures.held + figures.wrong == 0 && figures.detached == figures.messages);
             EXPECT(bb_pool_file_close(ours) == BB_OK);
         }
-        printf("kills: %-24s stopped after each", names[scene]);
+        for (uint32_t outcome = 0; outcome < scene->outcomes; outcome++)
+            EXPECT(outcomes[outcome] > 0);
+        printf("kills: %-24s stopped after each", scene->name);
         if (stride > 1)
             printf(" %uth", stride);
         printf(" of %u instructions\n", steps - stride);
@@ -1105,26 +1642,29 @@ static int run_pause(uint32_t long_stride) {
 }
 
 int main(int argc, char **argv) {
-    if (argc == 6 && strcmp(argv[1], "work") == 0)
+    if (argc == 8 && strcmp(argv[1], "work") == 0)
         return run_worker(argv);
     int status = 2;
     if (argc > 2)
         snprintf(path, sizeof path, "%s/bb-kills-%d", argv[2], (int)getpid());
-    if (argc == 6 && strcmp(argv[1], "run") == 0) {
+    if (argc == 7 && strcmp(argv[1], "run") == 0) {
         cached = (uint32_t)atoi(argv[4]);
         threads = (uint32_t)atoi(argv[5]);
+        options.depth = (uint32_t)atoi(argv[6]);
         status = run((uint32_t)atoi(argv[3]));
     } else if (argc == 4 && strcmp(argv[1], "make") == 0) {
         status = run_make((uint32_t)atoi(argv[3]));
-    } else if (argc == 4 && strcmp(argv[1], "step") == 0) {
+    } else if (argc == 5 && strcmp(argv[1], "step") == 0) {
+        options.depth = (uint32_t)atoi(argv[4]);
         status = run_step((uint32_t)atoi(argv[3]));
-    } else if (argc == 4 && strcmp(argv[1], "pause") == 0) {
+    } else if (argc == 5 && strcmp(argv[1], "pause") == 0) {
+        options.depth = (uint32_t)atoi(argv[4]);
         status = run_pause((uint32_t)atoi(argv[3]));
     } else {
-        fprintf(stderr, "usage: kills run FOLDER KILLS CACHED THREADS\n"
+        fprintf(stderr, "usage: kills run FOLDER KILLS CACHED THREADS DEPTH\n"
                         "       kills make FOLDER KILLS\n"
-                        "       kills step FOLDER STRIDE\n"
-                        "       kills pause FOLDER STRIDE\n");
+                        "       kills step FOLDER STRIDE DEPTH\n"
+                        "       kills pause FOLDER STRIDE DEPTH\n");
     }
     unlink(path);
     return status;

@@ -3,16 +3,21 @@
 // the file, and writes a line for each change. The program `file_replay` reads the trace, and has the
 // proved machine take the same steps.
 //
-//     trace random FOLDER SEED CALLS CACHED
+//     trace random FOLDER SEED CALLS CACHED DEPTH
 //         Processes make calls that are chosen at random, each party caches up to CACHED buckets, and
 //         turns have random lengths. So calls interrupt each other anywhere, and some processes are
 //         killed anywhere.
-//     trace duels FOLDER STRIDE
+//     trace duels FOLDER STRIDE DEPTH
 //         A post is stopped after each instruction, and another process takes the message, or posts
 //         to the slot. A process is killed after each instruction from the first change in a post or
 //         a `done` on, and reaped. A take of a message, and a reap with detached buckets, are
 //         stopped after each STRIDE-th instruction, and another process takes the bucket and sends it
 //         elsewhere.
+//
+// The file's slots have this depth. The machine calls each cell of a slot a slot, and so do the lines:
+// a line that a call begins with names the cell that the call changes, or the first cell of the slot
+// if it changes none. A post that finds its cell filled clears the bucket's entry, and tries the next
+// cell: in the trace each try is a post.
 //
 // The lines, in which P is a process, K a party's number, B a bucket, S a slot and L a length:
 //
@@ -57,6 +62,8 @@
 enum {
     PARTIES = 4,
     SLOTS = 3,
+    // The greatest depth of a slot.
+    DEEPEST = 3,
     BUCKETS = 8,
     SIZE = 64,
     PAGE = 4096,
@@ -66,7 +73,9 @@ enum {
     FIRST_SLOT = 64,
     WORDS_IN_SLOT = 16,
     // The byte of the file whose lock is that of number 0.
-    FIRST_LOCK = 2
+    FIRST_LOCK = 2,
+    // The lowest two bits of the flag of a bucket that is sent to a slot.
+    SENT = 3
 };
 
 enum {
@@ -80,12 +89,13 @@ enum {
     LONGEST_TURN = 4096
 };
 
-static const bb_pool_file_options OPTIONS = {.bucket_size = SIZE,
-                                             .bucket_align = 64,
-                                             .buckets = BUCKETS,
-                                             .parties = PARTIES,
-                                             .slots = SLOTS,
-                                             .mode = 0};
+static bb_pool_file_options options = {.bucket_size = SIZE,
+                                       .bucket_align = 64,
+                                       .buckets = BUCKETS,
+                                       .parties = PARTIES,
+                                       .slots = SLOTS,
+                                       .depth = 1,
+                                       .mode = 0};
 
 enum call {
     OPEN,
@@ -252,8 +262,10 @@ static void choose_call(void) {
         mine->bucket = find_detached(mine->bucket);
     if (mine->call == DETACH && !is_bad)
         mine->bucket = message < BUCKETS && next(&seed) % 2 == 0 ? message : out % BUCKETS;
-    if (mine->call == DONE && message < BUCKETS && !is_bad)
+    if (mine->call == DONE && message < BUCKETS && !is_bad) {
         mine->slot = slots_of[message];
+        mine->bucket = message;
+    }
 }
 
 static void choose(void) {
@@ -279,8 +291,8 @@ static void choose(void) {
 
 static uint32_t open_pool(bb_pool_file **to) {
     if (me % 2 == 0)
-        return bb_pool_file_open(to, path, &OPTIONS);
-    return bb_pool_file_open_fd(to, inherited, &OPTIONS);
+        return bb_pool_file_open(to, path, &options);
+    return bb_pool_file_open_fd(to, inherited, &options);
 }
 
 // Looks at the figures, or opens the file a second time, or closes that. No word changes.
@@ -344,7 +356,11 @@ static void operate(void) {
         mine->got = message.number;
         mine->got_len = message.len;
         break;
-    default: mine->code = bb_pool_file_done(file, party, mine->slot);
+    default:
+        if (options.depth == 1)
+            mine->code = bb_pool_file_done(file, party, mine->slot);
+        else
+            mine->code = bb_file_party_done(party, place_at(mine->party, mine->bucket));
     }
     if (mine->call == ALLOCATE && mine->code == BB_OK)
         mine->got = (uint32_t)bb_file_party_number_at(party, chunk.place).number;
@@ -373,8 +389,10 @@ static void note_hands(void) {
         break;
     case DONE:
         for (uint32_t bucket = 0; bucket < BUCKETS; bucket++)
-            if (hand[bucket] == MESSAGE && slots_of[bucket] == mine->slot)
+            if (hand[bucket] == MESSAGE && slots_of[bucket] == mine->slot && options.depth == 1)
                 hand[bucket] = OUT;
+        if (options.depth > 1)
+            hand[mine->bucket] = OUT;
         break;
     default: break;
     }
@@ -534,7 +552,7 @@ static const uint64_t *words;
 static int watching;
 static uint64_t flags[BUCKETS];
 static uint64_t entries[BUCKETS];
-static uint64_t slots[SLOTS];
+static uint64_t slots[SLOTS * DEEPEST];
 static uint64_t lives[PARTIES];
 static bool locks[PARTIES];
 
@@ -554,6 +572,57 @@ static uint64_t stepped[CALLS];
 static uint64_t made[CALLS];
 static uint32_t turns;
 
+// The event with which the last call of each process began, and whether that is a post that has
+// changed an entry.
+static size_t begun[PROCESSES];
+static bool tried[PROCESSES];
+
+// Returns the cell that an entry names, or a greater number if it names none.
+static uint32_t cell_in(uint64_t entry) {
+    return (uint32_t)entry - 1;
+}
+
+// Adds the event that a call begins, with the first cell of its slot. A `done` is of the cell that has
+// the message; if there is none, the call changes nothing.
+static void begin(uint32_t process) {
+    begun[process] = count;
+    tried[process] = false;
+    struct shared *call = &add(BEGINS, process)->call;
+    *call = shared[process];
+    call->slot *= options.depth;
+    if (call->call != DONE || options.depth == 1)
+        return;
+    const uint32_t cell = cell_in(entries[call->bucket]);
+    if (cell < SLOTS * options.depth && (uint32_t)slots[cell] == call->bucket + 1)
+        call->slot = cell;
+    else
+        call->call = SHOW;
+}
+
+// Notes that the last call of the process changes this cell, if it is one of the call's slot.
+static void note_cell(uint32_t process, uint32_t cell) {
+    if (cell / options.depth == shared[process].slot)
+        events[begun[process]].call.slot = cell;
+}
+
+// Notes which cell a post or a take changes, before its change of a word. If the post has tried
+// another cell before, it begins anew.
+static void note_change(enum kind kind, uint32_t process, uint64_t from, uint64_t to) {
+    const struct shared *call = &shared[process];
+    if (call->call == TAKE && kind == FLAG && from % 4 == SENT)
+        note_cell(process, (uint32_t)(from >> 2));
+    if (call->call != POST || kind != ENTRY || to == 0)
+        return;
+    if (tried[process]) {
+        struct event *event = add(RETURNS, process);
+        event->call = *call;
+        event->call.code = BB_DETACHED_FULL;
+        begin(process);
+    }
+    tried[process] = true;
+    note_cell(process, cell_in(to));
+}
+
 static bool is_locked(uint32_t party) {
     struct flock flock = {
         .l_type = F_WRLCK, .l_whence = SEEK_SET, .l_start = FIRST_LOCK + party, .l_len = 1};
@@ -562,6 +631,7 @@ static bool is_locked(uint32_t party) {
 }
 
 static void change(enum kind kind, uint32_t process, uint32_t at, uint64_t from, uint64_t to) {
+    note_change(kind, process, from, to);
     struct event *event = add(kind, process);
     event->at = at;
     event->from = from;
@@ -583,7 +653,7 @@ static void compare(uint32_t process) {
             change(ENTRY, process, bucket, entries[bucket], word);
         entries[bucket] = word;
     }
-    for (uint32_t slot = 0; slot < SLOTS; slot++) {
+    for (uint32_t slot = 0; slot < SLOTS * options.depth; slot++) {
         const uint64_t word =
             __atomic_load_n(&words[FIRST_SLOT + WORDS_IN_SLOT * slot], __ATOMIC_SEQ_CST);
         if (word != slots[slot])
@@ -648,7 +718,7 @@ static void go(struct process *of, struct turn turn) {
     const struct shared *call = &shared[of->number];
     if (!of->is_in_call) {
         of->is_in_call = true;
-        add(BEGINS, of->number)->call = *call;
+        begin(of->number);
     }
     uint32_t left = turn.most;
     while (left > 0) {
@@ -747,7 +817,7 @@ static bool make(struct process *of, enum call call, uint32_t slot, uint32_t buc
 // call that changes one word at most.
 static void make_unstepped(struct process *of, enum call call, uint32_t bucket) {
     order(of, call, 0, bucket);
-    add(BEGINS, of->number)->call = shared[of->number];
+    begin(of->number);
     ptrace(PTRACE_CONT, of->pid, NULL, NULL);
     EXPECT(wait_for(of->pid) == SIGUSR1);
     compare(of->number);
@@ -777,7 +847,7 @@ static void send(struct process *of, uint32_t bucket, bool by_slot) {
 
 // Has a process receive that bucket, if it is still there, and give it back.
 static void receive(struct process *of, uint32_t bucket, bool by_slot) {
-    if (by_slot && !(make(of, TAKE, 1, 0) && make(of, DONE, 1, 0)))
+    if (by_slot && !(make(of, TAKE, 1, 0) && make(of, DONE, 1, bucket)))
         return;
     if (!by_slot && !make(of, ATTACH, 0, bucket))
         return;
@@ -796,11 +866,11 @@ static bool duel_take(uint32_t most, bool by_slot) {
     order(one, TAKE, 0, 0);
     go(one, part);
     const bool ended = !one->is_in_call;
-    if (make(other, TAKE, 0, 0) && make(other, DONE, 0, 0))
+    if (make(other, TAKE, 0, 0) && make(other, DONE, 0, bucket))
         send(other, bucket, by_slot);
     if (one->is_in_call)
         go(one, whole);
-    if (shared[one->number].code == BB_OK && make(one, DONE, 0, 0))
+    if (shared[one->number].code == BB_OK && make(one, DONE, 0, bucket))
         make(one, DEALLOCATE, 0, bucket);
     else
         receive(other, bucket, by_slot);
@@ -831,6 +901,11 @@ static bool duel_reap(uint32_t most, bool by_slot) {
     return !attached;
 }
 
+// Has a process take a message from slot 0. Returns its bucket, or BUCKETS if there is none.
+static uint32_t take(struct process *of) {
+    return make(of, TAKE, 0, 0) ? shared[of->number].got : BUCKETS;
+}
+
 // Has the first process post a message. After that many instructions the second one takes it, or
 // posts another one to its slot. Returns whether the first one's call had ended before.
 static bool duel_post(uint32_t most) {
@@ -843,17 +918,20 @@ static bool duel_post(uint32_t most) {
     order(one, POST, 0, bucket);
     go(one, part);
     const bool ended = !one->is_in_call;
-    const bool taken = make(other, TAKE, 0, 0);
-    const bool posted = !taken && make(other, POST, 0, others);
+    uint32_t got = take(other);
+    const bool posted = got == BUCKETS && make(other, POST, 0, others);
     if (one->is_in_call)
         go(one, whole);
     if (shared[one->number].code != BB_OK)
         make_unstepped(one, DEALLOCATE, bucket);
     if (!posted)
         make_unstepped(other, DEALLOCATE, others);
-    if (taken || make(other, TAKE, 0, 0)) {
-        make(other, DONE, 0, 0);
-        make_unstepped(other, DEALLOCATE, posted ? others : bucket);
+    if (got == BUCKETS)
+        got = take(other);
+    while (got < BUCKETS) {
+        make(other, DONE, 0, got);
+        make_unstepped(other, DEALLOCATE, got);
+        got = options.depth > 1 ? take(other) : BUCKETS;
     }
     return ended;
 }
@@ -877,7 +955,7 @@ static bool duel_settle(enum call call, uint32_t most) {
     const bool ended = !killed->is_in_call;
     end_killed(killed);
     make(one, REAP, 0, 0);
-    if (make(other, TAKE, 0, 0) && make(other, DONE, 0, 0))
+    if (make(other, TAKE, 0, 0) && make(other, DONE, 0, bucket))
         make_unstepped(other, DEALLOCATE, bucket);
     return ended;
 }
@@ -943,17 +1021,19 @@ int main(int argc, char **argv) {
     bb_pool_file *made_file;
     if (argc == 3 && strcmp(argv[1], "idle") == 0)
         idle(atoi(argv[2]));
-    const bool is_random = argc == 6 && strcmp(argv[1], "random") == 0;
-    const bool has_duels = argc == 4 && strcmp(argv[1], "duels") == 0;
+    const bool is_random = argc == 7 && strcmp(argv[1], "random") == 0;
+    const bool has_duels = argc == 5 && strcmp(argv[1], "duels") == 0;
     if (!is_random && !has_duels) {
-        fprintf(stderr, "usage: trace random FOLDER SEED CALLS CACHED\n"
-                        "       trace duels FOLDER STRIDE\n");
+        fprintf(stderr, "usage: trace random FOLDER SEED CALLS CACHED DEPTH\n"
+                        "       trace duels FOLDER STRIDE DEPTH\n");
         return 2;
     }
+    options.depth = (uint32_t)atoi(argv[argc - 1]);
+    EXPECT(options.depth <= DEEPEST);
     keep_addresses(argv);
     keep_processor((uint32_t)atoi(argv[3]));
     snprintf(path, sizeof path, "%s/bb-trace-%d", argv[2], (int)getpid());
-    EXPECT(bb_pool_file_open(&made_file, path, &OPTIONS) == BB_OK);
+    EXPECT(bb_pool_file_open(&made_file, path, &options) == BB_OK);
     EXPECT(bb_pool_file_close(made_file) == BB_OK);
     watching = open(path, O_RDWR | O_CLOEXEC);
     inherited = open(path, O_RDWR | O_CLOEXEC);
@@ -970,7 +1050,7 @@ int main(int argc, char **argv) {
         run_duels((uint32_t)atoi(argv[3]));
     }
     unlink(path);
-    printf("file %d %d %d %d\n", PROCESSES, PARTIES, BUCKETS, SLOTS);
+    printf("file %d %d %d %u\n", PROCESSES, PARTIES, BUCKETS, SLOTS * options.depth);
     for (size_t at = 0; at < count; at++)
         write_event(at);
     for (int call = 0; call < CALLS; call++)
