@@ -28,7 +28,7 @@ fn main() -> Result<(), Box<dyn error::Error>> {
         return Ok(());
     }
     let receiver = file.receiver(SLOT)?;
-    // What a receiver had taken that was killed comes first.
+    // A message that a killed receiver had taken comes first.
     file.reap(Reap::Held)?;
     for message in receiver.iter() {
         let mut message = message?;
