@@ -40,7 +40,7 @@ CRATE = "crates/bb_memory_c"
 SOURCES = ("bb_pool_file.c", "pool_file_format.c", "pool_file_map.c")
 FLAGS = ("-O2", "-Wall", "-Wextra", "-Werror", "-pedantic", "-Wshadow", "-Wconversion")
 CHECKERS = ("-fsanitize=address,undefined", "-fno-sanitize-recover=all")
-PROGRAMS = ("cases", "kills", "leaks", "shown", "trace")
+PROGRAMS = ("cases", "kills", "leaks", "queue", "shown", "trace")
 # The seconds after which a program is killed, since it hangs.
 LONGEST = 600
 # How many files that are almost pools `bb-pool` shows or refuses.
@@ -164,6 +164,11 @@ class PoolFile:
         flags = ["-std=c11", "-g", "-O1", *CHECKERS]
         self.compile([*flags, "-o", program, *sources, self.work / "bb_memory.o"])
         return f"{self.run_program(program, self.folders)}, under the checkers"
+
+    def run_queue(self) -> str:
+        """Runs `queue` with each form of the library."""
+        queues = [self.work / f"queue.{form}" for form in KILLS]
+        return "\n".join(self.run_program(queue, [self.folders[0]]) for queue in queues)
 
     def run_leaks(self) -> str:
         """Runs `leaks` with each form of the library, in each folder."""
@@ -372,6 +377,7 @@ class PoolFile:
         jobs["cases"] = self.run_cases
         jobs["fuzz"] = self.run_fuzzed
         jobs["leaks"] = self.run_leaks
+        jobs["queue"] = self.run_queue
         if has("c++", self.environment):
             jobs["owners"] = self.run_owners
         jobs["mixed"] = self.run_mixed

@@ -19,7 +19,7 @@ enum {
     IN_LINE = 64,
     IN_MAP = 4096,
     // Messages of a slot that are listed.
-    IN_SLOT = 16
+    IN_SLOT = 8
 };
 
 static const char USAGE[] =

@@ -1,18 +1,21 @@
 -- Parties of files: their calls leave as many buckets as there are, and take buckets that are there.
-use Rattle.bb_memory_c.specs.Files.{HoldsPlace, JoinedFile}
+use Rattle.bb_memory_c.specs.Files.{HoldsPlace, JoinedFile, TakesFrom}
 use Rattle.bb_memory_file.proofs.FileCaches.{last_cached}
 use Rattle.bb_memory_file.specs.FileCalls.{Makes}
 use Rattle.bb_memory_file.specs.FileLog.{FileLog}
-use Rattle.bb_memory_file.specs.FileNotes.{Allocates, AreCached, Attaches, Deallocates, Detaches, GivesAllBack, IsDoneWith, JoinedParty, Posts, Returns, Searches, Takes}
+use Rattle.bb_memory_file.specs.FileNotes.{Allocates, AreCached, Attaches, Deallocates, Detaches, Finishes, GivesAllBack, IsDoneWith, JoinedParty, Posts, Receives, Returns, Searches, Sends, Takes}
 use Rattle.bb_memory_file.specs.FileParties.{log_of}
 use Rattle.bb_memory_file.specs.declared.joined.Refusal.{Refusal}
+use Rattle.bb_memory_file.specs.declared.joined.Refusal.TheVariants.{NotABucket, NotDone, NotHeld}
 use Rattle.bb_memory_file.specs.declared.joined.Taken.{Taken}
 use Rattle.bb_memory_file.specs.declared.joined.Taken.TheVariants as taken
 use Rattle.bb_memory_file.specs.declared.party.FileParty.{FileParty}
+use Rattle.bb_memory_file.specs.declared.queues.Sending.{Sending}
+use Rattle.bb_memory_file.specs.declared.queues.Sending.TheVariants.{Full, Overtaken, Sent}
 use Rattle.bb_memory_file_machine.specs.declared.steps.file.FileStep.{FileStep}
 use Rattle.bb_memory_traits.specs.Geometry.{IsPlaceOfBucket}
-use Rattle.std.proofs.Common.{Bool, Err, List, None, Ok, Option, Result, Some, [], ap, arith, false, inl, inr, length, refl, true, ℕ, ◌++◌, ◌<◌, ◌∷◌, ◌≡◌, ◌⊎◌}
-use Rattle.std.proofs.lemmas.Bool.{cases_lt}
+use Rattle.std.proofs.Common.{Bool, Err, List, None, Ok, Option, Result, Some, [], ap, arith, false, inl, inr, length, refl, true, ℕ, ◌++◌, ◌<◌, ◌∷◌, ◌∙◌, ◌≡◌, ◌⊎◌}
+use Rattle.std.proofs.lemmas.Bool.{cases_eq, cases_lt}
 use Rattle.std.proofs.lemmas.Option.{slice_get_within}
 use Rattle.std.specs.Prelude.{IfNone}
 
@@ -122,10 +125,51 @@ pub done-same : (old : Party) (slot : ℕ) (told : Bool) (new : Party) → IsDon
 done-same old slot true new did = by_walk (did.3.0 0).0
 done-same old slot false new did = ap (λ (l : FileLog). l.scene.buckets) did.1
 
+pub sent-same : (old : Party) (queue bucket len : ℕ) (told : Result Sending Refusal) (new : Party) →
+    Sends log_of old queue bucket len told new → buckets_of new ≡ buckets_of old
+sent-same old queue bucket len (Ok (Sent slot)) new did = by_walk (did.1 0).9
+sent-same old queue bucket len (Ok Full) new did = by_walk (did.1 0).10
+sent-same old queue bucket len (Ok Overtaken) new did = by_walk (did.1 0).2
+sent-same old queue bucket len (Err refusal) new did = ap (λ (p : Party). buckets_of p) did.1
+
+pub received-same : (old : Party) (queue size : ℕ) (told : Taken) (new : Party) → Receives log_of old queue size told new →
+    buckets_of new ≡ buckets_of old
+received-same old queue size taken.Empty new did = by_walk (did.0 0).5
+received-same old queue size taken.NotSent new did = by_walk (did.0 0).0
+received-same old queue size taken.Wrong new did = elim (did.0 0) [
+  | inl looked ↦ by_walk looked.0
+  | inr wrong ↦ by_walk wrong.7.2 ∙ by_walk wrong.5
+]
+received-same old queue size (taken.Message bucket len) new did = let it = did.0 0 in by_walk it.8.1 ∙ by_walk it.4
+
+pub finished-same : (old : Party) (bucket : ℕ) (told : Result ℕ Refusal) (new : Party) → Finishes log_of old bucket told new →
+    buckets_of new ≡ buckets_of old
+finished-same old bucket (Ok slot) new did = let it = (did.1.1.0 0).1 in by_walk it.5.0 ∙ by_walk it.4
+finished-same old bucket (Err NotABucket) new did = ap (λ (p : Party). buckets_of p) did.1
+finished-same old bucket (Err NotHeld) new did = ap (λ (p : Party). buckets_of p) did.1
+finished-same old bucket (Err NotDone) new did = elim did.1 [
+  | inl entered ↦ by_walk (entered.0 0).0
+  | inr nowhere ↦ by_walk (nowhere.0 0).0
+]
+
 pub given-same : (old : Party) (freed : ℕ) (new : Party) → GivesAllBack log_of old freed new → buckets_of new ≡ buckets_of old
 given-same old freed new did = ap (λ (l : FileLog). l.scene.buckets) (did.0 0).gets
 
 -- PLACES
+
+-- the bucket of a message that a party has just taken is one of the file's
+pub taken-below : (file : JoinedFile) (slot bucket len : ℕ) (after : JoinedFile) → length file.party.notes ≡ file.places.buckets →
+    TakesFrom file slot (taken.Message bucket len) after → bucket < after.places.buckets
+taken-below file slot bucket len after long took = elim (cases_eq file.party.depth 1) [
+  | inl single ↦
+      let did = took.0 single in
+      let same = ap (λ (f : JoinedFile). f.places.buckets) did.1 in
+      omega (arith, same, long, slice_get_within file.party.notes bucket _ did.0.1)
+  | inr queued ↦
+      let did = took.1 queued in
+      let same = ap (λ (f : JoinedFile). f.places.buckets) did.1 in
+      omega (arith, same, long, slice_get_within file.party.notes bucket _ (did.0.0 0).6)
+]
 
 -- what follows if there is none
 pub none-so : (told : Option ℕ) (A B : Type 0) → (A → B) → IfNone told A → IfNone told B

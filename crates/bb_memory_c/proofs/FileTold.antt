@@ -1,8 +1,9 @@
 -- The codes of calls that free, post or detach the bucket at a place, by the party's note of it.
-use Rattle.bb_memory_c.specs.Files.{Fits, HoldsPlace, IsNoted, IsNotedAt, JoinedFile, MayFree, TellsAttach, TellsDeallocate, TellsDetach, TellsPost, code_of, detached_number, none_detached, put_back_number, slots_of}
-use Rattle.bb_memory_c_calls.specs.Answers.{refused as no_chunk}
-use Rattle.bb_memory_c_calls.specs.declared.code.TheConstants.{DETACHED_FULL as detached_full, FILE_NOT_DONE as file_not_done, NOT_A_BUCKET as not_a_bucket, NOT_HELD as not_held, OK as ok, SIZE_TOO_LARGE as size_too_large}
-use Rattle.bb_memory_file.specs.FileNotes.{Attaches, Deallocates, Detaches, IsHeldNote, IsRefusal, JoinedParty, Posts}
+use Rattle.bb_memory_c.specs.Files.{Fits, HoldsPlace, IsNoted, IsNotedAt, JoinedFile, MayFree, PostsInto, TellsAttach, TellsDeallocate, TellsDetach, TellsDoneWith, TellsPost, code_of, detached_number, none_detached, posted_as, put_back_number, slots_of}
+use Rattle.bb_memory_c.specs.declared.file_answer.PostedMessage.{PostedMessage}
+use Rattle.bb_memory_c_calls.specs.Answers.{figure_of, no_figure, refused as no_chunk}
+use Rattle.bb_memory_c_calls.specs.declared.code.TheConstants.{FILE_NOT_DONE as file_not_done, NOT_A_BUCKET as not_a_bucket, NOT_HELD as not_held, OK as ok, SIZE_TOO_LARGE as size_too_large}
+use Rattle.bb_memory_file.specs.FileNotes.{Attaches, Deallocates, Detaches, Finishes, HasNoMessage, IsHeldNote, IsRefusal, JoinedParty, Posts, Sends}
 use Rattle.bb_memory_file.specs.FileParties.{log_of}
 use Rattle.bb_memory_file.specs.declared.joined.Note.{Note}
 use Rattle.bb_memory_file.specs.declared.joined.Note.TheVariants.{Cached, InUse, Undone, Unheld}
@@ -156,25 +157,54 @@ module _ (file : JoinedFile) (place number : ℕ) (below : number < length file.
       let it = (there_below file.party.notes number below).1 in
       absurd (cc)
 
+  -- DONE
+
+  pub finished : (after : JoinedParty FileParty) (slot : ℕ) → Finishes log_of file.party number (Ok slot) after →
+      TellsDoneWith file place (figure_of slot) (record file { party = after })
+  finished after slot did = record {
+    not_held = λ none. absurd (none (is-there Undone did.0));
+    undone = λ _. (number, (did.0, there), inl (slot, refl, (did, refl)));
+  }
+
+  pub unfinished : (after : JoinedParty FileParty) → Finishes log_of file.party number (Err NotDone) after →
+      TellsDoneWith file place (no_figure not_a_bucket) (record file { party = after })
+  unfinished after did = record {
+    not_held = λ none. absurd (none (is-there Undone did.0));
+    undone = λ _. (number, (did.0, there), inr (refl, (did, refl)));
+  }
+
+  pub not-finished : (after : JoinedParty FileParty) → Finishes log_of file.party number (Err NotHeld) after →
+      TellsDoneWith file place (no_figure not_held) (record file { party = after })
+  not-finished after did = record {
+    not_held = λ _. (refl, ap (λ (p : JoinedParty FileParty). record file { party = p }) did.1);
+    undone = λ undone. absurd (subst HasNoMessage (note-at Undone undone) did.0);
+  }
+
+  pub finishes-a-bucket : {X : Type 0} (after : JoinedParty FileParty) → Finishes log_of file.party number (Err NotABucket) after → X
+  finishes-a-bucket after did =
+      let none = did.0 in
+      let it = (there_below file.party.notes number below).1 in
+      absurd (cc)
+
 -- POSTING
 
 module _ (file : JoinedFile) (slot place len : ℕ) (slots : slot < slots_of file) where
   pub post-refused : (code : ℕ) → ¬ MayFree file place → (code ≢ file_not_done → (code ≡ not_held) × (¬ HoldsPlace file place))
-      → (code ≡ file_not_done → IsNotedAt file place Undone) → TellsPost file slot place len code file
+      → (code ≡ file_not_done → IsNotedAt file place Undone) → TellsPost file slot place len (posted_as code) file
   post-refused code none idle busy = record {
     no_slot = λ past. absurd (omega (arith, past, slots));
     not_held = λ _ free. (
-      elim (cases_eq code file_not_done) [
+      ap posted_as (elim (cases_eq code file_not_done) [
         | inl same ↦ absurd (free (inr (busy same)))
         | inr apart ↦ (idle apart).0
-      ],
+      ]),
       refl,
     );
     not_done = λ _ undone. (
-      elim (cases_eq code file_not_done) [
+      ap posted_as (elim (cases_eq code file_not_done) [
         | inl same ↦ same
         | inr apart ↦ absurd ((idle apart).1 (inr undone))
-      ],
+      ]),
       refl,
     );
     too_large = λ may. absurd (none may.1);
@@ -182,7 +212,7 @@ module _ (file : JoinedFile) (slot place len : ℕ) (slots : slot < slots_of fil
   }
 
   module _ (number : ℕ) (noted : IsNoted file place number InUse) (done : ¬ IsNotedAt file place Undone) where
-    pub post-too-large : ¬ Fits file len → TellsPost file slot place len size_too_large file
+    pub post-too-large : ¬ Fits file len → TellsPost file slot place len (posted_as size_too_large) file
     post-too-large long = record {
       no_slot = λ past. absurd (omega (arith, past, slots));
       not_held = λ _ none. absurd (none (inl (number, noted)));
@@ -191,21 +221,25 @@ module _ (file : JoinedFile) (slot place len : ℕ) (slots : slot < slots_of fil
       tried = λ _ fits. absurd (long fits);
     }
 
-    pub post-tried : (is_posted : Bool) (after : JoinedParty FileParty) → Fits file len →
-        Posts log_of file.party slot number len (Ok is_posted) after →
-        TellsPost file slot place len (if is_posted then ok else detached_full) (record file { party = after })
-    post-tried is_posted after fits did = record {
+    pub post-tried : (told : PostedMessage) (after : JoinedFile) → Fits file len → PostsInto file slot number len told after →
+        TellsPost file slot place len told after
+    post-tried told after fits did = record {
       no_slot = λ past. absurd (omega (arith, past, slots));
       not_held = λ _ none. absurd (none (inl (number, noted)));
       not_done = λ _ undone. absurd (done undone);
       too_large = λ _ long. absurd (long fits);
-      tried = λ _ _. (number, noted, (is_posted, refl, (did, refl)));
+      tried = λ _ _. (number, noted, did);
     }
 
-    pub not-refused : {X : Type 0} (refusal : Refusal) (after : JoinedParty FileParty) →
-        Posts log_of file.party slot number len (Err refusal) after → X
-    not-refused refusal after did =
-        absurd (in-use-refused refusal (subst (λ n. IsRefusal n refusal) noted.0 did.0))
+-- a bucket in use may be posted
+module _ (file : JoinedFile) (slot number len : ℕ) (noted : slice_get file.party.notes number ≡ Some InUse) where
+  pub single-refused : {X : Type 0} (refusal : Refusal) (after : JoinedParty FileParty) →
+      Posts log_of file.party slot number len (Err refusal) after → X
+  single-refused refusal after did = absurd (in-use-refused refusal (subst (λ n. IsRefusal n refusal) noted did.0))
+
+  pub queued-refused : {X : Type 0} (refusal : Refusal) (after : JoinedParty FileParty) →
+      Sends log_of file.party slot number len (Err refusal) after → X
+  queued-refused refusal after did = absurd (in-use-refused refusal (subst (λ n. IsRefusal n refusal) noted did.0))
 
 -- ATTACHING
 

@@ -2,6 +2,7 @@
 use Rattle.bb_memory_c.specs.SharedPools.{shared_pool_info}
 use Rattle.bb_memory_c.specs.declared.file_answer.DetachedNumber.{DetachedNumber}
 use Rattle.bb_memory_c.specs.declared.file_answer.Message.{Message}
+use Rattle.bb_memory_c.specs.declared.file_answer.PostedMessage.{PostedMessage}
 use Rattle.bb_memory_c.specs.declared.file_answer.ShownEntry.{ShownEntry}
 use Rattle.bb_memory_c.specs.declared.file_answer.ShownFlag.{ShownFlag}
 use Rattle.bb_memory_c.specs.declared.file_answer.ShownSlot.{ShownSlot}
@@ -14,7 +15,7 @@ use Rattle.bb_memory_c_calls.specs.declared.code.TheConstants.{ALREADY_INITIALIZ
 use Rattle.bb_memory_file.specs.FileCalls.{IsJoin, IsLeave, IsOver}
 use Rattle.bb_memory_file.specs.FileFormat.{entry_at, entry_in, flag_at, flag_in, geometry_of, life_at, slot_at, slot_in, words_of}
 use Rattle.bb_memory_file.specs.FileLog.{FileLog, fresh_log}
-use Rattle.bb_memory_file.specs.FileNotes.{Allocates, Attaches, Caches, Detaches, Flushes, GivesAllBack, IsDoneWith, JoinedParty, Joins, JoinsNot, MissesFirst, Posts, Reaps, Returns, Takes, used_in}
+use Rattle.bb_memory_file.specs.FileNotes.{Allocates, Attaches, Caches, Detaches, Finishes, Flushes, GivesAllBack, IsDoneWith, JoinedParty, Joins, JoinsNot, MissesFirst, Posts, Reaps, Receives, Returns, Sends, Takes, queues_of, used_in}
 use Rattle.bb_memory_file.specs.FileParties.{IsUnlocked, log_of, scene_of}
 use Rattle.bb_memory_file.specs.FileTables.{FileTable, HasLoaded}
 use Rattle.bb_memory_file.specs.Recorded.{beginning_of}
@@ -25,6 +26,8 @@ use Rattle.bb_memory_file.specs.declared.joined.Refusal.TheVariants.{NotABucket,
 use Rattle.bb_memory_file.specs.declared.joined.Taken.{Taken}
 use Rattle.bb_memory_file.specs.declared.joined.Taken.TheVariants as taken
 use Rattle.bb_memory_file.specs.declared.party.FileParty.{FileParty}
+use Rattle.bb_memory_file.specs.declared.queues.Sending.{Sending}
+use Rattle.bb_memory_file.specs.declared.queues.Sending.TheVariants.{Full, Overtaken, Sent}
 use Rattle.bb_memory_file_machine.specs.declared.steps.file.Entry.{Entry}
 use Rattle.bb_memory_file_machine.specs.declared.steps.file.Entry.TheVariants.{In, Nowhere}
 use Rattle.bb_memory_file_machine.specs.declared.steps.file.FileFlag.{FileFlag}
@@ -38,7 +41,7 @@ use Rattle.bb_memory_traits.specs.PoolObject.{HasBucket, IsWithin, PoolGeometry,
 use Rattle.bb_memory_traits.specs.declared.allocator.AllocationError.{AllocationError}
 use Rattle.bb_memory_traits.specs.declared.allocator.AllocationError.TheVariants.{AlignmentFailure, OutOfMemory, SizeTooLarge}
 use Rattle.bb_memory_traits.specs.declared.layout.Layout.{Layout}
-use Rattle.std.specs.Prelude.{Bool, Err, IfSome, None, Ok, Option, Result, Some, [], false, if◌then◌else◌, min, replicate, slice_get, true, ℕ, ◌-◌, ◌<◌, ◌^◌, ◌↔◌, ◌≡◌, ◌≢◌, ◌≤◌, ◌⊎◌}
+use Rattle.std.specs.Prelude.{Bool, Err, IfSome, None, Ok, Option, Result, Some, [], false, if◌then◌else◌, max, min, replicate, slice_get, true, ℕ, ◌-◌, ◌<◌, ◌==◌, ◌^◌, ◌↔◌, ◌≡◌, ◌≢◌, ◌≤◌, ◌⊎◌}
 
 -- VALUES
 
@@ -103,12 +106,13 @@ fresh_of file number = fresh_log (scene_of file.table.geometry) number
 abbrev pub LeavesFrom : FileLog → ℕ → Type 0
 LeavesFrom log freed = (after : FileLog) × IsUnlocked after × ((process : ℕ) → IsLeave process log freed after)
 
--- The party has just joined as this number. Its first search begins in its own part of the buckets.
-abbrev pub JoinsAt : OpenFile → ℕ → JoinedFile → Type 0
-JoinsAt file number joined =
+-- The party has just joined as this number. Its first search begins in its own part of the buckets. The
+-- file has queues of this depth: 0 counts as 1.
+abbrev pub JoinsAt : OpenFile → ℕ → ℕ → JoinedFile → Type 0
+JoinsAt file number depth joined =
     (words : FileParty) × (log_of words ≡ fresh_of file number)
     × Joins log_of words (first_hint file.table.geometry.buckets file.table.geometry.parties file.places.bucket.size number)
-    (Ok joined.party)
+    (max depth 1) (Ok joined.party)
     × (joined.places ≡ file.places)
 
 -- Memory ran out, and the words of the number were given up: before the number was settled, or after a
@@ -125,8 +129,8 @@ HasNoParty file number =
 
 -- A party joins as this number, whose lock the caller has just taken. Its handle holds `party` then. C
 -- gets BB_PARTIES_JOINED if no more parties can be counted: nothing was done to the file.
-pub record TellsJoin (file : OpenFile) (party : Option JoinedFile) (number code : ℕ) : Type 0 where
-  pub joins : code ≡ ok → IsThere (JoinsAt file number) party
+pub record TellsJoin (file : OpenFile) (party : Option JoinedFile) (number depth code : ℕ) : Type 0 where
+  pub joins : code ≡ ok → IsThere (JoinsAt file number depth) party
   pub none_such : file.table.geometry.parties ≤ number → code ≡ no_party
   pub over : code ≡ no_party → HasNoParty file number
   pub no_memory : code ≡ malloc_refused → GivesUp (fresh_of file number)
@@ -134,11 +138,11 @@ pub record TellsJoin (file : OpenFile) (party : Option JoinedFile) (number code 
   pub empty : code ≢ ok → party ≡ None
 
 -- a party joins; its handle has to be empty
-pub record AnswersJoin (old new : Option OpenFile) (old_party new_party : Option JoinedFile) (number code : ℕ)
+pub record AnswersJoin (old new : Option OpenFile) (old_party new_party : Option JoinedFile) (number depth code : ℕ)
     : Type 0 where
   pub held_one : old_party ≢ None → (code ≡ already_initialized) × (new ≡ old) × (new_party ≡ old_party)
   pub joins : old_party ≡ None → Answers old new ((code ≡ uninitialized) × (new_party ≡ None))
-      (λ file after. TellsJoin file new_party number code × (after ≡ file))
+      (λ file after. TellsJoin file new_party number depth code × (after ≡ file))
 
 -- a party leaves, and C gets how many buckets were freed; its handle is empty then
 pub record AnswersLeave (old new : Option JoinedFile) (told : Figure) : Type 0 where
@@ -208,9 +212,11 @@ pub record TellsLife (file : OpenFile) (party told : ℕ) (after : OpenFile) : T
 
 -- BUCKETS OF A PARTY
 
--- how many slots the party's file has
+-- how many slots C has of the party's file: single ones at depth 1, and otherwise queues
 abbrev pub slots_of : JoinedFile → ℕ
-slots_of file = (log_of file.party.words).scene.slots
+slots_of file =
+    if file.party.depth == 1 then (log_of file.party.words).scene.slots
+    else queues_of (log_of file.party.words).scene.slots file.party.depth
 
 -- the number of the party
 abbrev pub number_of : JoinedFile → ℕ
@@ -303,16 +309,47 @@ Fits file len = (len ≤ file.places.bucket.size) × (len < 2 ^ 32)
 abbrev pub MayPost : JoinedFile → ℕ → ℕ → Type 0
 MayPost file slot place = (slot < slots_of file) × MayFree file place
 
+-- the answer to a post with this code, to which no other sender has anything to do
+abbrev pub posted_as : ℕ → PostedMessage
+posted_as code = record { code = code; is_overtaken = false }
+
+-- the answer to a post that other senders have overtaken
+abbrev pub overtaken : PostedMessage
+overtaken = record { code = detached_full; is_overtaken = true }
+
+-- C's answer to the posting of a message into a queue
+abbrev pub posted_by : Sending → PostedMessage
+posted_by (Sent slot) = posted_as ok
+posted_by Full = posted_as detached_full
+posted_by Overtaken = overtaken
+
+-- the party has tried to post the bucket of this number into a single slot
+abbrev pub PostsSingle : JoinedFile → ℕ → ℕ → ℕ → PostedMessage → JoinedFile → Type 0
+PostsSingle file slot number len told after =
+    (is_posted : Bool) × (told ≡ posted_as (if is_posted then ok else detached_full))
+    × Becomes (λ old new. Posts log_of old slot number len (Ok is_posted) new) file after
+
+-- the party has tried to post the bucket of this number into a queue
+abbrev pub PostsQueued : JoinedFile → ℕ → ℕ → ℕ → PostedMessage → JoinedFile → Type 0
+PostsQueued file queue number len told after =
+    (sending : Sending) × (told ≡ posted_by sending)
+    × Becomes (λ old new. Sends log_of old queue number len (Ok sending) new) file after
+
+-- the party has tried to post the bucket of this number into a slot of C's
+abbrev pub PostsInto : JoinedFile → ℕ → ℕ → ℕ → PostedMessage → JoinedFile → Type 0
+PostsInto file slot number len told after =
+    (file.party.depth ≡ 1 → PostsSingle file slot number len told after)
+    × (file.party.depth ≢ 1 → PostsQueued file slot number len told after)
+
 -- A party is to post the bucket at a place, with a message of `len` bytes, in a slot. If several errors
--- apply, the first one in this list is returned. If the slot is full, only the party's log changes.
-pub record TellsPost (file : JoinedFile) (slot place len code : ℕ) (after : JoinedFile) : Type 0 where
-  pub no_slot : slots_of file ≤ slot → (code ≡ invalid_argument) × (after ≡ file)
-  pub not_held : slot < slots_of file → ¬ HoldsPlace file place → (code ≡ not_held) × (after ≡ file)
-  pub not_done : slot < slots_of file → IsNotedAt file place Undone → (code ≡ file_not_done) × (after ≡ file)
-  pub too_large : MayPost file slot place → ¬ Fits file len → (code ≡ size_too_large) × (after ≡ file)
+-- apply, the first one in this list is returned.
+pub record TellsPost (file : JoinedFile) (slot place len : ℕ) (told : PostedMessage) (after : JoinedFile) : Type 0 where
+  pub no_slot : slots_of file ≤ slot → (told ≡ posted_as invalid_argument) × (after ≡ file)
+  pub not_held : slot < slots_of file → ¬ HoldsPlace file place → (told ≡ posted_as not_held) × (after ≡ file)
+  pub not_done : slot < slots_of file → IsNotedAt file place Undone → (told ≡ posted_as file_not_done) × (after ≡ file)
+  pub too_large : MayPost file slot place → ¬ Fits file len → (told ≡ posted_as size_too_large) × (after ≡ file)
   pub tried : MayPost file slot place → Fits file len → (number : ℕ) × IsNoted file place number InUse
-      × ((is_posted : Bool) × (code ≡ (if is_posted then ok else detached_full))
-      × Becomes (λ old new. Posts log_of old slot number len (Ok is_posted) new) file after)
+      × PostsInto file slot number len told after
 
 -- no message, for the reason of this code
 abbrev pub no_message : ℕ → Message
@@ -326,17 +363,39 @@ message_of places taken.Wrong = no_message not_a_bucket
 message_of places (taken.Message bucket length) =
     record { code = ok; number = bucket; place = bucket_place places bucket; len = length }
 
--- A party is to take the message in a slot.
+-- the party has looked for a message in a single slot, or in a queue, and found this
+abbrev pub TakesFrom : JoinedFile → ℕ → Taken → JoinedFile → Type 0
+TakesFrom file slot answer after =
+    (file.party.depth ≡ 1
+    → Becomes (λ old new. Takes log_of old slot (min file.places.bucket.size (2 ^ 32 - 1)) answer new) file after)
+    × (file.party.depth ≢ 1
+    → Becomes (λ old new. Receives log_of old slot (min file.places.bucket.size (2 ^ 32 - 1)) answer new) file after)
+
+-- A party is to take a message in a slot.
 pub record TellsMessage (file : JoinedFile) (slot : ℕ) (told : Message) (after : JoinedFile) : Type 0 where
   pub no_slot : slots_of file ≤ slot → (told ≡ no_message invalid_argument) × (after ≡ file)
   pub tried : slot < slots_of file → (answer : Taken) × (told ≡ message_of file.places answer)
-      × Becomes (λ old new. Takes log_of old slot (min file.places.bucket.size (2 ^ 32 - 1)) answer new) file after
+      × TakesFrom file slot answer after
 
--- A party says that it is done with the message in a slot.
+-- A party says that it is done with the message in a single slot.
 pub record TellsDone (file : JoinedFile) (slot code : ℕ) (after : JoinedFile) : Type 0 where
   pub no_slot : slots_of file ≤ slot → (code ≡ invalid_argument) × (after ≡ file)
-  pub tried : slot < slots_of file → (is_done : Bool) × (code ≡ (if is_done then ok else not_held))
+  pub queued : file.party.depth ≢ 1 → (code ≡ invalid_argument) × (after ≡ file)
+  pub tried : file.party.depth ≡ 1 → slot < slots_of file → (is_done : Bool) × (code ≡ (if is_done then ok else not_held))
       × Becomes (λ old new. IsDoneWith log_of old slot is_done new) file after
+
+-- C's answer to an attempt to be done with the message in the bucket of this number: the slot that is
+-- empty now, or the reason why none is
+abbrev pub MayFinish : JoinedFile → ℕ → Figure → JoinedFile → Type 0
+MayFinish file number told after =
+    ((slot : ℕ) × (told ≡ figure_of slot) × Becomes (λ old new. Finishes log_of old number (Ok slot) new) file after)
+    ⊎ ((told ≡ no_figure not_a_bucket) × Becomes (λ old new. Finishes log_of old number (Err NotDone) new) file after)
+
+-- A party says that it is done with the message in the bucket at a place.
+pub record TellsDoneWith (file : JoinedFile) (place : ℕ) (told : Figure) (after : JoinedFile) : Type 0 where
+  pub not_held : ¬ IsNotedAt file place Undone → (told ≡ no_figure not_held) × (after ≡ file)
+  pub undone : IsNotedAt file place Undone → (number : ℕ) × IsNoted file place number Undone
+      × MayFinish file number told after
 
 -- BY NUMBER
 

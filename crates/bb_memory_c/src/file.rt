@@ -1,6 +1,6 @@
 //! Pools in files: the exported functions of a party of a file, and of the words that the parties share. Those whose names begin
 //! with `file_` are hidden, and `bb_pool_file.c` calls them, which keeps the file, its locks and those who wait.
-ghost use Rattle.bb_memory_c.specs.Files.{AnswersJoin, AnswersLeave, GivesBack, GivesChunk, HoldsPlace, MayFree, ShowsParty, TellsAttach, TellsCache, TellsDeallocate, TellsDetach, TellsDone, TellsEntry, TellsFlag, TellsFlush, TellsFreed, TellsLife, TellsMessage, TellsPost, TellsReap, TellsSlot, TellsWords, cutting_file, no_message, none_detached, number_of, shown_entry, shown_flag, shown_slot};
+ghost use Rattle.bb_memory_c.specs.Files.{AnswersJoin, AnswersLeave, GivesBack, GivesChunk, HoldsPlace, MayFree, ShowsParty, TellsAttach, TellsCache, TellsDeallocate, TellsDetach, TellsDone, TellsDoneWith, TellsEntry, TellsFlag, TellsFlush, TellsFreed, TellsLife, TellsMessage, TellsPost, TellsReap, TellsSlot, TellsWords, cutting_file, no_message, none_detached, number_of, posted_as, shown_entry, shown_flag, shown_slot};
 ghost use Rattle.bb_memory_c_calls.specs.Answers.{figure_of, no_figure, refused};
 ghost use Rattle.bb_memory_c_calls.specs.Calls.{Answers, AnswersFree, AnswersInfo, AnswersNumber, AnswersPlace, AnswersPoolMake, AnswersRequest, AnswersReturns, AnswersTake, AnswersTakings, AnswersWhether};
 ghost use Rattle.bb_memory_c_calls.specs.declared.code.TheConstants.{UNINITIALIZED as uninitialized};
@@ -10,7 +10,9 @@ ghost use Rattle.bb_memory_file_machine.specs.declared.steps.file.Slot.TheVarian
 ghost use Rattle.bb_memory_traits.specs.Chunk.{region_at};
 ghost use Rattle.std.specs.Prelude.{◌≡◌};
 
-use crate::file_answer::{DetachedNumber, Message, ShownEntry, ShownFlag, ShownSlot};
+use crate::file_answer::{
+    DetachedNumber, Message, PostedMessage, ShownEntry, ShownFlag, ShownSlot,
+};
 use crate::file_party::{OpenFile, cut_file};
 use crate::handle::{FilePartyHandle, FileTableHandle, Handle};
 use bb_memory_c_calls::answer::{Answer, Figure, SharedPoolInfo};
@@ -94,9 +96,10 @@ pub extern "C" fn file_party_join(
     alloc: Global,
     handle: &mut FileTableHandle,
     number: u32,
+    depth: u32,
     party: &mut FilePartyHandle,
 ) -> u32
-    ensures { AnswersJoin handle.old.value handle.new.value party.old.value party.new.value number result }
+    ensures { AnswersJoin handle.old.value handle.new.value party.old.value party.new.value number depth result }
 {
     if call::is_made(party) {
         return code::ALREADY_INITIALIZED;
@@ -104,7 +107,7 @@ pub extern "C" fn file_party_join(
     let Some(file) = handle.made_mut() else {
         return code::UNINITIALIZED;
     };
-    let joined = match file.join(alloc, number) {
+    let joined = match file.join(alloc, number, depth) {
         Ok(joined) => joined,
         Err(code) => return code,
     };
@@ -191,13 +194,13 @@ pub extern "C" fn file_post(
     slot: u32,
     place: usize,
     len: usize,
-) -> u32
-    ensures { Answers handle.old.value handle.new.value (result ≡ uninitialized)
+) -> PostedMessage
+    ensures { Answers handle.old.value handle.new.value (result ≡ posted_as uninitialized)
         (λ party after. TellsPost party slot place len result after) }
 {
     match handle.made_mut() {
         Some(party) => party.post(slot, place, len),
-        None => code::UNINITIALIZED,
+        None => PostedMessage::of(code::UNINITIALIZED),
     }
 }
 
@@ -225,6 +228,20 @@ pub extern "C" fn file_done(handle: &mut FilePartyHandle, slot: u32) -> u32
     match handle.made_mut() {
         Some(party) => party.done(slot),
         None => code::UNINITIALIZED,
+    }
+}
+
+/// Empties the slot of the message in the bucket at this place, which the party has taken, and returns the slot. The party goes on
+/// holding the bucket. It returns `BB_NOT_HELD` if the party has no message there with which it isn't done, and `BB_NOT_A_BUCKET` if
+/// no slot has the bucket.
+#[unsafe(no_mangle)]
+pub extern "C" fn file_done_with(handle: &mut FilePartyHandle, place: usize) -> Figure
+    ensures { Answers handle.old.value handle.new.value (result ≡ no_figure uninitialized)
+        (λ party after. TellsDoneWith party place result after) }
+{
+    match handle.made_mut() {
+        Some(party) => party.done_with(place),
+        None => Figure::refusal(code::UNINITIALIZED),
     }
 }
 

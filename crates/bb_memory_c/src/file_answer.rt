@@ -1,5 +1,5 @@
 //! Answers about files in the form that C gets them.
-ghost use Rattle.bb_memory_c.specs.Files.{detached_number, no_message, none_detached, put_back_number, shown_entry, shown_flag, shown_slot};
+ghost use Rattle.bb_memory_c.specs.Files.{detached_number, no_message, none_detached, overtaken, posted_as, put_back_number, shown_entry, shown_flag, shown_slot};
 ghost use Rattle.std.specs.Prelude.{◌≡◌};
 
 use bb_memory_c_calls::answer::{DETACHED, FREE, HELD};
@@ -18,6 +18,14 @@ pub struct Message {
     pub number: u32,
     pub place: usize,
     pub len: usize,
+}
+
+/// A code. If other senders were faster, it is `BB_DETACHED_FULL`, and `is_overtaken` is true: the sender may try again.
+#[repr(C)]
+#[derive(Clone, Copy)]
+pub struct PostedMessage {
+    pub code: u32,
+    pub is_overtaken: bool,
 }
 
 /// A code and, if the code is 0, the number of a bucket that a party has detached. If the bucket had a message, the message was put
@@ -69,6 +77,28 @@ impl Message {
             number: 0,
             place: 0,
             len: 0,
+        }
+    }
+}
+
+impl PostedMessage {
+    /// Returns the answer with this code.
+    pub fn of(code: u32) -> PostedMessage
+        ensures { result ≡ posted_as code }
+    {
+        PostedMessage {
+            code,
+            is_overtaken: false,
+        }
+    }
+
+    /// Returns the answer that other senders were faster.
+    pub fn overtaken() -> PostedMessage
+        ensures { result ≡ overtaken }
+    {
+        PostedMessage {
+            code: code::DETACHED_FULL,
+            is_overtaken: true,
         }
     }
 }

@@ -1,5 +1,5 @@
 //! A party of a file, and the words that the parties share, as kinds.
-ghost use Rattle.bb_memory_c.specs.Files.{Becomes, GivesBack, GivesChunk, GivesUp, HasNoParty, HoldsPlace, IsNoted, IsNotedAt, IsOpen, IsPlaced, JoinedFile, JoinsAt, LeavesFrom, MayFree, MissesFirstAt, OpenFile, ShowsParty, TellsAttach, TellsCache, TellsDeallocate, TellsDetach, TellsDone, TellsEntry, TellsFlag, TellsJoin, TellsLife, TellsMessage, TellsPost, TellsReap, TellsSlot, code_of, cutting_file, fresh_of, number_of};
+ghost use Rattle.bb_memory_c.specs.Files.{Becomes, GivesBack, GivesChunk, GivesUp, HasNoParty, HoldsPlace, IsNoted, IsNotedAt, IsOpen, IsPlaced, JoinedFile, JoinsAt, LeavesFrom, MayFree, MissesFirstAt, OpenFile, PostsQueued, PostsSingle, ShowsParty, TakesFrom, TellsAttach, TellsCache, TellsDeallocate, TellsDetach, TellsDone, TellsDoneWith, TellsEntry, TellsFlag, TellsJoin, TellsLife, TellsMessage, TellsPost, TellsReap, TellsSlot, code_of, cutting_file, fresh_of, number_of, slots_of};
 ghost use Rattle.bb_memory_c_calls.specs.Calls.{FailsOf, IsOf, LacksRoomOf};
 ghost use Rattle.bb_memory_c_calls.specs.declared.code.TheConstants.{FILE_NOT_DONE as file_not_done, INVALID_ARGUMENT as invalid_argument, INVALID_LAYOUT as invalid_layout, MALLOC_REFUSED as malloc_refused, NOT_HELD as not_held, NO_BUCKET as no_bucket, NO_PARTY as no_party, OK as ok, PARTIES_JOINED as parties_joined};
 ghost use Rattle.bb_memory_file.specs.FileFormat.{IsGeometry, geometry_of, words_of};
@@ -9,9 +9,11 @@ ghost use Rattle.bb_memory_file.specs.declared.joined.Note.TheVariants.{InUse, U
 ghost use Rattle.bb_memory_traits.specs.Chunk.{region_at};
 ghost use Rattle.bb_memory_traits.specs.PoolObject.{bucket_place};
 ghost use Rattle.std.specs.Align.{IsLayout};
-ghost use Rattle.std.specs.Prelude.{Err, IfErr, IfNone, IfOk, IfSome, None, length, ℕ, ◌<◌, ◌↔◌, ◌≡◌, ◌≢◌, ◌≤◌};
+ghost use Rattle.std.specs.Prelude.{Err, IfErr, IfNone, IfOk, IfSome, None, Some, length, slice_get, ℕ, ◌<◌, ◌↔◌, ◌≡◌, ◌≢◌, ◌≤◌};
 
-use crate::file_answer::{DetachedNumber, Message, ShownEntry, ShownFlag, ShownSlot};
+use crate::file_answer::{
+    DetachedNumber, Message, PostedMessage, ShownEntry, ShownFlag, ShownSlot,
+};
 use bb_memory_c_calls::answer::{Answer, Figure, SharedPoolInfo};
 use bb_memory_c_calls::code;
 use bb_memory_c_calls::kind::{Bucketed, Gives, Keeps};
@@ -20,6 +22,7 @@ use bb_memory_file::geometry::FileGeometry;
 use bb_memory_file::joined;
 use bb_memory_file::joined::{Joined, Note, Refusal, Taken};
 use bb_memory_file::party::FileParty;
+use bb_memory_file::queues::Sending;
 use bb_memory_file::table::FileTable;
 use bb_memory_file_machine::steps::{Entry, FileFlag, Slot};
 use bb_memory_pool_machine::hint::Hint;
@@ -156,37 +159,79 @@ impl JoinedFile {
         party.leave()
     }
 
-    /// Posts the bucket at this place, with a message of `len` bytes, in a slot.
-    pub(crate) fn post(&mut self, slot: u32, place: usize, len: usize) -> u32
-        ensures { TellsPost self.old slot place len result self.new }
+    /// Returns how many slots C has: queues, or single slots at depth 1.
+    #[inline(always)]
+    fn slots(&self) -> u32
+        ensures { result ≡ slots_of self.now }
     {
-        if slot >= self.party.slots() {
-            return code::INVALID_ARGUMENT;
-        }
-        let number = match self.in_use_at(place) {
-            Ok(number) => number,
-            Err(code) => return code,
-        };
-        if len > self.places.bucket().size() || len > u32::MAX as usize {
-            return code::SIZE_TOO_LARGE;
-        }
-        match self.party.post(slot, number, len as u32) {
-            Ok(true) => code::OK,
-            Ok(false) => code::DETACHED_FULL,
-            Err(refusal) => code_of(refusal),
+        if self.party.depth() == 1 {
+            self.party.slots()
+        } else {
+            self.party.queues()
         }
     }
 
-    /// Takes the message in a slot.
+    /// Posts the bucket at this place, with a message of `len` bytes, in a slot.
+    pub(crate) fn post(&mut self, slot: u32, place: usize, len: usize) -> PostedMessage
+        ensures { TellsPost self.old slot place len result self.new }
+    {
+        if slot >= self.slots() {
+            return PostedMessage::of(code::INVALID_ARGUMENT);
+        }
+        let number = match self.in_use_at(place) {
+            Ok(number) => number,
+            Err(code) => return PostedMessage::of(code),
+        };
+        if len > self.places.bucket().size() || len > u32::MAX as usize {
+            return PostedMessage::of(code::SIZE_TOO_LARGE);
+        }
+        if self.party.depth() == 1 {
+            self.post_single(slot, number, len as u32)
+        } else {
+            self.send(slot, number, len as u32)
+        }
+    }
+
+    /// Posts a bucket that the party has in use in a single slot.
+    #[inline(always)]
+    fn post_single(&mut self, slot: u32, number: u32, length: u32) -> PostedMessage
+        requires single { self.old.party.depth ≡ 1 }
+        requires slot { slot < slots_of self.old }
+        requires noted { slice_get self.old.party.notes number ≡ Some InUse }
+        ensures { PostsSingle self.old slot number length result self.new }
+    {
+        match self.party.post(slot, number, length) {
+            Ok(true) => PostedMessage::of(code::OK),
+            Ok(false) => PostedMessage::of(code::DETACHED_FULL),
+            Err(refusal) => PostedMessage::of(code_of(refusal)),
+        }
+    }
+
+    /// Posts a bucket that the party has in use in a queue.
+    fn send(&mut self, queue: u32, number: u32, length: u32) -> PostedMessage
+        requires queued { self.old.party.depth ≢ 1 }
+        requires queue { queue < slots_of self.old }
+        requires noted { slice_get self.old.party.notes number ≡ Some InUse }
+        ensures { PostsQueued self.old queue number length result self.new }
+    {
+        match self.party.send(queue, number, length) {
+            Ok(Sending::Sent { slot: _ }) => PostedMessage::of(code::OK),
+            Ok(Sending::Full) => PostedMessage::of(code::DETACHED_FULL),
+            Ok(Sending::Overtaken) => PostedMessage::overtaken(),
+            Err(refusal) => PostedMessage::of(code_of(refusal)),
+        }
+    }
+
+    /// Takes a message in a slot.
     pub(crate) fn take_message(&mut self, slot: u32) -> Message
         ensures { TellsMessage self.old slot result self.new }
     {
         self.invariant();
-        if slot >= self.party.slots() {
+        if slot >= self.slots() {
             return Message::refusal(code::INVALID_ARGUMENT);
         }
-        let size = self.places.bucket().size().min(u32::MAX as usize) as u32;
-        match self.party.take(slot, size) {
+        let taken = self.take_from(slot);
+        match taken {
             Taken::Empty => Message::refusal(code::DETACHED_EMPTY),
             Taken::NotSent => Message::refusal(code::NOT_HELD),
             Taken::Wrong => Message::refusal(code::NOT_A_BUCKET),
@@ -199,17 +244,46 @@ impl JoinedFile {
         }
     }
 
-    /// Says that the party is done with the message in a slot.
+    /// Takes a message from a single slot, or from a queue.
+    #[inline(always)]
+    fn take_from(&mut self, slot: u32) -> Taken
+        requires { slot < slots_of self.old }
+        ensures took { TakesFrom self.old slot result self.new }
+    {
+        let size = self.places.bucket().size().min(u32::MAX as usize) as u32;
+        if self.party.depth() == 1 {
+            self.party.take(slot, size)
+        } else {
+            self.party.receive(slot, size)
+        }
+    }
+
+    /// Says that the party is done with the message in a single slot.
     pub(crate) fn done(&mut self, slot: u32) -> u32
         ensures { TellsDone self.old slot result self.new }
     {
-        if slot >= self.party.slots() {
+        if self.party.depth() != 1 || slot >= self.party.slots() {
             return code::INVALID_ARGUMENT;
         }
         if self.party.done(slot) {
             code::OK
         } else {
             code::NOT_HELD
+        }
+    }
+
+    /// Says that the party is done with the message in the bucket at this place, and returns the slot that it has emptied.
+    pub(crate) fn done_with(&mut self, place: usize) -> Figure
+        ensures { TellsDoneWith self.old place result self.new }
+    {
+        let Some(number) = self.numbered(place) else {
+            return Figure::refusal(code::NOT_HELD);
+        };
+        match self.party.done_with(number) {
+            Ok(slot) => Figure::of(slot as usize),
+            Err(Refusal::NotHeld) => Figure::refusal(code::NOT_HELD),
+            Err(Refusal::NotDone) => Figure::refusal(code::NOT_A_BUCKET),
+            Err(Refusal::NotABucket) => Figure::refusal(code::NOT_A_BUCKET),
         }
     }
 
@@ -415,9 +489,14 @@ impl OpenFile {
         }
     }
 
-    /// Joins as this number, whose lock the caller has just taken.
-    pub(crate) fn join(&self, alloc: Global, number: u32) -> Result<Box<JoinedFile>, u32>
-        ensures joins { IfOk result (λ joined. JoinsAt self.now number joined.value) }
+    /// Joins as this number, whose lock the caller has just taken. The file's slots are queues of this depth; 0 counts as 1.
+    pub(crate) fn join(
+        &self,
+        alloc: Global,
+        number: u32,
+        depth: u32,
+    ) -> Result<Box<JoinedFile>, u32>
+        ensures joins { IfOk result (λ joined. JoinsAt self.now number depth joined.value) }
         ensures none_such { self.now.table.geometry.parties ≤ number → result ≡ Err no_party }
         ensures over { result ≡ Err no_party → HasNoParty self.now number }
         ensures no_memory { result ≡ Err malloc_refused → GivesUp (fresh_of self.now number) }
@@ -434,7 +513,7 @@ impl OpenFile {
             self.bucket.size(),
             number,
         );
-        let party = match Joined::join(words, alloc, hint) {
+        let party = match Joined::join(words, alloc, hint, depth.max(1)) {
             Ok(Ok(party)) => party,
             Ok(Err(_)) => return Err(code::NO_PARTY),
             Err(_) => return Err(code::MALLOC_REFUSED),

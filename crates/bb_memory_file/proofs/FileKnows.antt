@@ -40,7 +40,7 @@ module _ (words later : FileWords) (party bucket : ℕ) where
   seen_kept (HasNot slot) same is = λ now. is (now.0, ap (λ (l : List Slot). slice_get l slot) (sym same) ∙ now.1)
 
   -- what is known of the bucket stays so while the party keeps it, and its entry and all slots stay
-  known_kept : (known : Known) → (IsHolder words bucket party → IsHolder later bucket party) →
+  pub known_kept : (known : Known) → (IsHolder words bucket party → IsHolder later bucket party) →
       slice_get later.entries bucket ≡ slice_get words.entries bucket → later.slots ≡ words.slots →
       IsKnown words party bucket known → IsKnown later party bucket known
   known_kept Unknown kept entries slots so = tt

@@ -1,4 +1,5 @@
 -- If the acts of a run obey the rules of a queue, so do the steps of the machine.
+use Rattle.bb_memory_file.proofs.FileRunMoments.{moment_length}
 use Rattle.bb_memory_file.proofs.FileRunTheorem.{is_machines}
 use Rattle.bb_memory_file.specs.FileNames.{Done, Empty, FileStep, Fill, HeldBy, Message, Place, Sending, SentTo, Slot, Take}
 use Rattle.bb_memory_file.specs.FileQueueRuns.{ActsObey}
@@ -13,10 +14,6 @@ use Rattle.std.proofs.Common.{Bool, List, Some, ap, arith, false, length, refl, 
 use Rattle.std.specs.Prelude.{if◌then◌else◌, slice_get}
 
 -- MOMENTS
-
-moment_length : (moment acts : List Act) → IsMoment moment acts → length moment ≤ length acts
-moment_length moment _ now = omega arith
-moment_length moment _ (earlier act acts past) = let less = moment_length moment acts past in omega (arith, less)
 
 module _ (scene : FileScene) where
   follows_words : (acts : List Act) (history : History) → Follows scene acts history →

@@ -48,7 +48,7 @@ brings_kill words process here = record { allowed = λ e. absurd (cc); words = r
 -- SESSIONS
 
 -- a path leads to a log of the same party of the same file
-path_same : (process : ℕ) (before : FileLog) (from : Place) (log : FileLog) (mine : List FileStep) (here : Place) →
+pub path_same : (process : ℕ) (before : FileLog) (from : Place) (log : FileLog) (mine : List FileStep) (here : Place) →
     Path process before from log mine here → (log.scene ≡ before.scene) × (log.party ≡ before.party)
 path_same process before from log mine here code.begins = (refl, refl)
 path_same process before from all mine here (code.looks log taken at event path none) =
@@ -61,13 +61,13 @@ path_same process before from log mine here (code.moves same taken at step there
 module _ (scene : FileScene) (process party : ℕ) (log : FileLog) (mine : List FileStep) (here : Place)
     (path : Path process (fresh_log scene party) (Counting party) log mine here) where
   -- a session's log is one of its party of the file
-  log_same : log ≡ log_of scene party log.events
+  pub log_same : log ≡ log_of scene party log.events
   log_same =
       let same = path_same process (fresh_log scene party) (Counting party) log mine here path in
       ap (λ (s : FileScene). log_of s log.party log.events) same.0 ∙ ap (λ (p : ℕ). log_of scene p log.events) same.1
 
   -- a session's acts are those that its log tells, after the one that took the lock
-  acts_same : acts_of process log ++ Locks process party ∷ [] ≡ session process party log.events
+  pub acts_same : acts_of process log ++ Locks process party ∷ [] ≡ session process party log.events
   acts_same =
       let same = path_same process (fresh_log scene party) (Counting party) log mine here path in
       ap (λ (p : ℕ). map (λ event. Operates process p event) log.events ++ Locks process party ∷ []) same.1
@@ -176,7 +176,7 @@ module _ (scene : FileScene) (act : Act) (acts : List Act) (is : IsTrue (words_a
 -- THE FIRST STATE
 
 -- a session has acts
-no_session : (process party : ℕ) (events : List Event) → ¬ ([] ≡ session process party events)
+pub no_session : (process party : ℕ) (events : List Event) → ¬ ([] ≡ session process party events)
 no_session process party [] e = absurd (cc)
 no_session process party (event ∷ events) e = absurd (cc)
 
@@ -194,12 +194,12 @@ asleep scene process all mine here (runs.dies did done at life) e = absurd (cc)
 asleep scene process all mine here (runs.frees party did done life) e = absurd (cc)
 
 -- The machine has come to a state with the words of the run, in which each process is fine.
-record State (scene : FileScene) (acts : List Act) (taken : ℕ → List FileStep) (places : ℕ → Place) : Type 0 where
-  steps : List FileStep
-  allowed : ¬ Contains (outcomes_of (opening_state scene) steps) Refused
-  words : (left_by scene steps).words ≡ words_after scene acts
-  follows : Follows scene acts (reverse steps)
-  each : (process : ℕ) → process < scene.processes → Fine scene acts steps process (taken process) (places process)
+pub record State (scene : FileScene) (acts : List Act) (taken : ℕ → List FileStep) (places : ℕ → Place) : Type 0 where
+  pub steps : List FileStep
+  pub allowed : ¬ Contains (outcomes_of (opening_state scene) steps) Refused
+  pub words : (left_by scene steps).words ≡ words_after scene acts
+  pub follows : Follows scene acts (reverse steps)
+  pub each : (process : ℕ) → process < scene.processes → Fine scene acts steps process (taken process) (places process)
 
 -- each process is fine at first
 fine_first : (scene : FileScene) (process : ℕ) (mine : List FileStep) (here : Place) → process < scene.processes →
@@ -266,7 +266,7 @@ module _ (scene : FileScene) (acts : List Act) (process : ℕ) (taken : ℕ → 
   }
 
 -- the acts of all lives, one after the other, lead to a state of the machine
-all_acts : (scene : FileScene) (acts : List Act) → AreTrue scene acts → (taken : ℕ → List FileStep) (places : ℕ → Place) →
+pub all_acts : (scene : FileScene) (acts : List Act) → AreTrue scene acts → (taken : ℕ → List FileStep) (places : ℕ → Place) →
     ((process : ℕ) → Life scene process (own process acts) (taken process) (places process)) → State scene acts taken places
 all_acts scene [] are taken places lives = record {
   steps = [];

@@ -1,12 +1,13 @@
 -- A search for a free bucket.
-use Rattle.bb_memory_file.proofs.FileEvents.{gets_on}
+use Rattle.bb_memory_file.proofs.FileEvents.{gets_on, has_none}
+use Rattle.bb_memory_file.proofs.FileLooks.{moves_none_on}
 use Rattle.bb_memory_file.proofs.FileSteps.{allocates}
 use Rattle.bb_memory_file.proofs.FileWalks.{walk_look, walk_nowhere, walk_on, walk_step}
-use Rattle.bb_memory_file.specs.FileCalls.{AllocateSays, AllocatesFrom, BeginsSearch, Gets, IsGained, Makes, SearchSays, TakesOne, misses_before, misses_from}
+use Rattle.bb_memory_file.specs.FileCalls.{AllocateSays, AllocatesFrom, BeginsSearch, Gets, IsGained, Makes, MovesNone, SearchSays, TakesOne, has_some, misses_before, misses_from, moves_message}
 use Rattle.bb_memory_file.specs.FileCode.{Event, ExchangeFlag, FileLog, MissFlag, known_of, told}
 use Rattle.bb_memory_file.specs.FileNames.{Allocate, Free, HeldBy, Outside}
 use Rattle.bb_memory_pool_machine.proofs.PoolSteps.{test_same}
-use Rattle.std.proofs.Common.{List, None, Option, Some, [], ap, arith, false, refl, subst, suc, sym, true, zero, ℕ, ◌++◌, ◌+◌, ◌-◌, ◌<◌, ◌∙◌, ◌∷◌, ◌≡◌, ◌≤◌}
+use Rattle.std.proofs.Common.{Bool, List, None, Option, Some, [], ap, arith, false, refl, subst, suc, sym, true, zero, ℕ, ◌++◌, ◌+◌, ◌-◌, ◌<◌, ◌∙◌, ◌∷◌, ◌≡◌, ◌≤◌}
 use Rattle.std.proofs.lemmas.Bool.{le-ltb, lt-ltb, ne_eqb}
 use Rattle.std.specs.Prelude.{if◌then◌else◌, nat_lt}
 
@@ -163,11 +164,47 @@ module _ (old new : FileLog) (hint first buckets : ℕ) (all : buckets ≡ old.s
 
 -- ONE BUCKET IS TAKEN
 
+-- a search moves no message
+misses_move_none : (from count : ℕ) → has_some moves_message (misses_from from count) ≡ false
+misses_move_none from zero = refl
+misses_move_none from (suc count) = misses_move_none from count
+
+before_move_none : (buckets first bucket : ℕ) → has_some moves_message (misses_before buckets first bucket) ≡ false
+before_move_none buckets first bucket = by_test (nat_lt bucket first)
+  where
+    by_test : (is : Bool) → has_some moves_message (if is then misses_from 0 bucket ++ misses_from first (buckets - first)
+        else misses_from first (bucket - first)) ≡ false
+    by_test true = has_none moves_message (misses_from first (buckets - first)) (misses_from 0 bucket)
+        (misses_move_none first (buckets - first)) (misses_move_none 0 bucket)
+    by_test false = misses_move_none first (bucket - first)
+
+search_moves_none : (old new : FileLog) (from to : ℕ) (answer : Option ℕ) → SearchSays old from to answer new → MovesNone old new
+search_moves_none old new from to None says = (misses_from from (to - from), says.0, misses_move_none from (to - from))
+search_moves_none old new from to (Some bucket) says = (
+  ExchangeFlag bucket Free (HeldBy old.party) ∷ misses_from from (bucket - from),
+  says.0,
+  misses_move_none from (bucket - from),
+)
+
+allocate_moves_none : (old new : FileLog) (first : ℕ) (answer : Option ℕ) → AllocatesFrom old first answer new → MovesNone old new
+allocate_moves_none old new first None says = (
+  misses_from 0 first ++ misses_from first (old.scene.buckets - first),
+  says.0,
+  has_none moves_message (misses_from first (old.scene.buckets - first)) (misses_from 0 first)
+      (misses_move_none first (old.scene.buckets - first)) (misses_move_none 0 first),
+)
+allocate_moves_none old new first (Some bucket) says = (
+  ExchangeFlag bucket Free (HeldBy old.party) ∷ misses_before old.scene.buckets first bucket,
+  says.0,
+  before_move_none old.scene.buckets first bucket,
+)
+
 pub search_takes : (old new : FileLog) (from to : ℕ) (answer : Option ℕ) → to ≤ old.scene.buckets →
     SearchSays old from to answer new → TakesOne old answer new
-search_takes old new from to None most says = (says.1, says.2)
+search_takes old new from to None most says = (says.1, says.2, search_moves_none old new from to None says)
 search_takes old new from to (Some bucket) most says =
-    let less = says.3 in (says.1, (omega (arith, less, most)), says.4)
+    let less = says.3 in
+    (says.1, (omega (arith, less, most)), says.4, search_moves_none old new from to (Some bucket) says)
 
 -- after a search that found none
 pub takes_on : (old middle new : FileLog) (from to : ℕ) (answer : Option ℕ) → SearchSays old from to None middle →
@@ -175,6 +212,7 @@ pub takes_on : (old middle new : FileLog) (from to : ℕ) (answer : Option ℕ) 
 takes_on old middle new from to None one two = (
   (λ process. walk_on process old middle new Outside Outside Outside [] [] (one.1 process) (two.0 process)),
   (λ other. two.1 other ∙ one.2 other),
+  moves_none_on old middle new (search_moves_none old middle from to None one) two.2,
 )
 takes_on old middle new from to (Some bucket) one two = (
   (λ process. subst (λ (p : ℕ). Makes process old (Allocate process p bucket ∷ []) new) (ap (λ (l : FileLog). l.party) one.0)
@@ -182,11 +220,17 @@ takes_on old middle new from to (Some bucket) one two = (
       (two.0 process))),
   subst (λ (n : ℕ). bucket < n) (ap (λ (l : FileLog). l.scene.buckets) one.0) two.1,
   (two.2.0, (λ other apart. two.2.1 other apart ∙ one.2 other)),
+  moves_none_on old middle new (search_moves_none old middle from to None one) two.3,
 )
 
 pub allocate_takes : (old new : FileLog) (hint : ℕ) (answer : Option ℕ) → AllocateSays old hint answer new → TakesOne old answer new
-allocate_takes old new hint None says = (says.1, says.2)
-allocate_takes old new hint (Some bucket) says = (says.1, says.2, says.3)
+allocate_takes old new hint None says = (says.1, says.2, allocate_moves_none old new _ None says)
+allocate_takes old new hint (Some bucket) says = (
+  says.1,
+  says.2,
+  says.3,
+  allocate_moves_none old new _ (Some bucket) says,
+)
 
 -- A SEARCH IN TWO PARTS
 

@@ -1,5 +1,6 @@
 -- The walks of settlers.
 use Rattle.bb_memory_file.proofs.FileEvents.{append_assoc, freed_on, gets_on, has_first, has_next, has_none, on_lives}
+use Rattle.bb_memory_file.proofs.FileLooks.{looks_move_none}
 use Rattle.bb_memory_file.proofs.FileSteps.{counts, counts_on, ends, leaves, passes, recovers, settles_clear, settles_free, settles_sent, stays}
 use Rattle.bb_memory_file.proofs.FileWalks.{walk_look, walk_move, walk_nowhere, walk_on, walk_step}
 use Rattle.bb_memory_file.specs.FileCalls.{Gets, IsFound, IsLifeOf, IsOver, IsRecovered, IsSettled, Whereabouts, counting, freed_in, has_some, is_tried, locking, on_life, tries, unseen}
@@ -32,6 +33,7 @@ module _ (process : ℕ) (old : FileLog) (bucket : ℕ) where
     tried = let other' = ap (λ p. same_flag flag (DetachedBy p)) (sym mine)
         ∙ other in rw (test_same bucket bucket refl, other') refl;
     settles = refl;
+    moves_none = refl;
     quiet = refl;
     others = λ o apart. ap (λ l. known_of l o) is ∙ rw (ne_eqb bucket o (λ same. apart (sym same))) refl;
   }
@@ -56,6 +58,7 @@ module _ (process : ℕ) (old : FileLog) (bucket : ℕ) where
         frees = refl;
         tried = rw (test_same bucket bucket refl, test_same old.party old.party refl) refl;
         settles = refl;
+        moves_none = refl;
         quiet = refl;
         others = λ o apart. ap (λ l. known_of l o) e2' ∙ rw (ne_eqb bucket o (λ same. apart (sym same))) refl;
       }
@@ -73,6 +76,7 @@ module _ (process : ℕ) (old : FileLog) (bucket : ℕ) where
         frees = refl;
         tried = rw (test_same bucket bucket refl, test_same old.party old.party refl) refl;
         settles = refl;
+        moves_none = refl;
         quiet = refl;
         others = λ o apart. ap (λ l. known_of l o) e2' ∙ rw (ne_eqb bucket o (λ same. apart (sym same))) refl;
       }
@@ -97,6 +101,7 @@ module _ (process : ℕ) (old : FileLog) (bucket : ℕ) (below : bucket < old.sc
     frees = refl;
     recovers_none = refl;
     settles = refl;
+    moves_none = refl;
     quiet = refl;
     unknown = ap (λ l. known_of l bucket) is
         ∙ rw (test_same bucket bucket refl, ap (λ p. same_flag flag (HeldBy p)) (sym mine) ∙ other) refl;
@@ -124,6 +129,10 @@ module _ (process : ℕ) (old : FileLog) (bucket : ℕ) (below : bucket < old.sc
 
       frees_two : freed_in (found.events ++ LoadFlag bucket flag ∷ []) ≡ 0
       frees_two = let on = freed_on found.events (LoadFlag bucket flag ∷ []) in let none = found.frees in omega (arith, on, none)
+
+      none_two : has_some calls.moves_message (found.events ++ LoadFlag bucket flag ∷ []) ≡ false
+      none_two = has_none calls.moves_message (LoadFlag bucket flag ∷ []) found.events refl
+          (looks_move_none bucket answer found.events found.by)
 
       quiet_two : on_life (found.events ++ LoadFlag bucket flag ∷ []) ≡ []
       quiet_two = on_lives found.events (LoadFlag bucket flag ∷ []) [] [] found.quiet refl
@@ -158,6 +167,7 @@ module _ (process : ℕ) (old : FileLog) (bucket : ℕ) (below : bucket < old.sc
       frees = let none = frees_two (whereabouts.In slot lap) found in omega (arith, none);
       recovers_none = refl;
       settles = refl;
+      moves_none = none_two (whereabouts.In slot lap) found;
       quiet = quiet_two (whereabouts.In slot lap) found;
       unknown = stored_unknown two new (SentTo slot lap) is;
       others = others_stored (whereabouts.In slot lap) found new (SentTo slot lap) is;
@@ -174,6 +184,7 @@ module _ (process : ℕ) (old : FileLog) (bucket : ℕ) (below : bucket < old.sc
       frees = let none = frees_two whereabouts.Nowhere found in omega (arith, none);
       recovers_none = refl;
       settles = refl;
+      moves_none = none_two whereabouts.Nowhere found;
       quiet = quiet_two whereabouts.Nowhere found;
       unknown = stored_unknown two new Free is;
       others = others_stored whereabouts.Nowhere found new Free is;
@@ -206,6 +217,7 @@ module _ (process : ℕ) (old : FileLog) (bucket : ℕ) (below : bucket < old.sc
           frees = let none = frees_two whereabouts.Entered found in omega (arith, none);
           recovers_none = refl;
           settles = refl;
+          moves_none = none_two whereabouts.Entered found;
           quiet = quiet_two whereabouts.Entered found;
           unknown = stored_unknown three new Free e4;
           others = λ o apart.
@@ -233,6 +245,7 @@ pub record Settling (process : ℕ) (old : FileLog) (detached : Bool) (bucket fr
   pub frees : freed_in events ≡ freed
   pub recovered : RecoveredTo old.party detached bucket events taken
   pub settles : has_some calls.strays taken ≡ false
+  pub moves_none : has_some calls.moves_message events ≡ false
   pub quiet : on_life events ≡ []
   pub unknown : (other : ℕ) → other < bucket → known_of new other ≡ Unknown
 
@@ -264,6 +277,7 @@ settling_none process old detached = record {
   frees = refl;
   recovered = none_yet old.party detached;
   settles = refl;
+  moves_none = refl;
   quiet = refl;
   unknown = λ other below. absurd (omega (arith, below));
 }
@@ -291,6 +305,7 @@ module _ (process : ℕ) (old log new : FileLog) (detached : Bool) (bucket freed
         (subst (λ (d : Bool). RecoveredTo old.party d bucket settling.events settling.taken) none settling.recovered)
         step.recovers_none);
     settles = has_none calls.strays settling.taken step.taken settling.settles step.settles;
+    moves_none = has_none calls.moves_message settling.events step.events settling.moves_none step.moves_none;
     quiet = on_lives step.events settling.events [] [] step.quiet settling.quiet;
     unknown = unknown_on log new bucket settling.unknown step.unknown step.others;
   }
@@ -340,6 +355,8 @@ module _ (process : ℕ) (old log new : FileLog) (detached : Bool) (bucket freed
           (bucket == other) refl);
       settles = has_none calls.strays (back.taken ++ settling.taken) step.taken
           (has_none calls.strays settling.taken back.taken settling.settles back.settles) step.settles;
+      moves_none = has_none calls.moves_message settling.events both settling.moves_none
+          (has_none calls.moves_message back.events step.events back.moves_none step.moves_none);
       quiet = on_lives both settling.events [] [] (on_lives step.events back.events [] [] step.quiet back.quiet) settling.quiet;
       unknown = unknown_on log new bucket settling.unknown step.unknown
           (λ other apart. step.others other apart ∙ ap unseen (back.others other apart));
@@ -374,6 +391,7 @@ settled_all process old new detached bucket freed settling past =
       recovered = recovered_all process old new detached bucket freed settling past
           (Next process ∷ settling.taken) refl detached refl;
       settles = settling.settles;
+      moves_none = settling.moves_none;
       counts = settling.quiet;
       unknown = λ other below. settling.unknown other (omega (arith, below, past));
     }
@@ -426,6 +444,7 @@ module _ (process : ℕ) (old : FileLog) (life : ℕ) where
     walk = walk_look process old new (Settled old.party) (LoadLife life) tt e;
     recovers_none = refl;
     settles = refl;
+    moves_none = refl;
     found = life;
     counts = sym (already parity says);
     same = λ bucket. ap (λ l. known_of l bucket) e;
@@ -450,6 +469,7 @@ module _ (process : ℕ) (old : FileLog) (life : ℕ) where
             (counts_on loaded process life (life + 1) refl (omega arith)) e);
         recovers_none = refl;
         settles = refl;
+        moves_none = refl;
         found = life;
         counts = rw (
           ne_eqb (life % 2) parity other,
@@ -469,6 +489,7 @@ pub record Quiet (process : ℕ) (old : FileLog) (from : Place) (lives : List Ev
   pub frees : freed_in events ≡ 0
   pub recovers_none : has_some calls.recovers taken ≡ false
   pub settles : has_some calls.strays taken ≡ false
+  pub moves_none : has_some calls.moves_message events ≡ false
   pub counts : on_life events ≡ lives
   pub same : (bucket : ℕ) → known_of new bucket ≡ known_of old bucket
 
@@ -483,6 +504,7 @@ quiet_move process log here step there none settler walk =
       frees = refl;
       recovers_none = rw none refl;
       settles = rw settler refl;
+      moves_none = refl;
       counts = refl;
       same = λ bucket. refl;
     }
@@ -505,6 +527,7 @@ quiet_locked process old new life counted = record {
   frees = refl;
   recovers_none = refl;
   settles = refl;
+  moves_none = refl;
   counts = refl;
   same = λ bucket. ap (λ l. known_of l bucket) counted.0;
 }
@@ -519,6 +542,7 @@ quiet_counted process old new parity counted = record {
   frees = counted.frees;
   recovers_none = counted.recovers_none;
   settles = counted.settles;
+  moves_none = counted.moves_none;
   counts = counted.counts;
   same = counted.same;
 }
@@ -552,6 +576,7 @@ module _ (process : ℕ) (old middle new : FileLog) (detached : Bool) (freed : �
         omega (arith, on, one, two);
     recovered = recovered_after detached refl quiet settled;
     settles = has_none calls.strays quiet.taken settled.taken quiet.settles settled.settles;
+    moves_none = has_none calls.moves_message quiet.events settled.events quiet.moves_none settled.moves_none;
     counts = on_lives settled.events quiet.events more lives settled.counts quiet.counts;
     unknown = λ bucket below. settled.unknown bucket
         (subst (λ (n : ℕ). bucket < n) (sym (ap (λ (log : FileLog). log.scene.buckets) quiet.gets)) below);
@@ -578,6 +603,7 @@ module _ (process : ℕ) (old middle new : FileLog) (detached : Bool) (freed : �
         omega (arith, on, one, two);
     recovered = recovered_before detached refl settled quiet;
     settles = has_none calls.strays settled.taken quiet.taken settled.settles quiet.settles;
+    moves_none = has_none calls.moves_message settled.events quiet.events settled.moves_none quiet.moves_none;
     counts = on_lives quiet.events settled.events more lives quiet.counts settled.counts;
     unknown = λ bucket below. quiet.same bucket ∙ settled.unknown bucket below;
   }

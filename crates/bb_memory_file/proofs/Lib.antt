@@ -6,13 +6,17 @@ pub mod FileEvents
 pub mod FileFlagWords
 pub mod FileFlushes
 pub mod FileKnows
+pub mod FileLooks
 pub mod FileMade
 pub mod FileMessages
 pub mod FileNotes
 pub mod FileProcesses
+pub mod FileQueueLives
 pub mod FileQueueRuns
+pub mod FileQueueSlots
 pub mod FileRecords
 pub mod FileRows
+pub mod FileRunMoments
 pub mod FileRunSteps
 pub mod FileRunTheorem
 pub mod FileSearches

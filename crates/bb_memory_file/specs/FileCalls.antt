@@ -25,6 +25,17 @@ abbrev pub has_some : {X : Type 0} → (X → Bool) → List X → Bool
 has_some test [] = false
 has_some test (x ∷ xs) = if test x then true else has_some test xs
 
+-- the event fills a slot, takes a message, or empties a slot
+abbrev pub moves_message : Event → Bool
+moves_message (ExchangeFlag bucket (SentTo slot lap) to) = true
+moves_message (ExchangeSlot slot from to) = true
+moves_message (EmptySlot slot next) = true
+moves_message event = false
+
+-- the party has done more since, and has moved no message by that
+abbrev pub MovesNone : FileLog → FileLog → Type 0
+MovesNone old new = (events : List Event) × Gets old events new × (has_some moves_message events ≡ false)
+
 -- BUCKETS
 
 -- The events of a search that has tried this many buckets, from the bucket `first` on, each of them once, and
@@ -77,13 +88,13 @@ AllocateSays old hint answer new = AllocatesFrom old (if nat_lt hint old.scene.b
 abbrev pub BeginsSearch : FileLog → ℕ → FileLog → Type 0
 BeginsSearch old hint new = Gets old (if nat_lt hint old.scene.buckets then MissFlag hint Free ∷ [] else []) new
 
--- the call has taken this bucket, or none, and knows of each other bucket what it knew
+-- the call has taken this bucket, or none, has moved no message, and knows of each other bucket what it knew
 abbrev pub TakesOne : FileLog → Option ℕ → FileLog → Type 0
 TakesOne old None new =
-    ((process : ℕ) → Makes process old [] new) × ((other : ℕ) → known_of new other ≡ known_of old other)
+    ((process : ℕ) → Makes process old [] new) × ((other : ℕ) → known_of new other ≡ known_of old other) × MovesNone old new
 TakesOne old (Some bucket) new =
     ((process : ℕ) → Makes process old (Allocate process old.party bucket ∷ []) new)
-    × (bucket < old.scene.buckets) × IsGained old bucket new
+    × (bucket < old.scene.buckets) × IsGained old bucket new × MovesNone old new
 
 -- the call has given back the bucket
 abbrev pub IsDeallocate : ℕ → FileLog → ℕ → FileLog → Type 0
@@ -125,6 +136,17 @@ IsPost process old slot bucket length false new =
     ⊎ (Gets old (StoreEntry bucket Nowhere ∷ MissSlot slot (Empty lap) ∷ StoreEntry bucket (In slot length)
     ∷ LoadSlot slot (Empty lap) ∷ []) new
     × Makes process old (Next process ∷ Post process old.party slot bucket length ∷ []) new))
+
+-- The call has posted a message of this length into a slot that was empty at this lap, or found that it no
+-- longer was, and gave up.
+abbrev pub IsFill : ℕ → FileLog → ℕ → ℕ → ℕ → ℕ → Bool → FileLog → Type 0
+IsFill process old slot lap bucket length true new =
+    Makes process old (Next process ∷ Fill process lap ∷ Post process old.party slot bucket length ∷ []) new
+    × Gets old (StoreFlag bucket (SentTo slot lap) ∷ ExchangeSlot slot (Empty lap) (Message lap bucket)
+    ∷ StoreEntry bucket (In slot length) ∷ []) new
+IsFill process old slot lap bucket length false new =
+    Makes process old (Next process ∷ Post process old.party slot bucket length ∷ []) new
+    × Gets old (StoreEntry bucket Nowhere ∷ MissSlot slot (Empty lap) ∷ StoreEntry bucket (In slot length) ∷ []) new
 
 -- the call has emptied the slot, which goes on with the next lap
 abbrev pub IsDone : ℕ → FileLog → ℕ → ℕ → ℕ → FileLog → Type 0
@@ -265,8 +287,8 @@ IsRecovered old true events taken =
     (bucket : ℕ) → bucket < old.scene.buckets → is_tried old.party bucket events ≡ true
 IsRecovered old false events taken = has_some recovers taken ≡ false
 
--- The call walks from one place to another, and gives back so many buckets. If it is to, it also takes
--- back each bucket that the party has detached.
+-- The call walks from one place to another, gives back so many buckets, and moves no message. If it is to, it also
+-- takes back each bucket that the party has detached.
 pub record IsSettled (process : ℕ) (old : FileLog) (detached : Bool) (from : Place) (freed : ℕ) (lives : List Event)
     (new : FileLog) (there : Place) : Type 0 where
   pub events : List Event
@@ -275,6 +297,7 @@ pub record IsSettled (process : ℕ) (old : FileLog) (detached : Bool) (from : P
   pub walk : IsWalk process old from new taken there
   pub frees : freed_in events ≡ freed
   pub settles : has_some strays taken ≡ false
+  pub moves_none : has_some moves_message events ≡ false
   pub counts : on_life events ≡ lives
   pub recovered : IsRecovered old detached events taken
   pub unknown : (bucket : ℕ) → bucket < old.scene.buckets → known_of new bucket ≡ Unknown

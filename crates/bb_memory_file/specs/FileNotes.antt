@@ -3,29 +3,35 @@ use Rattle.bb_memory_file.specs.FileCalls.{AllocateSays, BeginsSearch, Gets, IsA
 use Rattle.bb_memory_file.specs.FileCalls.received as received
 use Rattle.bb_memory_file.specs.FileCalls.whereabouts as whereabouts
 use Rattle.bb_memory_file.specs.FileCode.{FileLog, Holds, Known, LoadSlot, Path, StoreFlag, Unknown, known_of, told}
-use Rattle.bb_memory_file.specs.FileLog.{fresh_log}
+use Rattle.bb_memory_file.specs.FileLog.{Event, fresh_log}
 use Rattle.bb_memory_file.specs.FileNames.{Counting, Deallocate, Empty, FileStep, Free, In, Message, Nowhere, Outside, Slot}
+use Rattle.bb_memory_file.specs.FileQueueCalls.{AllObey, IsReceipt, IsSend, Sending, Sent}
+use Rattle.bb_memory_file.specs.FileQueueLooks.{KnowsHead, KnowsTail, Position}
 use Rattle.bb_memory_file.specs.FileSettlers.{IsCounted}
+pub use Rattle.bb_memory_file.specs.declared.joined.Ends.{Ends}
 pub use Rattle.bb_memory_file.specs.declared.joined.Note.{Note}
 pub use Rattle.bb_memory_file.specs.declared.joined.Note.TheVariants.{Cached, InUse, Undone, Unheld}
 pub use Rattle.bb_memory_file.specs.declared.joined.Refusal.{Refusal}
 pub use Rattle.bb_memory_file.specs.declared.joined.Refusal.TheVariants.{NotABucket, NotDone, NotHeld}
 pub use Rattle.bb_memory_file.specs.declared.joined.Taken.{Taken}
 pub use Rattle.bb_memory_file.specs.declared.joined.Taken.TheVariants as taken
+use Rattle.bb_memory_file_machine.specs.FileQueues.{FileQueue}
 use Rattle.bb_memory_pool_machine.specs.PoolHints.{hint_after}
 use Rattle.bb_memory_pool_machine.specs.declared.hint.Hint.{Hint}
 use Rattle.bb_memory_pool_machine.specs.declared.steps.pool.PoolOutcome.TheVariants as outcome
-use Rattle.std.specs.Prelude.{AllPairs, Bool, Contains, Err, List, None, Ok, Option, Result, Some, [], false, if◌then◌else◌, length, map, nat_lt, replicate, slice_get, slice_set, true, ℕ, ◌++◌, ◌+◌, ◌<◌, ◌∷◌, ◌≡◌, ◌≢◌, ◌≤◌, ◌⊎◌}
+use Rattle.std.specs.Prelude.{AllPairs, Bool, Contains, Err, IfSome, List, None, Ok, Option, Result, Some, [], false, if◌then◌else◌, length, map, nat_lt, replicate, slice_get, slice_set, true, ℕ, ◌++◌, ◌+◌, ◌/◌, ◌<◌, ◌==◌, ◌∷◌, ◌≡◌, ◌≢◌, ◌≤◌, ◌⊎◌}
 
 -- A party that has joined: the words of its file, a note of each bucket, the hint at which its next
--- search begins, the numbers of the buckets that it caches, in the order in which it cached them, and
--- how many it caches at most.
+-- search begins, the numbers of the buckets that it caches, in the order in which it cached them, how
+-- many it caches at most, the depth of the file's queues, and where it goes on at each of them.
 pub record JoinedParty (W : Type 0) : Type 0 where
   pub words : W
   pub notes : List Note
   pub hint : Hint
   pub cached : List ℕ
   pub most : ℕ
+  pub depth : ℕ
+  pub ends : List Ends
 
 -- The note says what the party knows of the bucket. If others have changed the file, a look may have
 -- found the party's number in the flag of a bucket that it hasn't taken: it doesn't hold that one.
@@ -58,6 +64,27 @@ pub record AreCached (notes : List Note) (cached : List ℕ) : Type 0 where
   pub noted : (bucket : ℕ) → Contains cached bucket → slice_get notes bucket ≡ Some Cached
   pub all : (bucket : ℕ) → slice_get notes bucket ≡ Some Cached → Contains cached bucket
 
+-- how many queues of this depth a file of this many slots has: at depth 1 its slots are single
+abbrev pub queues_of : ℕ → ℕ → ℕ
+queues_of slots depth = if depth == 1 then 0 else slots / depth
+
+-- a party that has been at no queue
+abbrev pub no_ends : Ends
+no_ends = record { tail = None; head = None }
+
+-- where the party goes on at the queue is what it knows by these events
+pub record AreEnds (queue : FileQueue) (events : List Event) (ends : Ends) : Type 0 where
+  pub tail : IfSome ends.tail (λ position. KnowsTail queue events position)
+  pub head : IfSome ends.head (λ position. KnowsHead queue events position)
+
+-- what the party has done obeys the rules of each queue of this depth, and it knows where it goes on
+pub record KeepsQueues (log : FileLog) (depth : ℕ) (ends : List Ends) : Type 0 where
+  pub deep : 0 < depth
+  pub enough : length ends ≡ queues_of log.scene.slots depth
+  pub known : (number : ℕ) (its : Ends) → slice_get ends number ≡ Some its →
+      AreEnds (record { scene = log.scene; number = number; depth = depth }) log.events its
+  pub obeys : AllObey depth log
+
 -- the party holds the bucket with this note
 abbrev pub IsHeldNote : Option Note → Type 0
 IsHeldNote (Some Cached) = Unit {0}
@@ -87,10 +114,10 @@ abbrev pub DoesOnly : {W : Type 0} → (W → FileLog) → (ℕ → FileLog → 
 DoesOnly log call old new =
     ((process : ℕ) → call process (log old.words) (log new.words)) × (new ≡ record old { words = new.words })
 
--- The party has joined with this hint, has noted of each bucket that it doesn't hold the bucket, and
--- caches none. Or the life of its number can't become greater.
-abbrev pub Joins : {W : Type 0} → (W → FileLog) → W → Hint → Result (JoinedParty W) W → Type 0
-Joins log words hint (Ok party) =
+-- The party has joined with this hint, has noted of each bucket that it doesn't hold the bucket, caches
+-- none, and has been at no queue of this depth. Or the life of its number can't become greater.
+abbrev pub Joins : {W : Type 0} → (W → FileLog) → W → Hint → ℕ → Result (JoinedParty W) W → Type 0
+Joins log words hint depth (Ok party) =
     ((process : ℕ) → IsJoin process (log words) true (log party.words))
     × (party ≡ record {
       words = party.words;
@@ -98,8 +125,10 @@ Joins log words hint (Ok party) =
       hint = hint;
       cached = [];
       most = 0;
+      depth = depth;
+      ends = replicate (queues_of (log words).scene.slots depth) no_ends;
     })
-Joins log words hint (Err after) = (process : ℕ) → IsJoin process (log words) false (log after)
+Joins log words hint depth (Err after) = (process : ℕ) → IsJoin process (log words) false (log after)
 
 -- the process has counted that it has taken the number's lock, has done nothing else, and has given up
 -- the words
@@ -275,6 +304,46 @@ IsDoneWith log old slot true new =
 IsDoneWith log old slot false new =
     (word : Slot) × (log new.words ≡ looked (log old.words) slot word) × HasNone old.notes word
     × (new ≡ record old { words = new.words })
+
+-- the queue of this number, at the depth of the party's queues
+abbrev pub queue_at : {W : Type 0} → (W → FileLog) → JoinedParty W → ℕ → FileQueue
+queue_at log party number = record { scene = (log party.words).scene; number = number; depth = party.depth }
+
+-- the notes after this answer of a sender of the bucket
+abbrev pub notes_sent : List Note → ℕ → Sending → List Note
+notes_sent notes bucket (Sent slot) = slice_set notes bucket Unheld
+notes_sent notes bucket sending = notes
+
+-- The bucket was in use. The party has noted where it goes on as a sender at the queue, and if it has sent
+-- the message, that it no longer holds the bucket. Or the call says why not.
+abbrev pub Sends : {W : Type 0} → (W → FileLog) → JoinedParty W → ℕ → ℕ → ℕ → Result Sending Refusal → JoinedParty W → Type 0
+Sends log old queue bucket length (Ok sending) new =
+    (slice_get old.notes bucket ≡ Some InUse)
+    × ((process : ℕ) → IsSend process (log old.words) (queue_at log old queue) bucket length sending (log new.words))
+    × ((its : Ends) × (tail : Position) × (slice_get old.ends queue ≡ Some its)
+    × (new ≡ record old {
+      words = new.words;
+      notes = notes_sent old.notes bucket sending;
+      ends = slice_set old.ends queue (record its { tail = Some tail });
+    }))
+Sends log old queue bucket length (Err refusal) new = IsRefusal (slice_get old.notes bucket) refusal × (new ≡ old)
+
+-- the notes after this answer of a receiver
+abbrev pub notes_received : List Note → Taken → List Note
+notes_received notes (taken.Message bucket length) = slice_set notes bucket Undone
+notes_received notes taken = notes
+
+-- The party has noted where it goes on as a receiver at the queue, and if it has received a message, that
+-- it isn't done with it.
+abbrev pub Receives : {W : Type 0} → (W → FileLog) → JoinedParty W → ℕ → ℕ → Taken → JoinedParty W → Type 0
+Receives log old queue size taken new =
+    ((process : ℕ) → IsReceipt process (log old.words) old.notes (queue_at log old queue) size taken (log new.words))
+    × ((its : Ends) × (head : Option Position) × (slice_get old.ends queue ≡ Some its)
+    × (new ≡ record old {
+      words = new.words;
+      notes = notes_received old.notes taken;
+      ends = slice_set old.ends queue (record its { head = head });
+    }))
 
 -- all buckets that the party held, in use or cached, are given back, or sent, and it holds none
 abbrev pub GivesAllBack : {W : Type 0} → (W → FileLog) → JoinedParty W → ℕ → JoinedParty W → Type 0

@@ -1,5 +1,5 @@
 -- What the parts of a settler's call do.
-use Rattle.bb_memory_file.specs.FileCalls.{Gets, IsLifeOf, IsOver, counting, freed_in, has_some, is_tried, on_life, recovers, strays, unseen}
+use Rattle.bb_memory_file.specs.FileCalls.{Gets, IsLifeOf, IsOver, counting, freed_in, has_some, is_tried, moves_message, on_life, recovers, strays, unseen}
 use Rattle.bb_memory_file.specs.FileCode.{Event, FileLog, IsWalk, LoadLife, StoreLife, Unknown, known_of}
 use Rattle.bb_memory_file.specs.FileNames.{Count, Counting, FileStep, Flags, Settled}
 use Rattle.std.specs.Prelude.{Bool, List, None, Option, Some, [], false, if◌then◌else◌, true, ℕ, ◌%◌, ◌+◌, ◌-◌, ◌<◌, ◌^◌, ◌∷◌, ◌≡◌, ◌≢◌, ◌⊎◌}
@@ -13,6 +13,7 @@ pub record IsSettledAt (process : ℕ) (old : FileLog) (bucket : ℕ) (answer : 
   pub frees : freed_in events ≡ (if answer then 1 else 0)
   pub recovers_none : has_some recovers taken ≡ false
   pub settles : has_some strays taken ≡ false
+  pub moves_none : has_some moves_message events ≡ false
   pub quiet : on_life events ≡ []
   pub unknown : known_of new bucket ≡ Unknown
   pub others : (other : ℕ) → other ≢ bucket → unseen (known_of new other) ≡ unseen (known_of old other)
@@ -26,6 +27,7 @@ pub record IsRecover (process : ℕ) (old : FileLog) (bucket : ℕ) (new : FileL
   pub frees : freed_in events ≡ 0
   pub tried : is_tried old.party bucket events ≡ true
   pub settles : has_some strays taken ≡ false
+  pub moves_none : has_some moves_message events ≡ false
   pub quiet : on_life events ≡ []
   pub others : (other : ℕ) → other ≢ bucket → known_of new other ≡ known_of old other
 
@@ -50,6 +52,7 @@ pub record IsCountedOn (process : ℕ) (old : FileLog) (parity : ℕ) (new : Fil
   pub walk : IsWalk process old (Settled old.party) new taken (Settled old.party)
   pub recovers_none : has_some recovers taken ≡ false
   pub settles : has_some strays taken ≡ false
+  pub moves_none : has_some moves_message events ≡ false
   pub found : ℕ
   pub counts : on_life events ≡ counting parity found
   pub same : (bucket : ℕ) → known_of new bucket ≡ known_of old bucket

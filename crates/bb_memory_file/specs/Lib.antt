@@ -6,7 +6,11 @@ pub mod FileNames
 pub mod FileNotes
 pub mod FileOperations
 pub mod FileParties
+pub mod FileQueueCalls
+pub mod FileQueueLives
+pub mod FileQueueLooks
 pub mod FileQueueRuns
+pub mod FileQueueSteps
 pub mod FileRecords
 pub mod FileRows
 pub mod FileRuns

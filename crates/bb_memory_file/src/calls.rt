@@ -2,9 +2,10 @@
 //!
 //! Each of them is given a party whose lock this process has, and what it needs to know of a bucket
 //! is in its `requires`: that the party holds the bucket, and what the bucket's entry says.
-ghost use Rattle.bb_memory_file.specs.FileCalls.{AllocateSays, BeginsSearch, IsAttach, IsDeallocate, IsDetach, IsDone, IsFound, IsJoin, IsLeave, IsPost, IsPutBack, IsReap, IsReceive, IsSettled, SearchSays, TakesOne, is_fit, length_in};
+ghost use Rattle.bb_memory_file.specs.FileCalls.{AllocateSays, BeginsSearch, IsAttach, IsDeallocate, IsDetach, IsDone, IsFill, IsFound, IsJoin, IsLeave, IsPost, IsPutBack, IsReap, IsReceive, IsSettled, SearchSays, TakesOne, is_fit, length_in};
 ghost use Rattle.bb_memory_file.specs.FileLog.{FileLog, IsKnownIn, IsLap, is_clear, is_held, known_of};
 ghost use Rattle.bb_memory_file.specs.FileNames.{Deallocate, DetachNumber, Done, Flags, Next, Outside, Settled};
+ghost use Rattle.bb_memory_file.specs.FileQueueCalls.{AllObey, IsDoneAt, IsSlotBelow, KnowsOthers};
 ghost use Rattle.bb_memory_file.specs.FileSettlers.{IsCounted, IsCountedOn, IsRecover, IsSettledAt};
 ghost use Rattle.bb_memory_file_machine.specs.FileMachine.{same_flag};
 ghost use Rattle.std.specs.Prelude.{IfSome, IsTrue, MatchBool, Some, [], false, true, ℕ, ◌%◌, ◌+◌, ◌<◌, ◌^◌, ◌∷◌, ◌≡◌, ◌≤◌};
@@ -122,6 +123,18 @@ pub fn post<W: Words>(words: &mut W, slot: u32, bucket: u32, length: u32) -> boo
     let Slot::Empty { lap } = words.load_slot(slot) else {
         return false;
     };
+    fill(words, slot, lap, bucket, length)
+}
+
+/// Posts a message of `length` bytes in a bucket that the party holds, and that is in no slot, into a slot
+/// that was empty at this lap. Returns whether it still was.
+pub fn fill<W: Words>(words: &mut W, slot: u32, lap: u32, bucket: u32, length: u32) -> bool
+    requires slot { slot < (W.log words.old).scene.slots }
+    requires lap { IsLap lap }
+    requires below { bucket < (W.log words.old).scene.buckets }
+    requires clear { is_clear (known_of (W.log words.old) bucket) ≡ true }
+    ensures { (process : ℕ) → IsFill process (W.log words.old) slot lap bucket length result (W.log words.new) }
+{
     words.store_entry(bucket, Entry::In { slot, length });
     let full = Slot::Message { lap, bucket };
     if !words.exchange_slot(slot, Slot::Empty { lap }, full) {
@@ -163,6 +176,22 @@ pub fn done<W: Words>(words: &mut W, slot: u32, bucket: u32, lap: u32)
 {
     words.empty_slot(slot, bucket, lap, next_lap(lap));
     words.store_entry(bucket, Entry::Nowhere);
+}
+
+/// Says that the party is done with the message in a bucket that it holds: empties the slot that has the
+/// bucket. Returns where the bucket was found to be.
+pub fn done_with<W: Words>(words: &mut W, bucket: u32) -> Whereabouts
+    requires below { bucket < (W.log words.old).scene.buckets }
+    requires held { is_held (known_of (W.log words.old) bucket) ≡ true }
+    ensures done { (process : ℕ) → IsDoneAt process (W.log words.old) bucket result (W.log words.new) }
+    ensures others { KnowsOthers (W.log words.old) bucket (W.log words.new) }
+    ensures obeys { (depth : ℕ) → AllObey depth (W.log words.old) → AllObey depth (W.log words.new) }
+{
+    let found = find(words, bucket);
+    if let Whereabouts::In { slot, lap } = found {
+        done(words, slot, bucket, lap);
+    }
+    found
 }
 
 /// Puts back the message in a bucket that the party holds, if the bucket is in a slot. Returns where
@@ -294,7 +323,8 @@ fn settle_bucket<W: Words>(words: &mut W, bucket: u32) -> bool
 fn find<W: Words>(words: &mut W, bucket: u32) -> Whereabouts
     requires below { bucket < (W.log words.old).scene.buckets }
     requires held { is_held (known_of (W.log words.old) bucket) ≡ true }
-    ensures { IsFound (W.log words.old) bucket result (W.log words.new) }
+    ensures found { IsFound (W.log words.old) bucket result (W.log words.new) }
+    ensures slot { IsSlotBelow (W.log words.old).scene.slots result }
 {
     let Entry::In { slot, length: _ } = words.load_entry(bucket) else {
         return Whereabouts::Nowhere;
@@ -345,7 +375,7 @@ fn count_leave<W: Words>(words: &mut W)
 }
 
 /// Returns the lap after this one.
-fn next_lap(lap: u32) -> u32
+pub fn next_lap(lap: u32) -> u32
     requires { IsLap lap }
     ensures next { result ≡ (lap + 1) % 2 ^ 30 }
     ensures lap { IsLap result }
@@ -377,7 +407,7 @@ fn length_in(entry: Entry) -> u32
 }
 
 /// Returns whether two flags are the same.
-fn is_same(one: FileFlag, other: FileFlag) -> bool
+pub fn is_same(one: FileFlag, other: FileFlag) -> bool
     ensures { result ≡ same_flag one other }
 {
     match (one, other) {

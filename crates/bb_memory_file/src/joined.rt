@@ -3,12 +3,13 @@
 //! the bucket's message. A party may cache the buckets that it gave back last for its next requests.
 ghost use Rattle.bb_memory_file.specs.FileCalls.{IsLeave};
 ghost use Rattle.bb_memory_file.specs.FileLog.{FileLog};
-ghost use Rattle.bb_memory_file.specs.FileNotes.{Allocates, AreCached, Attaches, Caches, Deallocates, Detaches, Flushes, FreesLast, GivesAllBack, InUse, IsDoneWith, IsRefusal, JoinedParty, Joins, JoinsNot, MissesFirst, Posts, Reaps, Takes, Undone, Unheld, used_in};
+ghost use Rattle.bb_memory_file.specs.FileNotes.{Allocates, AreCached, Attaches, Caches, Deallocates, Detaches, Flushes, FreesLast, GivesAllBack, InUse, IsDoneWith, IsRefusal, JoinedParty, Joins, JoinsNot, MissesFirst, Posts, Reaps, Receives, Sends, Takes, Undone, Unheld, no_ends, queues_of, used_in};
 ghost use Rattle.std.specs.Prelude.{IfErr, IfNone, IfOk, IfSome, IsOk, Some, [], length, replicate, slice_get, vec_capacity, ℕ, ◌<◌, ◌≡◌, ◌≤◌};
 
-use crate::calls;
 use crate::calls::{Received, Whereabouts};
+use crate::queues::{Position, Queue, Sending};
 use crate::words::Words;
+use crate::{calls, queues};
 use bb_memory_file_machine::steps::Slot;
 use bb_memory_pool_machine::hint::Hint;
 use std::alloc::{AllocError, Global};
@@ -57,6 +58,14 @@ pub enum Taken {
     Message { bucket: u32, length: u32 },
 }
 
+/// Where a party goes on at a queue: a sender at the tail, and a receiver at the head. It is None if the
+/// party hasn't been there.
+#[derive(Debug, Clone, Copy, PartialEq, Eq)]
+pub struct Ends {
+    pub tail: Option<Position>,
+    pub head: Option<Position>,
+}
+
 /// Returns the notes of a party that holds none of this many buckets. Each call of a party writes the
 /// notes, and a gap after them keeps them off the cache lines that other threads' calls write.
 fn notes_of(alloc: Global, buckets: u32) -> Result<Vec<Note>, AllocError>
@@ -76,6 +85,30 @@ fn list_of(alloc: Global, most: u32) -> Result<Vec<u32>, AllocError>
 {
     let gap = if most == 0 { 0 } else { CACHE_GAP };
     Vec::with_capacity(alloc, most as usize + gap)
+}
+
+/// Returns how many queues of this depth a file of this many slots has. At depth 1 its slots are single.
+fn queues_of(slots: u32, depth: u32) -> u32
+    requires { 0 < depth }
+    ensures { result ≡ queues_of slots depth }
+{
+    if depth == 1 {
+        0
+    } else {
+        slots / depth
+    }
+}
+
+/// Returns the ends of a party that has been at no queue, for a file whose slots are queues of this depth.
+fn ends_of(alloc: Global, slots: u32, depth: u32) -> Result<Vec<Ends>, AllocError>
+    requires { 0 < depth }
+    ensures { IfOk result (λ ends. ends.items ≡ replicate (queues_of slots depth) no_ends) }
+{
+    let none = Ends {
+        tail: None,
+        head: None,
+    };
+    Vec::from_elem(alloc, none, queues_of(slots, depth) as usize)
 }
 
 /// Settles the number whose lock this process has just taken, and gives up the words: the caller frees
@@ -106,10 +139,12 @@ pub struct Joined<W: Words + Drop> {
     hint: Hint,
     cached: Vec<u32>,
     most: u32,
+    depth: u32,
+    ends: Vec<Ends>,
 }
 
 impl<W: Words + Drop> Model for Joined<W> {
-    ghost use Rattle.bb_memory_file.specs.FileNotes.{AreCached, IsJoined, JoinedParty};
+    ghost use Rattle.bb_memory_file.specs.FileNotes.{AreCached, IsJoined, JoinedParty, KeepsQueues};
     ghost use Rattle.std.specs.Prelude.{length, vec_capacity, ◌<◌, ◌^◌, ◌≤◌};
 
     ghost Value = { JoinedParty W };
@@ -120,30 +155,43 @@ impl<W: Words + Drop> Model for Joined<W> {
       hint = p.hint;
       cached = p.cached.items;
       most = p.most;
+      depth = p.depth;
+      ends = p.ends.items;
     } };
 
     ghost invariant = { λ p. IsJoined (W.log p.words) p.notes.items
         × AreCached p.notes.items p.cached.items
         × (length p.cached.items ≤ p.most) × (p.most ≤ vec_capacity p.cached)
-        × (p.most < 2 ^ 32) };
+        × (p.most < 2 ^ 32) × KeepsQueues (W.log p.words) p.depth p.ends.items };
 }
 
 impl<W: Words + Drop> Joined<W> {
     /// Joins as the number whose lock this process has just taken. The party's first search begins at
-    /// this hint, and it caches no bucket. Returns the words if the number's life can't become greater any
-    /// more: then the process keeps the lock, so that nobody joins as this number.
+    /// this hint, it caches no bucket, and the file's slots are queues of this depth. Returns the words if
+    /// the number's life can't become greater any more: then the process keeps the lock, so that nobody
+    /// joins as this number.
     ///
     /// Fails if memory runs out. Then the number's life is counted, the words are given up, and nothing
     /// else is done to the file: the caller frees the lock right after.
-    pub fn join(mut words: W, alloc: Global, hint: Hint) -> Result<Result<Joined<W>, W>, AllocError>
-        requires { (W.log words).events ≡ [] }
-        ensures joined { IfOk result (λ joined. Joins W.log words hint joined) }
+    pub fn join(
+        mut words: W,
+        alloc: Global,
+        hint: Hint,
+        depth: u32,
+    ) -> Result<Result<Joined<W>, W>, AllocError>
+        requires fresh { (W.log words).events ≡ [] }
+        requires deep { 0 < depth }
+        ensures joined { IfOk result (λ joined. Joins W.log words hint depth joined) }
         ensures failed { IfErr result (λ _. JoinsNot W.unlocked (W.log words)) }
     {
         let Some(_) = calls::count_lock(&mut words) else {
             return Ok(Err(words));
         };
         let Ok(notes) = notes_of(alloc, words.buckets()) else {
+            words.unlock();
+            return Err(AllocError);
+        };
+        let Ok(ends) = ends_of(alloc, words.slots(), depth) else {
             words.unlock();
             return Err(AllocError);
         };
@@ -155,6 +203,8 @@ impl<W: Words + Drop> Joined<W> {
             hint,
             cached,
             most: 0,
+            depth,
+            ends,
         }))
     }
 
@@ -181,6 +231,23 @@ impl<W: Words + Drop> Joined<W> {
         ensures { result ≡ (W.log self.now.words).scene.slots }
     {
         self.words.slots()
+    }
+
+    /// Returns the depth of the file's queues.
+    #[inline(always)]
+    pub fn depth(&self) -> u32
+        ensures { result ≡ self.now.depth }
+    {
+        self.depth
+    }
+
+    /// Returns how many queues the file has. At depth 1 it has none, but single slots.
+    #[inline(always)]
+    pub fn queues(&self) -> u32
+        ensures value { result ≡ queues_of (W.log self.now.words).scene.slots self.now.depth }
+        ensures noted { length self.now.ends ≡ result }
+    {
+        queues_of(self.words.slots(), self.depth)
     }
 
     /// Returns how many buckets the party caches.
@@ -340,10 +407,11 @@ impl<W: Words + Drop> Joined<W> {
         }
     }
 
-    /// Posts a message of `length` bytes in a bucket. Returns whether the slot was empty. Fails as
-    /// `deallocate` does.
+    /// Posts a message of `length` bytes in a bucket into a single slot. Returns whether the slot was empty.
+    /// Fails as `deallocate` does.
     pub fn post(&mut self, slot: u32, bucket: u32, length: u32) -> Result<bool, Refusal>
-        requires { slot < (W.log self.old.words).scene.slots }
+        requires single { self.old.depth ≡ 1 }
+        requires slot { slot < (W.log self.old.words).scene.slots }
         ensures { Posts W.log self.old slot bucket length result self.new }
     {
         self.check(bucket)?;
@@ -354,9 +422,10 @@ impl<W: Words + Drop> Joined<W> {
         Ok(is_posted)
     }
 
-    /// Takes the message in a slot. `size` is the size of a bucket in bytes.
+    /// Takes the message in a single slot. `size` is the size of a bucket in bytes.
     pub fn take(&mut self, slot: u32, size: u32) -> Taken
-        requires { slot < (W.log self.old.words).scene.slots }
+        requires single { self.old.depth ≡ 1 }
+        requires slot { slot < (W.log self.old.words).scene.slots }
         ensures { Takes W.log self.old slot size result self.new }
     {
         let Slot::Message { lap, bucket } = self.words.load_slot(slot) else {
@@ -376,10 +445,11 @@ impl<W: Words + Drop> Joined<W> {
         }
     }
 
-    /// Says that the party is done with the message in a slot, which it has taken: empties the slot.
+    /// Says that the party is done with the message in a single slot, which it has taken: empties the slot.
     /// Returns whether the party was at work on it. The party goes on holding the bucket.
     pub fn done(&mut self, slot: u32) -> bool
-        requires { slot < (W.log self.old.words).scene.slots }
+        requires single { self.old.depth ≡ 1 }
+        requires slot { slot < (W.log self.old.words).scene.slots }
         ensures { IsDoneWith W.log self.old slot result self.new }
     {
         let Slot::Message { lap, bucket } = self.words.load_slot(slot) else {
@@ -391,6 +461,71 @@ impl<W: Words + Drop> Joined<W> {
         calls::done(&mut self.words, slot, bucket, lap);
         self.notes[bucket as usize] = Note::InUse;
         true
+    }
+
+    /// Posts a message of `length` bytes in a bucket into a queue. Fails as `deallocate` does.
+    pub fn send(&mut self, queue: u32, bucket: u32, length: u32) -> Result<Sending, Refusal>
+        requires { queue < length self.old.ends }
+        ensures { Sends W.log self.old queue bucket length result self.new }
+    {
+        self.check(bucket)?;
+        let ends = self.ends[queue as usize];
+        let its = self.queue(queue);
+        let sender = queues::send(&mut self.words, its, ends.tail, bucket, length);
+        self.ends[queue as usize].tail = Some(sender.tail);
+        if let Sending::Sent { slot: _ } = sender.sending {
+            self.notes[bucket as usize] = Note::Unheld;
+        }
+        Ok(sender.sending)
+    }
+
+    /// Takes the oldest message of a queue that is sent. `size` is the size of a bucket in bytes.
+    pub fn receive(&mut self, queue: u32, size: u32) -> Taken
+        requires { queue < length self.old.ends }
+        ensures { Receives W.log self.old queue size result self.new }
+    {
+        let ends = self.ends[queue as usize];
+        let its = self.queue(queue);
+        let receiver = queues::receive(&mut self.words, &self.notes, its, ends.head, size);
+        self.ends[queue as usize].head = receiver.head;
+        if let Taken::Message { bucket, length: _ } = receiver.taken {
+            self.notes[bucket as usize] = Note::Undone;
+        }
+        receiver.taken
+    }
+
+    /// Says that the party is done with the message in a bucket, and empties its slot, which it returns.
+    /// The party goes on holding the bucket. Fails with `NotABucket` if the file has no such bucket, with
+    /// `NotHeld` if the party has no message in it, and with `NotDone` if the message's slot hasn't the
+    /// bucket, which no file shows in which only these calls write.
+    pub fn done_with(&mut self, bucket: u32) -> Result<u32, Refusal> {
+        match self.note(bucket) {
+            None => Err(Refusal::NotABucket),
+            Some(Note::Undone) => match calls::done_with(&mut self.words, bucket) {
+                Whereabouts::In { slot, lap: _ } => {
+                    self.notes[bucket as usize] = Note::InUse;
+                    Ok(slot)
+                }
+                Whereabouts::Entered => Err(Refusal::NotDone),
+                Whereabouts::Nowhere => {
+                    self.notes[bucket as usize] = Note::InUse;
+                    Err(Refusal::NotDone)
+                }
+            },
+            _ => Err(Refusal::NotHeld),
+        }
+    }
+
+    /// Returns the queue of this number.
+    #[inline(always)]
+    fn queue(&self, number: u32) -> Queue
+        ensures number { result.number ≡ number }
+        ensures depth { result.depth ≡ self.now.depth }
+    {
+        Queue {
+            number,
+            depth: self.depth,
+        }
     }
 
     /// Gives back all buckets that the party holds, in use or cached, but for its messages, which are put

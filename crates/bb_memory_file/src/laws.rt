@@ -4,6 +4,7 @@ ghost use Rattle.bb_memory_file.specs.FileFormat.{IsGeometry};
 ghost use Rattle.bb_memory_file.specs.FileNames.{FileStep, Place};
 ghost use Rattle.bb_memory_file.specs.FileOperations.{IsMade};
 ghost use Rattle.bb_memory_file.specs.FileParties.{among, scene_of, with_processes};
+ghost use Rattle.bb_memory_file.specs.FileQueueLives.{AreRecent, ProcessesObey};
 ghost use Rattle.bb_memory_file.specs.FileQueueRuns.{ActsObey};
 ghost use Rattle.bb_memory_file.specs.FileRecords.{AreLives, IsMachinesRow, IsRecord, IsTold};
 ghost use Rattle.bb_memory_file.specs.FileRows.{IsEvent, Says};
@@ -32,6 +33,14 @@ pub fn queue_runs_law()
         → IsRun queue.scene acts taken places → ActsObey queue acts
         → (machines : IsMachines queue.scene acts taken places)
         × Obey queue_rules queue (reverse machines.steps) }
+{}
+
+/// States that the acts of a run obey the rules of a queue if each process does by what it has seen
+/// itself, and by looks that are recent. The function does nothing: its contract is the law.
+pub fn queue_lives_law()
+    ensures obeys { (queue : FileQueue) (acts : List Act) (taken : ℕ → List FileStep) (places : ℕ → Place)
+        → IsRun queue.scene acts taken places → (obey : ProcessesObey queue acts) → AreRecent queue acts obey
+        → ActsObey queue acts }
 {}
 
 /// States that the operations on a file's row of words are events on the words of the machine: each

@@ -418,19 +418,24 @@ static void others_options(void) {
 
 static void impossible_options(void) {
     const bb_pool_file_options impossible[] = {
-        {0, 8, 20, 6, 4, 0, 0},
-        {100, 12, 20, 6, 4, 0, 0},
-        {100, 0, 20, 6, 4, 0, 0},
-        {100, 8, 20, 0, 4, 0, 0},
-        {100, 8, 20, 65536, 4, 0, 0},
-        {100, 8, UINT32_MAX, 6, 4, 0, 0},
-        {SIZE_MAX / 2, 8, 20, 6, 4, 0, 0},
-        {(size_t)1 << 50, 8, 1u << 31, 6, 4, 0, 0},
-        {8, (size_t)1 << 62, 1, 6, 4, 0, 0},
-        {100, 8, 20, 6, 4, 0, SIZE_MAX},
-        {100, 8, 20, 6, 4, 0, SIZE_MAX / 8 + 1},
-        {100, 8, 20, 6, UINT32_MAX, 0, 0},
-        {100, 8, 20, 65535, UINT32_MAX, 0, 0},
+        {0, 8, 20, 6, 4, 1, 0, 0},
+        {100, 12, 20, 6, 4, 1, 0, 0},
+        {100, 0, 20, 6, 4, 1, 0, 0},
+        {100, 8, 20, 0, 4, 1, 0, 0},
+        {100, 8, 20, 65536, 4, 1, 0, 0},
+        {100, 8, UINT32_MAX, 6, 4, 1, 0, 0},
+        {SIZE_MAX / 2, 8, 20, 6, 4, 1, 0, 0},
+        {(size_t)1 << 50, 8, 1u << 31, 6, 4, 1, 0, 0},
+        {8, (size_t)1 << 62, 1, 6, 4, 1, 0, 0},
+        {100, 8, 20, 6, 4, 1, 0, SIZE_MAX},
+        {100, 8, 20, 6, 4, 1, 0, SIZE_MAX / 8 + 1},
+        {100, 8, 20, 6, UINT32_MAX, 0, 0, 0},
+        {100, 8, 20, 65535, UINT32_MAX, 1, 0, 0},
+        // Slots times depth is 2^32 - 1, 2^32, 2^32 + 4 and 2^64 - 2^33 + 1.
+        {100, 8, 20, 6, 5, 858993459, 0, 0},
+        {100, 8, 20, 6, 1u << 31, 2, 0, 0},
+        {100, 8, 20, 6, 4, (1u << 30) + 1, 0, 0},
+        {100, 8, 20, 6, UINT32_MAX, UINT32_MAX, 0, 0},
     };
     for (size_t at = 0; at < sizeof impossible / sizeof *impossible; at++) {
         EXPECT(code_of(path, &impossible[at]) == BB_INVALID_ARGUMENT);
@@ -470,7 +475,7 @@ static void wrong_files(void) {
     EXPECT(code_of(path, &OPTIONS) == BB_FILE_DAMAGED);
     EXPECT(truncate(path, stat_of.st_size + PAGE) == 0);
     EXPECT(code_of(path, NULL) == BB_FILE_DAMAGED);
-    EXPECT(truncate(path, 100) == 0 && code_of(path, &OPTIONS) == BB_FILE_DAMAGED);
+    EXPECT(truncate(path, 200) == 0 && code_of(path, &OPTIONS) == BB_FILE_DAMAGED);
     EXPECT(truncate(path, 50) == 0 && code_of(path, &OPTIONS) == BB_FILE_FOREIGN);
     EXPECT(truncate(path, 0) == 0 && code_of(path, NULL) == BB_FILE_STALE);
     EXPECT(code_of(path, &OPTIONS) == BB_OK);
@@ -1467,7 +1472,7 @@ static void slots(void) {
     const bb_message again = bb_pool_file_take(two, b, 0);
     EXPECT(again.code == BB_OK && again.len == 6 && again.number == got.number);
     EXPECT(bb_pool_file_leave(two, b) == BB_OK);  // this puts it back, too
-    EXPECT(info_of(one).detached == 1 && info_of(one).full_slots == 1);
+    EXPECT(info_of(one).detached == 1 && info_of(one).messages == 1);
     EXPECT(bb_pool_file_take(one, sender, 0).len == 6);
     EXPECT(bb_pool_file_done(one, sender, 0) == BB_OK);
     EXPECT(bb_pool_file_done(one, sender, 0) == BB_NOT_HELD);
@@ -1485,7 +1490,7 @@ static void slots(void) {
     EXPECT(bb_pool_file_done(one, sender, 3) == BB_OK);
     EXPECT(bb_file_party_deallocate(sender, bucket) == BB_OK);
     const bb_pool_file_figures figures = info_of(two);
-    EXPECT(figures.held == 0 && figures.detached == 0 && figures.full_slots == 0);
+    EXPECT(figures.held == 0 && figures.detached == 0 && figures.messages == 0);
     close_it(one);
     close_it(two);
     remove_it();
@@ -1609,7 +1614,7 @@ static void undone(uint32_t most_cached) {
     EXPECT(!holds(party, before) && holds(party, message.place) && holds(party, after));
     EXPECT(bb_pool_file_holder(file, message.number, &flag) == BB_OK);
     EXPECT(flag.state == BB_HELD && flag.party == number_of(party));
-    EXPECT(info_of(file).full_slots == 1 && bb_pool_file_look(file, 1).code == BB_DETACHED_EMPTY);
+    EXPECT(info_of(file).messages == 1 && bb_pool_file_look(file, 1).code == BB_DETACHED_EMPTY);
     EXPECT(bb_pool_file_look(file, 0).len == 6 && strcmp(message.place, "hello") == 0);
     EXPECT(bb_pool_file_take(file, sender, 0).code == BB_NOT_HELD);
     // A bucket in no slot is freed and posted all the same, and so is this one once it is done.
@@ -1901,7 +1906,7 @@ static void laps(void) {
     for (int at = 0; at < 2; at++) {
         set_word(fd, slot_at(3), (uint64_t)first[at] << 32);
         EXPECT(bb_pool_file_look(file, 3).code == BB_DETACHED_EMPTY);
-        EXPECT(bb_pool_file_wait_empty(file, 3, 0) == BB_OK && info_of(file).full_slots == 0);
+        EXPECT(bb_pool_file_wait_empty(file, 3, 0) == BB_OK && info_of(file).messages == 0);
         EXPECT(bb_pool_file_post(file, party, 3, place, 8) == BB_OK);
         EXPECT(word_at(fd, flag_at(number)) == sent_to(3, first[at]));
         EXPECT(info_of(file).wrong == 0 && bb_pool_file_look(file, 3).len == 8);
@@ -2078,7 +2083,7 @@ static void by_number(void) {
         _exit(0);
     }
     end(child);
-    EXPECT(reap(two, BB_REAP_DEAD) == 0 && info_of(two).full_slots == 1);
+    EXPECT(reap(two, BB_REAP_DEAD) == 0 && info_of(two).messages == 1);
     EXPECT(bb_pool_file_take(two, join_it(two), 2).len == 7);
     close_it(two);
     remove_it();
@@ -2261,7 +2266,7 @@ static void waits_for_no_slot(void) {
     int fd = -1;
     none.slots = 0;
     requested = 0;
-    EXPECT(bb_pool_file_open(&file, path, &none) == BB_OK && info_of(file).full_slots == 0);
+    EXPECT(bb_pool_file_open(&file, path, &none) == BB_OK && info_of(file).messages == 0);
     EXPECT(bb_pool_file_wait_full(file, BB_ANY_SLOT, 0) == BB_INVALID_ARGUMENT);
     EXPECT(bb_pool_file_wait_empty(file, BB_ANY_SLOT, 0) == BB_INVALID_ARGUMENT);
     EXPECT(bb_pool_file_watch(file, &fd) == BB_OK);
@@ -3587,7 +3592,7 @@ static void user_bytes(void) {
         EXPECT(bytes != same && sum_of(bytes, size) == 0);
         memset(bytes, 0xff, size);
         EXPECT(sum_of(same, size) == size * 0xff);
-        EXPECT(info_of(file).wrong == 0 && info_of(file).full_slots == 0);
+        EXPECT(info_of(file).wrong == 0 && info_of(file).messages == 0);
         // Each slot, each bucket and the life of each party is used, and the first and the last
         // entries.
         bb_file_party *joined[6];
@@ -3605,7 +3610,7 @@ static void user_bytes(void) {
                 slot++;
             }
         }
-        EXPECT(sum_of(same, size) == size * 0xff && info_of(other).full_slots == 4);
+        EXPECT(sum_of(same, size) == size * 0xff && info_of(other).messages == 4);
         memset(same, 0xee, size);
         EXPECT(sum_of(place, 100) == 0 && info_of(file).wrong == 0);
         const pid_t child = child_of();

@@ -22,7 +22,7 @@ enum {
     PAGE = 4096,
     LINE = 128,
     // The bytes of the header.
-    HEADER = 96,
+    HEADER = 104,
     // No file has more bytes.
     MOST_BYTES = 1 << 20,
     // The seconds after which a run is killed, since it hangs.
@@ -36,7 +36,8 @@ enum {
     BUCKETS_AT = 32,
     PARTIES_AT = 36,
     SLOTS_AT = 40,
-    USER_AT = 88
+    USER_AT = 88,
+    DEPTH_AT = 96
 };
 
 static const char *path;
@@ -79,6 +80,7 @@ static void make_pool(void) {
                                           .buckets = (uint32_t)(1 + any(100)),
                                           .parties = (uint32_t)(2 + any(10)),
                                           .slots = (uint32_t)any(10),
+                                          .depth = (uint32_t)any(5),
                                           .user_bytes = any(3) * 100};
     bb_pool_file *file;
     bb_file_party *party;
@@ -93,6 +95,12 @@ static void make_pool(void) {
             continue;
         if (any(4) == 0)
             EXPECT(bb_pool_file_detach(file, party, chunk.place).code == BB_OK);
+    }
+    for (uint64_t left = any(4); left > 0; left--) {
+        const uint32_t slot = (uint32_t)any(options.slots + 1);
+        const bb_message message = bb_pool_file_take(file, party, slot);
+        if (message.code == BB_OK && any(2) == 0)
+            EXPECT(bb_file_party_done(party, message.place) == BB_OK);
     }
     _exit(0);  // without leaving
 }
@@ -118,13 +126,16 @@ static size_t length_of(const unsigned char *bytes) {
     const uint64_t buckets = get(bytes, BUCKETS_AT, 4);
     const uint64_t slots = get(bytes, SLOTS_AT, 4);
     const uint64_t user = get(bytes, USER_AT, 8);
+    const uint64_t cells = slots * get(bytes, DEPTH_AT, 4);
     const uint64_t most = MOST_BYTES;
     if (size > most || align == 0 || align > most || buckets > most || slots > most || user > most)
+        return 0;
+    if (cells > most)
         return 0;
     const uint64_t lives = round_up(8 * get(bytes, PARTIES_AT, 4), LINE);
     const uint64_t flags = round_up(8 * buckets, LINE);
     const uint64_t entries = flags;
-    const uint64_t words = LINE + flags + lives + entries + LINE * slots;
+    const uint64_t words = LINE + flags + lives + entries + LINE * cells;
     uint64_t region_align = align < PAGE ? PAGE : align;
     if (region_align > 65536)
         region_align = 65536;
@@ -136,9 +147,10 @@ static size_t length_of(const unsigned char *bytes) {
 
 // Changes a pool's file, whose length is `length`. Returns its new length.
 static size_t change(unsigned char *bytes, size_t length) {
-    static const size_t places[] = {SIZE_AT, ALIGN_AT, BUCKETS_AT, PARTIES_AT, SLOTS_AT, USER_AT};
+    static const size_t places[] = {SIZE_AT,  ALIGN_AT, BUCKETS_AT, PARTIES_AT,
+                                    SLOTS_AT, USER_AT,  DEPTH_AT};
     for (uint64_t left = 1 + any(6); left > 0; left--) {
-        const size_t place = places[any(6)];
+        const size_t place = places[any(7)];
         const bool is_long = place == SIZE_AT || place == ALIGN_AT || place == USER_AT;
         switch (any(6)) {
         case 0: put(bytes, place, is_long ? 8 : 4, odd_number()); break;

@@ -451,7 +451,7 @@ static uint32_t finish(uint32_t lives) {
     EXPECT(bb_pool_file_leave(file, mine) == BB_OK);
     EXPECT(bb_pool_file_reap(file, BB_REAP_DEAD | BB_REAP_LEFT, NULL) == BB_OK);
     EXPECT(bb_pool_file_info(file, &figures) == BB_OK);
-    return figures.held + figures.detached + figures.wrong + figures.full_slots;
+    return figures.held + figures.detached + figures.wrong + figures.messages;
 }
 
 static int run(uint32_t kills) {
@@ -780,7 +780,7 @@ static void check_number(bb_pool_file *ours, int what, uint32_t detached, struct
     const uint32_t living = what == ATTACHES && detached == 1 ? 1 : 0;
     EXPECT(bb_pool_file_reap(ours, BB_REAP_DEAD, NULL) == BB_OK);
     EXPECT(bb_pool_file_info(ours, &figures) == BB_OK);
-    EXPECT(figures.full_slots == messages && figures.detached == messages + living);
+    EXPECT(figures.messages == messages && figures.detached == messages + living);
 }
 
 // Kills a process that many steps into the operation, and looks at what it leaves: each bucket is
@@ -808,7 +808,7 @@ static bool step_once(int what, uint32_t steps, struct outcome *outcome) {
     if (what == ATTACHES || what == DETACHES)
         check_number(ours, what, figures.detached, outcome);
     else
-        EXPECT(figures.detached == figures.full_slots);
+        EXPECT(figures.detached == figures.messages);
     if (has_dead) {
         const bb_message of_dead = bb_pool_file_take(ours, party, 1);
         EXPECT(of_dead.code == BB_OK && of_dead.len == 9 && is_filled(of_dead.place, 77));
@@ -1093,7 +1093,7 @@ static int run_pause(uint32_t long_stride) {
             EXPECT(bb_pool_file_open(&ours, path, NULL) == BB_OK);
             EXPECT(bb_pool_file_reap(ours, BB_REAP_DEAD, NULL) == BB_OK);
             EXPECT(bb_pool_file_info(ours, &figures) == BB_OK);
-            EXPECT(figures.held + figures.wrong == 0 && figures.detached == figures.full_slots);
+            EXPECT(figures.held + figures.wrong == 0 && figures.detached == figures.messages);
             EXPECT(bb_pool_file_close(ours) == BB_OK);
         }
         printf("kills: %-24s stopped after each", names[scene]);

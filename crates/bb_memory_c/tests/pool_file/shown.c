@@ -17,6 +17,7 @@ static const bb_pool_file_options OPTIONS = {.bucket_size = 100,
                                              .buckets = 24,
                                              .parties = 6,
                                              .slots = 4,
+                                             .depth = 9,
                                              .user_bytes = 40};
 
 static void expect(bool holds, int line) {
@@ -87,21 +88,36 @@ static void watch(const char *command, const char *path) {
     fclose(lines);
 }
 
+// Posts a message of `len` bytes, and takes it, if it is the oldest one.
+static bb_place post_and_take(bb_pool_file *file, bb_file_party *party, bb_place place,
+                              size_t len) {
+    EXPECT(bb_pool_file_post(file, party, 1, place, len) == BB_OK);
+    const bb_message message = bb_pool_file_take(file, party, 1);
+    EXPECT(message.code == BB_OK && message.place == place && message.len == len);
+    return place;
+}
+
 int main(int argc, char **argv) {
-    bb_place places[4];
+    bb_place places[13];
     EXPECT(argc == 3);
     const char *path = argv[1];
     const char *command = argv[2];
     EXPECT(run(command, path, NULL, NULL) == 1);
     bb_pool_file *file = open_it(path);
     watch(command, path);
-    take_some(file, places, 3);
+    bb_file_party *mine = take_some(file, places, 3);
+    // So that the last cell of slot 1 has the next message, and the first one the message after that.
+    for (int at = 0; at < 8; at++)
+        EXPECT(bb_file_party_done(mine, post_and_take(file, mine, places[2], 10)) == BB_OK);
+    post_and_take(file, mine, places[2], 50);
     const pid_t child = fork();
     if (child == 0) {
         bb_pool_file *own = open_it(path);
-        bb_file_party *party = take_some(own, places, 4);
+        bb_file_party *party = take_some(own, places, 13);
         EXPECT(bb_pool_file_post(own, party, 1, places[2], 44) == BB_OK);
         EXPECT(bb_pool_file_detach(own, party, places[3]).code == BB_OK);
+        for (size_t at = 4; at < 13; at++)
+            EXPECT(bb_pool_file_post(own, party, 3, places[at], at - 3) == BB_OK);
         _exit(0);
     }
     EXPECT(end_of(child) == 0);

@@ -1,52 +1,45 @@
-use Rattle.bb_memory_c.proofs.FileParties.{posted-same}
-use Rattle.bb_memory_c.proofs.FileTold.{not-refused, post-refused, post-too-large, post-tried}
-use Rattle.bb_memory_c.proofs.file_party.JoinedFile.post.Goals.{in-Err-post, in-Ok-false, in-Ok-true, then-len-size-via-else-len-size+then-len, then-len-size-via-then-len-size}
+use Rattle.bb_memory_c.proofs.FileTold.{post-refused, post-too-large, post-tried}
+use Rattle.bb_memory_c.proofs.file_party.JoinedFile.post.Goals.{then-len-size-via-else-len-size+then-len, then-len-size-via-then-len-size}
 use Rattle.bb_memory_c.proofs.file_party.JoinedFile.post.Goals as goal
-use Rattle.bb_memory_c.specs.Files.{Fits, JoinedFile, TellsPost, slots_of}
-use Rattle.bb_memory_file.specs.FileNotes.{Posts}
-use Rattle.bb_memory_file.specs.FileParties.{log_of}
-use Rattle.bb_memory_file.specs.declared.joined.Refusal.{Refusal}
-use Rattle.std.proofs.Common.{Bool, Err, Ok, Result, ap, arith, false, refl, rules, subst, sym, true, ◌<◌, ◌∙◌, ◌≡◌}
+use Rattle.bb_memory_c.specs.Files.{Fits, slots_of}
+use Rattle.std.proofs.Common.{arith, rules, ◌<◌, ◌≡◌, ◌≢◌}
 
 pub returns-in-Err : goal.returns-in-Err
 returns-in-Err c =
     let slots : c.args.slot < slots_of c.args.self.now = search rules in
     let told = c.in-Err.ensures in
-    post-refused c.args.self.now c.args.slot c.args.place c.args.len slots c.in-Err.code told.refused told.not_held told.not_done
+    rw c.of-in-Err.ensures
+    (post-refused c.args.self.now c.args.slot c.args.place c.args.len slots c.in-Err.code told.refused told.not_held told.not_done)
 
 pub returns-then-len-size : goal.returns-then-len-size
 returns-then-len-size c =
     let slots : c.args.slot < slots_of c.args.self.now = search rules in
     let told = c.in-Ok.ensures in
-    post-too-large c.args.self.now c.args.slot c.args.place c.args.len slots c.in-Ok.number told.there told.done (λ fits.
+    rw c.of-then-len-size.ensures
+    (post-too-large c.args.self.now c.args.slot c.args.place c.args.len slots c.in-Ok.number told.there told.done (λ fits.
     elim c.then-len-size.branch [
       | then-len-size-via-then-len-size w ↦
           let same : c.size.result ≡ c.args.self.now.places.bucket.size = search rules in
           absurd (omega (arith, fits.0, same, w.if-len-size.true))
       | then-len-size-via-else-len-size+then-len w ↦ absurd (omega (arith, fits.1, w.if-len.true))
-    ])
+    ]))
 
-pub invariant_of-self : goal.invariant_of-self
-invariant_of-self c = c.self.invariant
-    ∙ sym (posted-same c.self.inside.party c.args.slot c.in-Ok.number c.args.len c.post.result c.post.new.self c.post.ensures)
-
-pub returns : goal.returns
-returns c =
+pub returns-then-depth-eq1 : goal.returns-then-depth-eq1
+returns-then-depth-eq1 c =
     let slots : c.args.slot < slots_of c.args.self.now = search rules in
     let told = c.in-Ok.ensures in
     let same : c.size.result ≡ c.args.self.now.places.bucket.size = search rules in
     let fits : Fits c.args.self.now c.args.len = (omega (arith, same, c.if-len-size.false), omega (arith, c.if-len.false)) in
-    let at_view : (told : Result Bool Refusal) → c.post.result ≡ told
-    → Posts log_of c.args.self.now.party c.args.slot c.in-Ok.number c.args.len told c.post.new.self =
-    λ told is. subst (λ (f : JoinedFile). Posts log_of f.party c.args.slot c.in-Ok.number c.args.len told c.post.new.self)
-    c.self.view_is (rw is at c.post.ensures) in
-    let becomes = ap (λ (f : JoinedFile). record f { party = c.post.new.self }) c.self.view_is in
-    subst (λ (after : JoinedFile). TellsPost c.args.self.now c.args.slot c.args.place c.args.len c.match-post.result after)
-    (sym becomes) (elim c.match-post.branch [
-      | in-Ok-true w ↦ rw w.result-is (post-tried _ c.args.slot c.args.place c.args.len slots c.in-Ok.number told.there told.done
-          true c.post.new.self fits (at_view (Ok true) (rw (w.in-Ok-true.is, w.in-Ok-true.field-0-test) refl)))
-      | in-Ok-false w ↦ rw w.result-is (post-tried _ c.args.slot c.args.place c.args.len slots c.in-Ok.number told.there told.done
-          false c.post.new.self fits (at_view (Ok false) (rw (w.in-Ok-false.is, w.in-Ok-false.field-0-test) refl)))
-      | in-Err-post w ↦ not-refused c.args.self.now c.args.slot c.args.place c.args.len slots c.in-Ok.number told.there told.done
-          w.in-Err-post.refusal c.post.new.self (at_view (Err w.in-Err-post.refusal) w.in-Err-post.is)
-    ])
+    let single : c.args.self.now.party.depth ≡ 1 = search rules in
+    post-tried c.args.self.now c.args.slot c.args.place c.args.len slots c.in-Ok.number told.there told.done _ _ fits
+    (λ _. c.post_single.ensures, λ apart. absurd (apart single))
+
+pub returns-else-depth-eq1 : goal.returns-else-depth-eq1
+returns-else-depth-eq1 c =
+    let slots : c.args.slot < slots_of c.args.self.now = search rules in
+    let told = c.in-Ok.ensures in
+    let same : c.size.result ≡ c.args.self.now.places.bucket.size = search rules in
+    let fits : Fits c.args.self.now c.args.len = (omega (arith, same, c.if-len-size.false), omega (arith, c.if-len.false)) in
+    let apart : c.args.self.now.party.depth ≢ 1 = search rules in
+    post-tried c.args.self.now c.args.slot c.args.place c.args.len slots c.in-Ok.number told.there told.done _ _ fits
+    (λ single. absurd (apart single), λ _. c.send.ensures)

@@ -10,7 +10,7 @@ use Rattle.std.proofs.Common.{Err, Ok, inl, inr, rules, subst, true, ◌≡◌}
 
 pub returns-in-Ok-Err-clause-over : goal.returns-in-Ok-Err-clause-over
 returns-in-Ok-Err-clause-over c _ =
-    let did : Joins log_of c.in-Ok.words c.first-hint.result (Err c.in-Ok-Err.field-0-0) =
+    let did : Joins log_of c.in-Ok.words c.first-hint.result c.max.result (Err c.in-Ok-Err.field-0-0) =
     rw c.in-Ok-Err.field-0-is at c.in-Ok-Err.ensures.joined in
     inr (
       log_of c.in-Ok-Err.field-0-0,
@@ -25,21 +25,21 @@ pub returns-in-Ok-new-clause-joins : goal.returns-in-Ok-new-clause-joins
 returns-in-Ok-new-clause-joins c =
     let words = c.in-Ok.words in
     let geometry = c.args.self.now.table.geometry in
-    let did : Joins log_of words c.first-hint.result (Ok c.in-Ok-Ok.party) =
+    let did : Joins log_of words c.first-hint.result c.max.result (Ok c.in-Ok-Ok.party) =
     rw c.in-Ok-Ok.field-0-is at c.in-Ok-Ok.ensures.joined in
     let hint : c.first-hint.result
     ≡ first_hint geometry.buckets geometry.parties c.args.self.now.places.bucket.size c.args.number = search rules in
     let same : c.in-Ok-Ok.party ≡ c.in-Ok-new.joined.value.party = search rules in
-    let joins = subst (λ (p : JoinedParty FileParty). Joins log_of words c.first-hint.result (Ok p)) same did in (
+    let joins = subst (λ (p : JoinedParty FileParty). Joins log_of words c.first-hint.result c.max.result (Ok p)) same did in (
       words,
       c.in-Ok.ensures.fresh,
-      subst (λ (h : Hint). Joins log_of words h (Ok c.in-Ok-new.joined.value.party)) hint joins,
+      rw (hint, c.max.ensures) at joins,
       search rules,
     )
 
 pub returns-in-Err-new-clause-no_memory : goal.returns-in-Err-new-clause-no_memory
 returns-in-Err-new-clause-no_memory c _ =
-    let did : Joins log_of c.in-Ok.words c.first-hint.result (Ok c.in-Ok-Ok.party) =
+    let did : Joins log_of c.in-Ok.words c.first-hint.result c.max.result (Ok c.in-Ok-Ok.party) =
     rw c.in-Ok-Ok.field-0-is at c.in-Ok-Ok.ensures.joined in
     let same : c.in-Err-new.refused.value.party ≡ c.in-Ok-Ok.party = search rules in
     inr (
