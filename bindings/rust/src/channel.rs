@@ -139,6 +139,18 @@ impl<'a> Sender<'a> {
 /// that, or its process is killed, it comes again. So call `done` after the work to process each
 /// message at least once, and before the work to process it at most once. An end may have several
 /// messages at a time.
+///
+/// Two threads can't use one end:
+///
+/// ```compile_fail,E0277
+/// # fn receive(file: &bb_memory::PoolFile) -> Result<(), bb_memory::PoolFileError> {
+/// let receiver = file.receiver(0)?;
+/// std::thread::scope(|scope| {
+///     scope.spawn(|| receiver.recv().unwrap().done());
+/// });
+/// # Ok(())
+/// # }
+/// ```
 pub struct Receiver<'a> {
     party: PoolFileParty<'a>,
     slot: u32,
