@@ -285,6 +285,14 @@ class PoolFile:
         path.unlink()
         return f"producers and consumers, {len(programs)} programs of each: {came}"
 
+    def run_requests(self) -> str:
+        """Runs the example of requests and replies, which kills some of its workers."""
+        program = self.work / "requests"
+        source = self.crate.parent.parent / "examples/c/requests.c"
+        words: list[str | Path] = ["-std=c99", *FLAGS, "-o", program, source]
+        self.compile([*words, self.prefix / "lib/libbb_memory.a"])
+        return self.run_program(program, [self.folders[0] / "requests"])
+
     def build_over(self, changed: Mapping[str, str], name: str, folder: Path) -> Path:
         """Builds a program over SOURCES, of which some have other texts, in a folder that it makes.
 
@@ -377,6 +385,7 @@ class PoolFile:
         jobs["the program of bb_pool_file.h"] = self.compile_shown
         jobs["bb-pool"] = self.run_command
         jobs["producers and consumers"] = self.run_examples
+        jobs["requests and replies"] = self.run_requests
         return jobs
 
     def check(self) -> None:

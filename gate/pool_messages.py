@@ -4,6 +4,9 @@ A message is a line: the process id of its sender, a blank, and a number. Each s
 A receiver prints a message before it calls `done`. So if it is killed in between, another receiver
 prints the message again.
 
+All messages go through one queue, so those of one sender come to each receiver in order. Only the
+message of a receiver that was killed comes late, to another one.
+
 Each receiver prints to a file of its own, and is killed in the end. If it is killed while it writes
 a line, the system may have written only the beginning of it: up to the end of a page, for example.
 Such a torn line isn't a message, and doesn't count as printed: the receiver hasn't called `done`,
@@ -69,20 +72,36 @@ class Started:
             self.process.wait()
 
 
-def faults(printed: Iterable[str], senders: Mapping[int, int | None]) -> list[str]:
+def late(messages: Iterable[tuple[int, int]]) -> int:
+    """Returns how many messages came to a receiver after younger ones of their senders.
+
+    A message is the process id of its sender, and its number.
+    """
+    count = 0
+    newest: dict[int, int] = {}
+    for sender, number in messages:
+        count += number < newest.get(sender, 0)
+        newest[sender] = max(number, newest.get(sender, 0))
+    return count
+
+
+def faults(printed: Sequence[str], senders: Mapping[int, int | None]) -> list[str]:
     """Returns what is wrong with the texts that receivers have printed, each of which was killed.
 
     `senders` has the number of messages that each process sent, or None if the process was killed.
     The messages of a killed process count up from 0 without a gap, too. A message may come again
     only if its receiver was killed before it called `done`: so the message is the last thing that
-    this receiver printed.
+    this receiver printed. Each receiver had one message at a time, so for each of them one message
+    may come late.
     """
     found = []
+    late_ones = 0
     came: dict[int, set[int]] = {process: set() for process in senders}
     # Messages after which their receivers printed nothing more.
     last: list[tuple[int, int]] = []
     for text in printed:
         *lines, torn = text.split("\n")
+        messages: list[tuple[int, int]] = []
         for at, line in enumerate(lines, 1):
             process, _, digits = line.partition(" ")
             if not process.isdecimal() or not digits.isdecimal() or int(process) not in came:
@@ -90,12 +109,16 @@ def faults(printed: Iterable[str], senders: Mapping[int, int | None]) -> list[st
                 continue
             sender = int(process)
             number = int(digits)
+            messages.append((sender, number))
             if at == len(lines) and torn == "":
                 last.append((sender, number))
             elif number in came[sender]:
                 found.append(f"a message came again after `done`: {line}")
             else:
                 came[sender].add(number)
+        late_ones += late(messages)
+    if late_ones > len(printed):
+        found.append(f"{late_ones} messages came late, to {len(printed)} receivers")
     for sender, number in last:
         came[sender].add(number)
     for sender, sent in senders.items():

@@ -13,6 +13,7 @@
 //     options.buckets = 1000;
 //     options.parties = 16;
 //     options.slots = 8;
+//     options.depth = 32;  // messages that each slot has room for
 //     bb::pool_file file;
 //     if (file.open("/dev/shm/orders", options) != BB_OK)
 //         return;
@@ -234,8 +235,8 @@ public:
                                 : std::uint32_t{BB_UNINITIALIZED};
     }
 
-    // Waits until the slot (with BB_ANY_SLOT, any slot) is empty, for at most this many
-    // milliseconds. The codes are those of `wait_full`.
+    // Waits until the slot (with BB_ANY_SLOT, any slot) has room for a message, for at most this
+    // many milliseconds. The codes are those of `wait_full`.
     [[nodiscard]] std::uint32_t wait_empty(std::uint32_t slot,
                                            std::uint32_t milliseconds) const noexcept {
         return get() != nullptr ? bb_pool_file_wait_empty(get(), slot, milliseconds)
@@ -341,7 +342,8 @@ private:
 };
 
 // A message that a party has taken, or the code of an error. When it goes out of scope after
-// `done`, its bucket is freed. Without `done` the message is put back, and can be taken again.
+// `done`, its bucket is freed. Without `done` the message is put back, and can be taken again,
+// before younger ones. A party may have several messages at a time.
 //
 // If the party leaves or gives all back before that, there is no message here anymore, and the
 // bucket may be used by others. Its place stays mapped until this goes out of scope.
@@ -351,7 +353,6 @@ public:
 
     pool_file_message &operator=(pool_file_message &&other) noexcept {
         std::swap(by_, other.by_);
-        std::swap(slot_, other.slot_);
         std::swap(message_, other.message_);
         std::swap(is_done_, other.is_done_);
         return *this;
@@ -391,14 +392,15 @@ public:
         return is_aligned && size() == sizeof(T) ? static_cast<const T *>(data()) : nullptr;
     }
 
-    // Empties the slot, so that nobody takes the message again. The message's bytes stay until this
-    // goes out of scope.
+    // Takes the message out of its slot, so that nobody takes it again. Its bytes stay until this
+    // goes out of scope. BB_NOT_HELD if this was done before; `code()` if there is no message; then
+    // the codes of `bb_file_party_done`.
     std::uint32_t done() noexcept {
         if (code() != BB_OK)
             return code();
         if (is_done_)
             return BB_NOT_HELD;
-        const std::uint32_t code = bb_pool_file_done(by_.file(), by_.party(), slot_);
+        const std::uint32_t code = bb_file_party_done(by_.party(), message_.place);
         is_done_ = code == BB_OK;
         return code;
     }
@@ -407,11 +409,10 @@ private:
     friend class pool_file_party;
 
     // There is a party if the code is BB_OK.
-    pool_file_message(detail::holder by, std::uint32_t slot, bb_message message) noexcept
-        : by_(std::move(by)), slot_(slot), message_(message) {}
+    pool_file_message(detail::holder by, bb_message message) noexcept
+        : by_(std::move(by)), message_(message) {}
 
     detail::holder by_;
-    std::uint32_t slot_;
     bb_message message_;
     bool is_done_ = false;
 };
@@ -559,12 +560,12 @@ public:
         return post_copy(slot, &value, sizeof value, alignof(T));
     }
 
-    // Takes the message in the slot. BB_UNINITIALIZED if the party hasn't joined; then the codes of
-    // `bb_pool_file_take`.
+    // Takes the oldest message in the slot that nobody has taken. BB_UNINITIALIZED if the party
+    // hasn't joined; then the codes of `bb_pool_file_take`.
     [[nodiscard]] pool_file_message take(std::uint32_t slot) noexcept {
         if (joined_ == nullptr)
-            return {detail::holder(), slot, bb_message{BB_UNINITIALIZED, 0, nullptr, 0}};
-        return {detail::holder(joined_), slot,
+            return {detail::holder(), bb_message{BB_UNINITIALIZED, 0, nullptr, 0}};
+        return {detail::holder(joined_),
                 bb_pool_file_take(joined_->file.get(), joined_->party, slot)};
     }
 

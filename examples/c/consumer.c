@@ -9,20 +9,24 @@ static const bb_pool_file_options OPTIONS = {.bucket_size = 256,
                                              .bucket_align = 64,
                                              .buckets = 1000,
                                              .parties = 16,
-                                             .slots = 8,
+                                             .slots = 1,
+                                             .depth = 100,
                                              .mode = 0600,
                                              .user_bytes = 0};
 
-// Receives the message in the slot, if there is one that no other consumer has taken.
-static uint32_t receive(bb_pool_file *file, bb_file_party *mine, uint32_t slot) {
-    const bb_message message = bb_pool_file_take(file, mine, slot);
+// The queue.
+static const uint32_t SLOT = 0;
+
+// Receives the oldest message that no other consumer has taken, if there is one.
+static uint32_t receive(bb_pool_file *file, bb_file_party *mine) {
+    const bb_message message = bb_pool_file_take(file, mine, SLOT);
     if (message.code == BB_DETACHED_EMPTY || message.code == BB_NOT_HELD)
         return BB_OK;
     if (message.code != BB_OK)
         return message.code;
     puts((const char *)message.place);
     fflush(stdout);
-    const uint32_t code = bb_pool_file_done(file, mine, slot);
+    const uint32_t code = bb_file_party_done(mine, message.place);
     return code == BB_OK ? bb_file_party_deallocate(mine, message.place) : code;
 }
 
@@ -36,13 +40,15 @@ int main(int argc, char **argv) {
     uint32_t code = bb_pool_file_open(&file, argv[1], &OPTIONS);
     if (code == BB_OK)
         code = bb_pool_file_join(file, &mine);
+    // After a reap, a message that a dead consumer had taken can be taken again, before younger ones.
+    if (code == BB_OK)
+        code = bb_pool_file_reap(file, BB_REAP_HELD, NULL);
     while (code == BB_OK) {
-        code = bb_pool_file_wait_full(file, BB_ANY_SLOT, 1000);
-        // After a reap, a message that a dead consumer had taken can be taken again.
+        code = bb_pool_file_wait_full(file, SLOT, 1000);
         if (code == BB_FILE_TIMED_OUT)
             code = bb_pool_file_reap(file, BB_REAP_HELD, NULL);
-        for (uint32_t slot = 0; code == BB_OK && slot < OPTIONS.slots; slot++)
-            code = receive(file, mine, slot);
+        if (code == BB_OK)
+            code = receive(file, mine);
     }
     if (code == BB_FILE_SYSTEM)
         perror("consumer");

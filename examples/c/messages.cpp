@@ -14,21 +14,23 @@ static bb_pool_file_options sizes() {
     sizes.bucket_align = 64;
     sizes.buckets = 1000;
     sizes.parties = 16;
-    sizes.slots = 8;
+    sizes.slots = 1;
+    sizes.depth = 100;
     return sizes;
 }
 
-static const bb_pool_file_options options = sizes();
+// The queue.
+static const std::uint32_t slot = 0;
 
-// Posts the text. Waits for an empty slot and a free bucket. Frees what dead processes hold if a
-// wait times out.
+// Posts the text. Waits for room in the queue and for a free bucket. Frees what dead processes hold
+// if a wait times out.
 static std::uint32_t send(bb::pool_file &file, bb::pool_file_party &mine, const std::string &text) {
-    for (std::uint32_t slot = 0;; slot = (slot + 1) % options.slots) {
+    for (;;) {
         std::uint32_t code = mine.post(slot, text.c_str(), text.size() + 1);
         if (code == BB_OUT_OF_MEMORY)
             code = file.wait_bucket(1000);
         else if (code == BB_DETACHED_FULL)
-            code = file.wait_empty(BB_ANY_SLOT, 1000);
+            code = file.wait_empty(slot, 1000);
         else
             return code;
         if (code == BB_FILE_TIMED_OUT)
@@ -38,9 +40,9 @@ static std::uint32_t send(bb::pool_file &file, bb::pool_file_party &mine, const 
     }
 }
 
-// Prints the message in the slot, if there is one that no other process has taken. If this process
-// is killed before it is done with it, another one prints it again.
-static std::uint32_t receive(bb::pool_file_party &mine, std::uint32_t slot) {
+// Prints the oldest message that no other process has taken, if there is one. If this process is
+// killed before it is done with it, another one prints it again.
+static std::uint32_t receive(bb::pool_file_party &mine) {
     bb::pool_file_message message = mine.take(slot);
     if (message.code() == BB_DETACHED_EMPTY || message.code() == BB_NOT_HELD)
         return BB_OK;
@@ -58,17 +60,20 @@ int main(int argc, char **argv) {
         std::fputs("usage: messages FILE [COUNT]\n", stderr);
         return 2;
     }
-    std::uint32_t code = file.open(argv[1], options);
+    std::uint32_t code = file.open(argv[1], sizes());
     if (code == BB_OK)
         code = mine.join(file);
+    // A message that a killed process had taken comes first.
+    if (code == BB_OK)
+        code = file.reap(BB_REAP_HELD);
     for (int number = 0; code == BB_OK && argc > 2 && number < std::stoi(argv[2]); number++)
         code = send(file, mine, std::to_string(getpid()) + " " + std::to_string(number));
     while (code == BB_OK && argc == 2) {
-        code = file.wait_full(BB_ANY_SLOT, 1000);
+        code = file.wait_full(slot, 1000);
         if (code == BB_FILE_TIMED_OUT)
             code = file.reap(BB_REAP_HELD);
-        for (std::uint32_t slot = 0; code == BB_OK && slot < options.slots; slot++)
-            code = receive(mine, slot);
+        if (code == BB_OK)
+            code = receive(mine);
     }
     if (code == BB_FILE_SYSTEM)
         std::perror("messages");

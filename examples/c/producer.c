@@ -1,20 +1,26 @@
-// Sends COUNT messages to any number of consumers through a pool in a file: `producer FILE COUNT`.
+// Sends COUNT messages to any number of consumers through a queue in a file: `producer FILE COUNT`.
 // Start producers and consumers in any order, up to the number of parties, and kill any of them
-// with `kill -9`: no bucket is lost, and each message that was posted is received.
+// with `kill -9`: no bucket is lost, and each message that was posted is received. With one
+// consumer at a time, the messages of each producer come in order.
 #include <stdio.h>
 #include <stdlib.h>
 #include <unistd.h>
 
 #include "bb_pool_file.h"
 
-// Buckets of 256 bytes at multiples of 64: 1,000 of them, for 16 parties, with 8 slots.
+// Buckets of 256 bytes at multiples of 64: 1,000 of them, for 16 parties, with a queue that has
+// room for 100 messages.
 static const bb_pool_file_options OPTIONS = {.bucket_size = 256,
                                              .bucket_align = 64,
                                              .buckets = 1000,
                                              .parties = 16,
-                                             .slots = 8,
+                                             .slots = 1,
+                                             .depth = 100,
                                              .mode = 0600,
                                              .user_bytes = 0};
+
+// The queue.
+static const uint32_t SLOT = 0;
 
 // Frees what dead processes hold if a wait timed out. Returns the code of the reap, or of the wait.
 static uint32_t reap_if_timed_out(bb_pool_file *file, uint32_t waited) {
@@ -35,16 +41,13 @@ static bb_chunk allocate_bucket(bb_pool_file *file, bb_file_party *mine) {
     return chunk;
 }
 
-// Posts the bucket into the first empty slot. Waits while all of them are full.
+// Posts the bucket into the queue. Waits while the queue has no room.
 static uint32_t post(bb_pool_file *file, bb_file_party *mine, bb_place place, size_t len) {
-    uint32_t code = BB_OK;
-    while (code == BB_OK) {
-        for (uint32_t slot = 0; slot < OPTIONS.slots; slot++) {
-            code = bb_pool_file_post(file, mine, slot, place, len);
-            if (code != BB_DETACHED_FULL)
-                return code;
-        }
-        code = reap_if_timed_out(file, bb_pool_file_wait_empty(file, BB_ANY_SLOT, 1000));
+    uint32_t code = bb_pool_file_post(file, mine, SLOT, place, len);
+    while (code == BB_DETACHED_FULL) {
+        code = reap_if_timed_out(file, bb_pool_file_wait_empty(file, SLOT, 1000));
+        if (code == BB_OK)
+            code = bb_pool_file_post(file, mine, SLOT, place, len);
     }
     return code;
 }

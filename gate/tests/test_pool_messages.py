@@ -56,6 +56,19 @@ class Faults(unittest.TestCase):
                 found = pool_messages.faults(printed, {7: 2})
                 self.assertEqual(found, ["a message came again after `done`: 7 0"])
 
+    def test_late(self) -> None:
+        self.assertEqual(pool_messages.late([(7, 0), (8, 5), (7, 3), (7, 1), (8, 6), (7, 2)]), 2)
+        self.assertEqual(pool_messages.late([(7, 1), (7, 1), (8, 0), (7, 2)]), 0)
+
+    def test_late_of_killed_receivers(self) -> None:
+        printed = ["7 1\n7 0\n", "7 3\n7 2\n"]
+        self.assertEqual(pool_messages.faults(printed, {7: 4}), [])
+
+    def test_out_of_order(self) -> None:
+        printed = ["7 2\n7 1\n7 0\n7 3\n"]
+        found = pool_messages.faults(printed, {7: 4})
+        self.assertEqual(found, ["2 messages came late, to 1 receivers"])
+
     def test_torn_at_the_end_and_came_again(self) -> None:
         for torn in ("7", "7 ", "7 1", "7 12"):
             with self.subTest(torn):

@@ -157,10 +157,10 @@ static PyTypeObject holder_type;
 static PyTypeObject seen_type;
 
 static PyStructSequence_Field info_fields[] = {
-    {"bucket_size", NULL}, {"bucket_align", NULL}, {"buckets", NULL},    {"parties", NULL},
-    {"slots", NULL},       {"mode", NULL},         {"user_bytes", NULL}, {"alive", NULL},
-    {"held", NULL},        {"detached", NULL},     {"lost", NULL},       {"full_slots", NULL},
-    {"wrong", NULL},       {NULL, NULL},
+    {"bucket_size", NULL}, {"bucket_align", NULL}, {"buckets", NULL},  {"parties", NULL},
+    {"slots", NULL},       {"depth", NULL},        {"mode", NULL},     {"user_bytes", NULL},
+    {"alive", NULL},       {"held", NULL},         {"detached", NULL}, {"lost", NULL},
+    {"messages", NULL},    {"wrong", NULL},        {NULL, NULL},
 };
 static PyStructSequence_Desc info_description = {
     "bb_memory.Info",
@@ -280,17 +280,18 @@ static bool check_open(const file_object *self) {
 // exception if a file is to be made, and one of those is missing that have no default.
 static bool read_options(PyObject *args, PyObject *keywords, PyObject **path,
                          bb_pool_file_options *to) {
-    static char *names[] = {"",      "bucket_size", "bucket_align", "buckets", "parties",
-                            "slots", "mode",        "user_bytes",   NULL};
+    static char *names[] = {"",      "bucket_size", "bucket_align", "buckets",    "parties",
+                            "slots", "depth",       "mode",         "user_bytes", NULL};
     unsigned int mode = 0;
     memset(to, 0, sizeof *to);
     to->bucket_align = 64;
     to->parties = 16;
     to->slots = 8;
-    if (!PyArg_ParseTupleAndKeywords(args, keywords, "O|$O&O&O&O&O&IO&:PoolFile", names, path,
-                                     to_size, &to->bucket_size, to_size, &to->bucket_align,
-                                     to_number, &to->buckets, to_number, &to->parties, to_number,
-                                     &to->slots, &mode, to_size, &to->user_bytes))
+    to->depth = 1;
+    if (!PyArg_ParseTupleAndKeywords(
+            args, keywords, "O|$O&O&O&O&O&O&IO&:PoolFile", names, path, to_size, &to->bucket_size,
+            to_size, &to->bucket_align, to_number, &to->buckets, to_number, &to->parties, to_number,
+            &to->slots, to_number, &to->depth, &mode, to_size, &to->user_bytes))
         return false;
     to->mode = (mode_t)mode;
     if ((to->bucket_size == 0) == (to->buckets == 0))
@@ -412,12 +413,13 @@ static PyObject *file_info(file_object *self, PyObject *nothing) {
     PyObject *items = NULL;
     if (code == BB_OK)
         items = Py_BuildValue(
-            "(nnIIIInIIIIII)", (Py_ssize_t)info.options.bucket_size,
+            "(nnIIIIInIIIIII)", (Py_ssize_t)info.options.bucket_size,
             (Py_ssize_t)info.options.bucket_align, (unsigned int)info.options.buckets,
             (unsigned int)info.options.parties, (unsigned int)info.options.slots,
-            (unsigned int)info.options.mode, (Py_ssize_t)info.options.user_bytes,
-            (unsigned int)info.alive, (unsigned int)info.held, (unsigned int)info.detached,
-            (unsigned int)info.lost, (unsigned int)info.full_slots, (unsigned int)info.wrong);
+            (unsigned int)info.options.depth, (unsigned int)info.options.mode,
+            (Py_ssize_t)info.options.user_bytes, (unsigned int)info.alive, (unsigned int)info.held,
+            (unsigned int)info.detached, (unsigned int)info.lost, (unsigned int)info.messages,
+            (unsigned int)info.wrong);
     else
         raise_code(code, self->path);
     unpin_file(self);
@@ -1051,8 +1053,7 @@ static PyObject *bucket_done(bucket_object *self, PyObject *nothing) {
         return NULL;
     if (self->state != IN_SLOT)
         return raise_code(BB_NOT_HELD, NULL);
-    const party_object *party = self->party;
-    const uint32_t code = bb_pool_file_done(party->owner->file, party->party, self->slot);
+    const uint32_t code = bb_file_party_done(self->party->party, self->place);
     if (code != BB_OK)
         return raise_code(code, NULL);
     self->state = HELD;

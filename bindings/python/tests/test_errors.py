@@ -59,6 +59,8 @@ def test_figures_that_no_file_has(path: Path) -> None:
         PoolFile(path, **{**FIGURES, "bucket_align": 3})
     with pytest.raises(bb_memory.InvalidArgumentError):
         PoolFile(path, **{**FIGURES, "slots": -1})
+    with pytest.raises(bb_memory.InvalidArgumentError):
+        PoolFile(path, depth=-1, **FIGURES)
     with pytest.raises(TypeError, match="bucket_size and buckets"):
         PoolFile(path, bucket_size=64)
     with pytest.raises(TypeError, match="bucket_size and buckets"):
@@ -70,6 +72,9 @@ def test_files_that_are_not_opened(path: Path) -> None:
     PoolFile(path, **FIGURES).close()
     with pytest.raises(bb_memory.FileMismatchError):
         PoolFile(path, **{**FIGURES, "buckets": 21})
+    with pytest.raises(bb_memory.FileMismatchError):
+        PoolFile(path, depth=2, **FIGURES)
+    assert PoolFile(path, depth=0, **FIGURES).info().depth == 1
     path.chmod(0o606)
     with pytest.raises(bb_memory.FileUnsafeError):
         PoolFile(path)
@@ -86,7 +91,7 @@ def test_files_that_are_not_opened(path: Path) -> None:
         PoolFile(path)
     file = PoolFile(path, **FIGURES)
     file.close()
-    os.truncate(path, 100)
+    os.truncate(path, 4096)
     with pytest.raises(bb_memory.FileDamagedError):
         PoolFile(path)
 
@@ -95,7 +100,7 @@ def test_a_file_is_opened_by_a_descriptor(file: PoolFile, path: Path) -> None:
     party = file.join()
     party.post(0, b"by a descriptor")
     with path.open("r+b") as opened, PoolFile(opened.fileno()) as other:
-        assert other.info().full_slots == 1
+        assert other.info().messages == 1
         os.fstat(opened.fileno())
     with pytest.raises(ValueError):
         PoolFile(-1)

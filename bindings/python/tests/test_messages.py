@@ -29,7 +29,7 @@ def test_a_message_is_taken_once_and_comes_again_unless_it_is_done(file: PoolFil
         again.done()
     del again
     info = file.info()
-    assert (info.alive, info.held, info.detached, info.full_slots) == (2, 0, 0, 0)
+    assert (info.alive, info.held, info.detached, info.messages) == (2, 0, 0, 0)
     sender.leave()
     receiver.leave()
     assert file.info().alive == 0
@@ -47,6 +47,41 @@ def test_a_full_slot_keeps_its_message(file: PoolFile) -> None:
     assert file.info().held == 1
     bucket.post(1, nbytes=5)
     assert (text(party.take(0)), text(party.take(1))) == (b"first", b"third")
+
+
+def test_messages_of_a_slot_come_in_order(path: Path) -> None:
+    file = PoolFile(path, depth=3, **FIGURES)
+    assert file.info().depth == PoolFile(path).info().depth == 3
+    sender, receiver = file.join(), file.join()
+    for data in (b"one", b"two", b"three"):
+        sender.post(1, data)
+    with pytest.raises(bb_memory.DetachedFullError):
+        sender.post(1, b"four")
+    first, second, third = (receiver.take(1) for _ in range(3))
+    assert [text(message) for message in (first, second, third)] == [b"one", b"two", b"three"]
+    assert receiver.take(1) is None
+    assert first is not None and second is not None
+    # Messages are done in any order, but the first one keeps its place until it is done.
+    second.done()
+    assert (second.slot, first.slot, file.info().messages) == (None, 1, 2)
+    assert not file.wait_empty(1, timeout=0)
+    with pytest.raises(bb_memory.DetachedFullError):
+        sender.post(1, b"four")
+    # Messages that are put back come again in their order.
+    del third, first
+    first = sender.take(1)
+    assert first is not None and text(first) == b"one"
+    first.done()
+    assert file.wait_empty(1, timeout=0)
+    sender.post(1, b"four")
+    for data in (b"three", b"four"):
+        taken = receiver.take(1)
+        assert taken is not None
+        with taken as message:
+            assert text(message) == data
+    del first, second
+    info = file.info()
+    assert (info.held, info.detached, info.messages) == (0, 0, 0)
 
 
 def test_a_message_is_built_and_read_in_one_bucket(file: PoolFile) -> None:
@@ -120,12 +155,12 @@ def test_with_finishes_a_message(file: PoolFile) -> None:
     assert taken is not None
     with pytest.raises(KeyError), taken:
         raise KeyError
-    assert (file.info().held, file.info().full_slots) == (0, 1)
+    assert (file.info().held, file.info().messages) == (0, 1)
     taken = party.take(0)
     assert taken is not None
     with taken as message:
         assert text(message) == b"one"
-    assert (file.info().held, file.info().full_slots) == (0, 0)
+    assert (file.info().held, file.info().messages) == (0, 0)
     with party.bucket() as bucket:
         assert file.info().held == 1
     assert file.info().held == 0
@@ -133,7 +168,7 @@ def test_with_finishes_a_message(file: PoolFile) -> None:
         pass
     with party.bucket() as bucket:
         bucket.post(0)
-    assert file.info().full_slots == 1
+    assert file.info().messages == 1
 
 
 def test_a_bucket_is_gone_after_it_was_sent_or_freed(file: PoolFile) -> None:
@@ -175,7 +210,7 @@ def test_a_party_that_leaves_puts_back_the_messages_that_are_not_done(file: Pool
         done.done()
         assert file.info().held == 2
     info = file.info()
-    assert (info.alive, info.held, info.detached, info.full_slots) == (1, 0, 1, 1)
+    assert (info.alive, info.held, info.detached, info.messages) == (1, 0, 1, 1)
     with pytest.raises(bb_memory.UninitializedError):
         undone.done()
     del undone, done

@@ -78,7 +78,7 @@ def test_a_killed_sender_loses_nothing(file: PoolFile, path: Path) -> None:
                 assert text(message) == b"from a sender"
             received += 1
         info = file.info()
-        assert (info.held, info.detached, info.full_slots, info.wrong) == (0, 0, 0, 0)
+        assert (info.held, info.detached, info.messages, info.wrong) == (0, 0, 0, 0)
     assert received == 32
 
 
@@ -175,7 +175,7 @@ def test_a_forked_child_has_to_open_the_file_again(file: PoolFile, path: Path) -
     view(bucket)[0] = 1
     assert text(message) == b"message"
     info = file.info()
-    assert (info.alive, info.held, info.full_slots, info.detached) == (1, 2, 2, 1)
+    assert (info.alive, info.held, info.messages, info.detached) == (1, 2, 2, 1)
 
 
 def test_what_a_forked_child_deletes_stays_the_parents(file: PoolFile) -> None:

@@ -41,7 +41,7 @@ def test_no_other_thread_uses_a_party(file: PoolFile) -> None:
         with pytest.raises(RuntimeError, match="another thread"):
             in_a_thread(call)
     info = file.info()
-    assert (info.alive, info.held, info.full_slots) == (1, 2, 1)
+    assert (info.alive, info.held, info.messages) == (1, 2, 1)
 
 
 def test_another_thread_may_use_a_view_and_drop_a_bucket(file: PoolFile) -> None:

@@ -30,7 +30,7 @@ def test_a_bucket_with_a_view_stays(file: PoolFile, send: "Callable[[Bucket], ob
         send(bucket)
     part[0] = 7
     assert file.info().held == 1
-    assert file.info().full_slots == 0
+    assert file.info().messages == 0
     part.release()
     send(bucket)
     assert file.info().held == 0
@@ -127,7 +127,7 @@ def test_with_frees_the_bucket_after_its_last_view(file: PoolFile) -> None:
     assert taken is not None
     with taken as message:
         seen = view(message)
-    assert (file.info().held, file.info().full_slots) == (1, 0)
+    assert (file.info().held, file.info().messages) == (1, 0)
     assert bytes(seen) == b"message"
     del seen
     assert file.info().held == 0
@@ -208,4 +208,4 @@ def test_arrays_are_the_buckets_memory(file: PoolFile, other: PoolFile) -> None:
     assert taken.sum() == 36
     assert file.info().held == 1
     del taken
-    assert (file.info().held, file.info().full_slots) == (0, 1)
+    assert (file.info().held, file.info().messages) == (0, 1)

@@ -4,6 +4,7 @@
 
 mod allocator;
 mod boxes;
+mod channel;
 #[cfg(feature = "allocator_api")]
 mod core_api;
 mod error;
@@ -15,6 +16,7 @@ mod shared;
 
 pub use allocator::{Allocator, BaseAllocator, Pool};
 pub use boxes::{DetachedBox, PartyBox, PoolBox, TryNewError};
+pub use channel::{Receiver, RecvTimeoutError, SendError, Sender, TryRecvError, TrySendError};
 pub use error::{
     AllocationError, AllocationGrowError, AllocationShrinkError, AttachError, DeallocationError,
     DetachError, InitError, JoinError, ResetError,

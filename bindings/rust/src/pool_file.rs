@@ -72,7 +72,6 @@ unsafe extern "C" {
         len: usize,
     ) -> u32;
     fn bb_pool_file_take(file: *mut File, party: *mut FileParty, slot: u32) -> Taken;
-    fn bb_pool_file_done(file: *mut File, party: *mut FileParty, slot: u32) -> u32;
     fn bb_pool_file_wait_full(file: *mut File, slot: u32, milliseconds: u32) -> u32;
     fn bb_pool_file_wait_empty(file: *mut File, slot: u32, milliseconds: u32) -> u32;
     fn bb_pool_file_wait_bucket(file: *mut File, milliseconds: u32) -> u32;
@@ -89,6 +88,7 @@ unsafe extern "C" {
     fn bb_file_party_allocate(party: *mut FileParty, size: usize, align: usize) -> Chunk;
     fn bb_file_party_take(party: *mut FileParty) -> Chunk;
     fn bb_file_party_deallocate(party: *mut FileParty, place: *const c_void) -> u32;
+    fn bb_file_party_done(party: *mut FileParty, place: *const c_void) -> u32;
     fn bb_file_party_number(party: *mut FileParty) -> Number;
 }
 
@@ -107,6 +107,8 @@ pub struct PoolFileOptions {
     pub parties: u32,
     /// The number of slots for messages.
     pub slots: u32,
+    /// The depth of each slot: how many messages it has room for. 0 stands for 1.
+    pub depth: u32,
     /// The permissions of a new file, less the umask; 0 stands for 0o600.
     pub mode: u32,
     /// How many bytes the file has for the program itself ([`PoolFile::user`]).
@@ -130,8 +132,8 @@ pub struct PoolFileInfo {
     pub detached: u32,
     /// The buckets that dead parties hold, which a reap frees.
     pub lost: u32,
-    /// The slots that have a message.
-    pub full_slots: u32,
+    /// The messages in slots, taken or not.
+    pub messages: u32,
     /// The flags with a value that no party writes.
     pub wrong: u32,
 }
@@ -213,7 +215,7 @@ pub enum PoolFileError {
     SizeTooLarge,
     /// No bucket is free.
     NoBucket,
-    /// The slot is full.
+    /// The slot has no room for another message.
     SlotFull,
     /// The slot names no bucket: somebody wrote wrong values into the file.
     WrongSlot,
@@ -268,7 +270,7 @@ impl fmt::Display for PoolFileError {
             PoolFileError::OutOfMemory => "malloc failed",
             PoolFileError::SizeTooLarge => "the message is longer than a bucket",
             PoolFileError::NoBucket => "no bucket is free",
-            PoolFileError::SlotFull => "the slot is full",
+            PoolFileError::SlotFull => "the slot has no room",
             PoolFileError::WrongSlot => "the slot names no bucket",
             PoolFileError::NotDone => "the bucket is still in a slot",
             PoolFileError::NotABucket => "no bucket has the number",
@@ -454,8 +456,8 @@ impl PoolFile {
         }))
     }
 
-    /// Returns what is in the slot, without taking it: a party may have taken the message already,
-    /// and not be done with it. Returns `None` if the slot is empty.
+    /// Returns the oldest message in the slot, without taking it: a party may have taken it already,
+    /// and not be done with it. Returns `None` if the slot has no message.
     pub fn look(&self, slot: u32) -> Result<Option<SeenMessage>, PoolFileError> {
         // SAFETY: the file is open.
         let seen = unsafe { bb_pool_file_look(self.file.as_ptr(), slot) };
@@ -474,8 +476,8 @@ impl PoolFile {
         waited(unsafe { bb_pool_file_wait_full(self.file.as_ptr(), slot, milliseconds(time)) })
     }
 
-    /// Waits until the slot (with `None`, any slot) is empty. Returns `false` if the wait timed
-    /// out.
+    /// Waits until the slot (with `None`, any slot) has room for a message. Returns `false` if the
+    /// wait timed out.
     pub fn wait_empty(&self, slot: Option<u32>, time: Duration) -> Result<bool, PoolFileError> {
         let slot = slot.unwrap_or(ANY_SLOT);
         // SAFETY: the file is open.
@@ -508,7 +510,7 @@ impl PoolFile {
             held: 0,
             detached: 0,
             lost: 0,
-            full_slots: 0,
+            messages: 0,
             wrong: 0,
         };
         // SAFETY: the file is open.
@@ -517,7 +519,7 @@ impl PoolFile {
     }
 
     /// Returns the sizes that the file was made with. They never change.
-    fn options(&self) -> Result<&PoolFileOptions, PoolFileError> {
+    pub(crate) fn options(&self) -> Result<&PoolFileOptions, PoolFileError> {
         if let Some(options) = self.options.get() {
             return Ok(options);
         }
@@ -533,9 +535,11 @@ impl Drop for PoolFile {
     }
 }
 
-/// Returns a time in milliseconds, at most the longest that the header has for a wait that ends.
+/// Returns a time in milliseconds, rounded up, but at most the longest that the header has for a
+/// wait that ends.
 fn milliseconds(time: Duration) -> u32 {
-    u32::try_from(time.as_millis()).unwrap_or(u32::MAX).min(u32::MAX - 1)
+    let milliseconds = time.as_nanos().div_ceil(1_000_000);
+    u32::try_from(milliseconds).unwrap_or(u32::MAX).min(u32::MAX - 1)
 }
 
 fn waited(code: u32) -> Result<bool, PoolFileError> {
@@ -581,7 +585,7 @@ impl AsRawFd for Watch<'_> {
 /// A party of a pool in a file. It may be moved from thread to thread, but only one may use it at a
 /// time. When it is dropped, it leaves, and what it holds is freed.
 pub struct PoolFileParty<'a> {
-    file: &'a PoolFile,
+    pub(crate) file: &'a PoolFile,
     party: NonNull<FileParty>,
     one_thread: PhantomData<Cell<()>>,
 }
@@ -650,19 +654,16 @@ impl PoolFileParty<'_> {
         }
     }
 
-    /// Takes the message in the slot. Returns `None` if the slot is empty, or if another party has
-    /// the message.
+    /// Takes the oldest message in the slot that nobody has taken. Returns `None` if there is none.
     pub fn take(&self, slot: u32) -> Result<Option<Message<'_>>, PoolFileError> {
         // SAFETY: the party has joined.
         let taken =
             unsafe { bb_pool_file_take(self.file.file.as_ptr(), self.party.as_ptr(), slot) };
         match taken.code {
-            ffi::OK => Ok(Some(Message {
-                party: self,
-                slot,
-                bytes: bytes_at(taken.place, taken.len),
-                is_done: false,
-            })),
+            ffi::OK => {
+                let bytes = bytes_at(taken.place, taken.len);
+                Ok(Some(Message { party: self, bytes, is_done: false }))
+            }
             DETACHED_EMPTY | ffi::NOT_HELD => Ok(None),
             code => Err(PoolFileError::of(code)),
         }
@@ -683,23 +684,30 @@ impl Drop for PoolFileParty<'_> {
 }
 
 /// A message that a party has taken. When it is dropped after [`done`](Message::done), its bucket
-/// is freed. Without `done` the message is put back, and can be taken again.
+/// is freed. Without `done` the message is put back, and can be taken again, before younger ones.
+///
+/// A party may have several messages at a time, and be done with them in any order. The slot gets
+/// room again in the order in which its messages were posted.
+#[must_use = "dropping it puts the message back"]
 pub struct Message<'a> {
     party: &'a PoolFileParty<'a>,
-    slot: u32,
     bytes: NonNull<[u8]>,
     is_done: bool,
 }
 
 impl Message<'_> {
-    /// Empties the slot, so that nobody takes the message again. The message's bytes stay until it
-    /// is dropped.
+    /// Takes the message out of its slot, so that nobody takes it again. Its bytes stay until it is
+    /// dropped.
     pub fn done(&mut self) {
         if !self.is_done {
-            let (file, party) = (self.party.file.file.as_ptr(), self.party.party.as_ptr());
-            // SAFETY: the party holds the bucket that is in the slot.
-            self.is_done = unsafe { bb_pool_file_done(file, party, self.slot) } == ffi::OK;
+            // SAFETY: the party holds the bucket, whose message is in a slot.
+            let code = unsafe { bb_file_party_done(self.party.party.as_ptr(), self.place()) };
+            self.is_done = code == ffi::OK;
         }
+    }
+
+    fn place(&self) -> *const c_void {
+        self.bytes.as_ptr().cast()
     }
 }
 
@@ -714,20 +722,19 @@ impl Deref for Message<'_> {
 
 impl fmt::Debug for Message<'_> {
     fn fmt(&self, f: &mut fmt::Formatter<'_>) -> fmt::Result {
-        f.debug_struct("Message").field("slot", &self.slot).field("len", &self.len()).finish()
+        f.debug_struct("Message").field("len", &self.len()).finish_non_exhaustive()
     }
 }
 
 impl Drop for Message<'_> {
     fn drop(&mut self) {
         let (file, party) = (self.party.file.file.as_ptr(), self.party.party.as_ptr());
-        let place = self.bytes.as_ptr().cast::<c_void>();
         // SAFETY: the party holds the bucket.
         unsafe {
             if self.is_done {
-                bb_file_party_deallocate(party, place);
+                bb_file_party_deallocate(party, self.place());
             } else {
-                bb_pool_file_detach(file, party, place);
+                bb_pool_file_detach(file, party, self.place());
             }
         }
     }
@@ -787,8 +794,8 @@ impl<'a> Bucket<'a> {
     ///
     /// [`InvalidArgument`](PoolFileError::InvalidArgument) if there is no such slot,
     /// [`SizeTooLarge`](PoolFileError::SizeTooLarge) if `len` is greater than the bucket's size or
-    /// than `u32::MAX`, [`SlotFull`](PoolFileError::SlotFull) if the slot is full. The error has the
-    /// bucket.
+    /// than `u32::MAX`, [`SlotFull`](PoolFileError::SlotFull) if the slot has no room. The error has
+    /// the bucket.
     pub fn post(self, slot: u32, len: usize) -> Result<(), PostError<'a>> {
         let (file, party) = (self.party.file.file.as_ptr(), self.party.party.as_ptr());
         // SAFETY: the party has joined.

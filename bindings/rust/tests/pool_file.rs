@@ -1,18 +1,20 @@
 //! Pools in files: threads and processes, and processes that are killed.
 use bb_memory::{
     Bucket, FileHolder, Message, PartyId, PoolFile, PoolFileError, PoolFileOptions, PoolFileParty,
-    PostError, Reap, SeenMessage,
+    PostError, Reap, Receiver, RecvTimeoutError, SeenMessage, SendError, Sender, TryRecvError,
+    TrySendError,
 };
 use core::ffi::{c_int, c_short, c_ulong};
 use std::env;
 use std::fs;
+use std::io::{BufRead, BufReader};
 use std::mem;
 use std::os::fd::{AsFd, AsRawFd};
 use std::path::PathBuf;
 use std::process::{self, Command};
 use std::sync::atomic::Ordering;
 use std::thread;
-use std::time::Duration;
+use std::time::{Duration, Instant};
 
 const OPTIONS: PoolFileOptions = PoolFileOptions {
     bucket_size: 64,
@@ -20,12 +22,17 @@ const OPTIONS: PoolFileOptions = PoolFileOptions {
     buckets: 20,
     parties: 6,
     slots: 4,
+    depth: 1,
     mode: 0,
     user_bytes: 0,
 };
 
-/// The environment variable that makes the test's own program a sender.
+/// The environment variables that make the test's own program a sender, and a receiver.
 const SENDER: &str = "BB_MEMORY_TEST_SENDER";
+const RECEIVER: &str = "BB_MEMORY_TEST_RECEIVER";
+
+/// Longer than any wait of these tests lasts, unless something is wrong.
+const LONG: Duration = Duration::from_secs(120);
 
 /// A path whose file is removed in the end.
 struct Scratch(PathBuf);
@@ -62,9 +69,47 @@ fn a_message_is_taken_once_and_comes_again_unless_it_is_done_with() {
     assert_eq!(&*again, b"hello");
     drop(again);
     let info = file.info().unwrap();
-    assert_eq!((info.alive, info.held, info.detached, info.full_slots), (2, 0, 0, 0));
+    assert_eq!((info.alive, info.held, info.detached, info.messages), (2, 0, 0, 0));
     drop((sender, receiver));
     assert_eq!(file.info().unwrap().alive, 0);
+}
+
+#[test]
+fn messages_of_a_slot_come_in_order() {
+    let path = Scratch::new("order");
+    let file = PoolFile::open(&path.0, &PoolFileOptions { depth: 3, ..OPTIONS }).unwrap();
+    assert_eq!(file.info().unwrap().options.depth, 3);
+    let (sender, receiver) = (file.join().unwrap(), file.join().unwrap());
+    for text in [b"first", b"other", b"third"] {
+        sender.post(2, text).unwrap();
+    }
+    assert!(matches!(sender.post(2, b"no room"), Err(PoolFileError::SlotFull)));
+    let (first, mut other) = (receiver.take(2).unwrap().unwrap(), sender.take(2).unwrap().unwrap());
+    let third = receiver.take(2).unwrap().unwrap();
+    assert_eq!((&*first, &*other, &*third), (&b"first"[..], &b"other"[..], &b"third"[..]));
+    assert!(sender.take(2).unwrap().is_none());
+    let info = file.info().unwrap();
+    assert_eq!((info.held, info.messages), (3, 3));
+    // Messages are done in any order, but the first one keeps its place until it is done.
+    other.done();
+    assert_eq!((&*other, file.info().unwrap().messages), (&b"other"[..], 2));
+    assert!(!file.wait_empty(Some(2), Duration::ZERO).unwrap());
+    assert!(matches!(sender.post(2, b"no room"), Err(PoolFileError::SlotFull)));
+    // Messages that are put back come again in their order.
+    drop((third, first, other));
+    let mut first = sender.take(2).unwrap().unwrap();
+    assert_eq!(*first, *b"first");
+    first.done();
+    assert!(file.wait_empty(Some(2), Duration::ZERO).unwrap());
+    sender.post(2, b"fourth").unwrap();
+    let mut third = receiver.take(2).unwrap().unwrap();
+    let mut fourth = receiver.take(2).unwrap().unwrap();
+    assert_eq!((&*third, &*fourth), (&b"third"[..], &b"fourth"[..]));
+    fourth.done();
+    third.done();
+    drop((first, third, fourth));
+    let info = file.info().unwrap();
+    assert_eq!((info.held, info.detached, info.messages), (0, 0, 0));
 }
 
 #[test]
@@ -81,7 +126,7 @@ fn a_party_that_leaves_puts_back_the_messages_that_it_isnt_done_with() {
     assert_eq!(file.info().unwrap().held, 2);
     drop(receiver);
     let info = file.info().unwrap();
-    assert_eq!((info.held, info.detached, info.full_slots), (0, 1, 1));
+    assert_eq!((info.held, info.detached, info.messages), (0, 1, 1));
     assert_eq!(&*sender.take(0).unwrap().unwrap(), b"undone");
 }
 
@@ -252,7 +297,7 @@ fn no_process_is_taken_for_an_earlier_one() {
 fn threads_wait_for_each_other() {
     let path = Scratch::new("threads");
     let file = PoolFile::open(&path.0, &OPTIONS).unwrap();
-    let time = Duration::from_secs(120);
+    let time = LONG;
     assert!(!file.wait_full(None, Duration::ZERO).unwrap());
     thread::scope(|scope| {
         let party: PoolFileParty = file.join().unwrap();
@@ -271,6 +316,136 @@ fn threads_wait_for_each_other() {
             message.done();
         }
     });
+}
+
+#[test]
+fn a_message_that_isnt_sent_comes_back() {
+    let path = Scratch::new("full");
+    let file = PoolFile::open(&path.0, &PoolFileOptions { depth: 2, ..OPTIONS }).unwrap();
+    assert!(matches!(file.sender(4), Err(PoolFileError::InvalidArgument)));
+    assert!(matches!(file.receiver(4), Err(PoolFileError::InvalidArgument)));
+    assert_eq!(file.info().unwrap().alive, 0);
+    let (sender, receiver): (Sender, Receiver) =
+        (file.sender(3).unwrap(), file.receiver(3).unwrap());
+    assert!(matches!(receiver.try_recv(), Err(TryRecvError::Empty)));
+    sender.send("one").unwrap();
+    sender.try_send(String::from("two")).unwrap();
+    let Err(TrySendError::Full(text)) = sender.try_send(String::from("three")) else {
+        panic!("the slot has no room");
+    };
+    assert_eq!(text, "three");
+    let Err(TrySendError::Failed(failed)) = sender.try_send(vec![7; 65]) else {
+        panic!("a bucket has 64 bytes");
+    };
+    let SendError { error, message } = failed;
+    assert!(matches!(error, PoolFileError::SizeTooLarge));
+    assert_eq!(message, [7; 65]);
+    let failed = sender.send([8; 65]).unwrap_err();
+    assert_eq!(failed.message, [8; 65]);
+    assert!(matches!(PoolFileError::from(failed), PoolFileError::SizeTooLarge));
+    let texts = receiver.try_iter().map(|message| {
+        let mut message = message.unwrap();
+        message.done();
+        message.to_vec()
+    });
+    assert_eq!(texts.collect::<Vec<_>>(), [b"one", b"two"]);
+    // Nothing is sent while no bucket is free.
+    let party = sender.party();
+    let all: Vec<Bucket> = (0..20).map(|_| party.bucket().unwrap()).collect();
+    assert!(matches!(sender.try_send("no bucket"), Err(TrySendError::Full("no bucket"))));
+    drop(all);
+    sender.try_send("a bucket").unwrap();
+    assert_eq!(*receiver.recv().unwrap(), *b"a bucket");
+    // The message was put back.
+    assert_eq!(receiver.recv().unwrap().len(), 8);
+    drop((sender, receiver));
+    assert_eq!(file.info().unwrap().alive, 0);
+}
+
+#[test]
+fn a_receiver_waits_as_long_as_it_says() {
+    let path = Scratch::new("timeout");
+    let file = PoolFile::open(&path.0, &PoolFileOptions { depth: 2, ..OPTIONS }).unwrap();
+    let (sender, receiver) = (file.sender(0).unwrap(), file.receiver(0).unwrap());
+    for timeout in [Duration::ZERO, Duration::from_millis(30)] {
+        let begun = Instant::now();
+        assert!(matches!(receiver.recv_timeout(timeout), Err(RecvTimeoutError::Timeout)));
+        assert!(begun.elapsed() >= timeout);
+    }
+    sender.send("now").unwrap();
+    assert_eq!(*receiver.recv_timeout(Duration::ZERO).unwrap(), *b"now");
+    thread::scope(|scope| {
+        scope.spawn(move || {
+            thread::sleep(Duration::from_millis(30));
+            sender.send("later").unwrap();
+        });
+        let mut now = receiver.recv().unwrap();
+        assert_eq!(*receiver.recv_timeout(LONG).unwrap(), *b"later");
+        now.done();
+    });
+    assert_eq!(*receiver.try_recv().unwrap(), *b"later");
+}
+
+/// How many messages each of two senders sends.
+const SENT: u32 = 500;
+
+/// The numbers that one receiver got from each sender.
+type Received = [Vec<u32>; 2];
+
+/// Returns the messages that one receiver gets, until an empty one.
+fn receive_all(receiver: &Receiver) -> Received {
+    let mut received = Received::default();
+    for message in receiver.iter() {
+        let mut message = message.unwrap();
+        message.done();
+        let Some((&sender, number)) = message.split_first() else { break };
+        received[usize::from(sender)].push(u32::from_le_bytes(number.try_into().unwrap()));
+    }
+    received
+}
+
+#[test]
+fn each_message_goes_to_one_receiver_in_order() {
+    let path = Scratch::new("receivers");
+    let file = PoolFile::open(&path.0, &PoolFileOptions { depth: 5, ..OPTIONS }).unwrap();
+    let received: Vec<Received> = thread::scope(|scope| {
+        let receivers: Vec<_> = (0..2).map(|_| file.receiver(1).unwrap()).collect();
+        let receivers: Vec<_> = receivers
+            .into_iter()
+            .map(|receiver| scope.spawn(move || receive_all(&receiver)))
+            .collect();
+        let senders: Vec<_> = (0..2_u8)
+            .map(|own| {
+                let sender = file.sender(1).unwrap();
+                scope.spawn(move || {
+                    for number in 0..SENT {
+                        let number = number.to_le_bytes();
+                        let message = [&[own], &number[..]].concat();
+                        sender.send(message).unwrap();
+                    }
+                })
+            })
+            .collect();
+        for sender in senders {
+            sender.join().unwrap();
+        }
+        let last = file.sender(1).unwrap();
+        for _ in 0..receivers.len() {
+            last.send("").unwrap();
+        }
+        receivers.into_iter().map(|receiver| receiver.join().unwrap()).collect()
+    });
+    for sender in 0..2 {
+        let mut all: Vec<u32> = Vec::new();
+        for one in &received {
+            assert!(one[sender].is_sorted());
+            all.extend(&one[sender]);
+        }
+        all.sort_unstable();
+        assert_eq!(all, (0..SENT).collect::<Vec<_>>());
+    }
+    let info = file.info().unwrap();
+    assert_eq!((info.alive, info.held, info.messages), (0, 0, 0));
 }
 
 /// The `struct pollfd` of the C library.
@@ -306,7 +481,7 @@ fn an_event_loop_takes_every_message() {
         let file = &file;
         scope.spawn(move || {
             for number in 0..1000_u32 {
-                assert!(file.wait_empty(Some(3), Duration::from_secs(120)).unwrap());
+                assert!(file.wait_empty(Some(3), LONG).unwrap());
                 party.post(3, &number.to_le_bytes()).unwrap();
             }
         });
@@ -357,6 +532,46 @@ fn sender() {
     }
 }
 
+/// Takes a message and works on it until it is killed, if this is the program that a test started
+/// for it.
+#[test]
+fn receiver() {
+    let Some(path) = env::var_os(RECEIVER) else { return };
+    let file = PoolFile::open_existing(path).unwrap();
+    let receiver = file.receiver(0).unwrap();
+    let message = receiver.recv_timeout(LONG).unwrap();
+    eprintln!("{}", String::from_utf8_lossy(&message));
+    thread::sleep(LONG);
+}
+
+#[test]
+fn what_a_killed_receiver_had_comes_again() {
+    let path = Scratch::new("received");
+    let file = PoolFile::open(&path.0, &PoolFileOptions { depth: 3, ..OPTIONS }).unwrap();
+    let (sender, receiver) = (file.sender(0).unwrap(), file.receiver(0).unwrap());
+    sender.send("first").unwrap();
+    let mut child = Command::new(env::current_exe().unwrap())
+        .args(["--exact", "receiver", "--nocapture"])
+        .env(RECEIVER, &path.0)
+        .stdout(process::Stdio::null())
+        .stderr(process::Stdio::piped())
+        .spawn()
+        .unwrap();
+    let mut line = String::new();
+    let read = BufReader::new(child.stderr.take().unwrap()).read_line(&mut line);
+    let refused = receiver.try_recv().map(|message| message.to_vec());
+    child.kill().unwrap();
+    child.wait().unwrap();
+    assert_eq!((read.unwrap(), &*line), (6, "first\n"));
+    assert!(matches!(refused, Err(TryRecvError::Empty)));
+    let mut message = receiver.recv_timeout(Duration::ZERO).unwrap();
+    assert_eq!(*message, *b"first");
+    message.done();
+    drop(message);
+    assert!(matches!(receiver.try_recv(), Err(TryRecvError::Empty)));
+    assert_eq!(file.info().unwrap().held, 0);
+}
+
 #[test]
 fn a_killed_sender_loses_nothing() {
     let path = Scratch::new("kills");
@@ -370,7 +585,7 @@ fn a_killed_sender_loses_nothing() {
             .stdout(process::Stdio::null())
             .spawn()
             .unwrap();
-        let came = file.wait_full(Some(3), Duration::from_secs(120));
+        let came = file.wait_full(Some(3), LONG);
         child.kill().unwrap();
         child.wait().unwrap();
         assert!(came.unwrap());
@@ -382,7 +597,7 @@ fn a_killed_sender_loses_nothing() {
             received += 1;
         }
         let info = file.info().unwrap();
-        assert_eq!((info.held, info.detached, info.full_slots), (0, 0, 0));
+        assert_eq!((info.held, info.detached, info.messages), (0, 0, 0));
     }
     assert_eq!(received, 80);
 }

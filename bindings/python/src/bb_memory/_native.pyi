@@ -32,13 +32,13 @@ class NotHeldError(Error):
     """BB_NOT_HELD: the party doesn't hold the bucket, or the number's bucket isn't detached."""
 
 class InvalidArgumentError(Error, ValueError):
-    """BB_INVALID_ARGUMENT: there is no such slot, or no file has such sizes."""
+    """BB_INVALID_ARGUMENT: there is no such slot, or no file has such a depth or such sizes."""
 
 class NoPartyError(Error):
     """BB_NO_PARTY: every party is in use, or no party has the number."""
 
 class DetachedFullError(Error):
-    """BB_DETACHED_FULL: the slot is full."""
+    """BB_DETACHED_FULL: the slot has no room."""
 
 class NotABucketError(Error):
     """BB_NOT_A_BUCKET: no bucket has the number."""
@@ -75,13 +75,14 @@ class Info(structseq[int], tuple[int, ...]):
             "buckets",
             "parties",
             "slots",
+            "depth",
             "mode",
             "user_bytes",
             "alive",
             "held",
             "detached",
             "lost",
-            "full_slots",
+            "messages",
             "wrong",
         )
     @property
@@ -99,6 +100,9 @@ class Info(structseq[int], tuple[int, ...]):
     @property
     def slots(self) -> int:
         """The number of slots."""
+    @property
+    def depth(self) -> int:
+        """The depth of each slot: how many messages it has room for."""
     @property
     def mode(self) -> int:
         """The permissions that the file was made with, less the umask."""
@@ -118,8 +122,8 @@ class Info(structseq[int], tuple[int, ...]):
     def lost(self) -> int:
         """How many of the held buckets are held by dead parties. A reap frees them."""
     @property
-    def full_slots(self) -> int:
-        """How many slots have a message."""
+    def messages(self) -> int:
+        """How many messages are in slots, taken or not."""
     @property
     def wrong(self) -> int:
         """How many flags have a value that no party writes."""
@@ -174,6 +178,7 @@ class PoolFile:
         buckets: int = 0,
         parties: int = 16,
         slots: int = 8,
+        depth: int = 1,
         mode: int = 0,
         user_bytes: int = 0,
     ) -> PoolFile:
@@ -183,9 +188,9 @@ class PoolFile:
         is none. A file that exists has to have the same sizes, except for `mode`. Without these
         two, the call opens a file that exists, whatever its sizes.
 
-        `parties` limits how many can be joined at one time, over all processes. `mode` has the
-        permissions of a new file, less the umask, and 0 stands for 0o600. `user_bytes` is how many
-        bytes `user` has.
+        `parties` limits how many can be joined at one time, over all processes. A slot is a queue,
+        and has room for `depth` messages; 0 counts as 1. `mode` has the permissions of a new file,
+        less the umask, and 0 stands for 0o600. `user_bytes` is how many bytes `user` has.
 
         Raises FileForeignError, FileVersionError, FileMismatchError, FileDamagedError,
         FileUnsafeError, FileStaleError, InvalidArgumentError if no pool can have such sizes, and
@@ -238,7 +243,7 @@ class PoolFile:
         Raises InvalidArgumentError if there is no such slot.
         """
     def wait_empty(self, slot: int | None = None, timeout: float | None = None) -> bool:
-        """Waits until the slot, or any slot, is empty, as `wait_full` does."""
+        """Waits until the slot, or any slot, has room for a message, as `wait_full` does."""
     def wait_bucket(self, timeout: float | None = None) -> bool:
         """Waits until a bucket is free, as `wait_full` does."""
     def watch(self) -> int:
@@ -273,7 +278,7 @@ class PoolFile:
         Raises NotABucketError if no bucket has the number.
         """
     def look(self, slot: int, /) -> SeenMessage | None:
-        """Returns what is in the slot, without taking it, or None if the slot is empty.
+        """Returns the oldest message in the slot, without taking it, or None if there is none.
 
         Raises InvalidArgumentError if there is no such slot, and NotABucketError if somebody wrote
         wrong values into the file.
@@ -317,12 +322,14 @@ class Party:
 
         Raises InvalidArgumentError if there is no such slot, SizeTooLargeError if there are more
         bytes than a bucket has, OutOfMemoryError if no bucket is free, and DetachedFullError if the
-        slot is full.
+        slot has no room.
         """
     def take(self, slot: int, /) -> Bucket | None:
-        """Takes the message in the slot: a bucket with the message's length.
+        """Takes the oldest message in the slot that nobody has taken: a bucket of its length.
 
-        Returns None if the slot is empty, or if another party has the message.
+        Returns None if there is none. A party may take several messages before it is done with the
+        first, and be done with them in any order. But the slot gets room again in the order in
+        which its messages were posted.
 
         Raises InvalidArgumentError if there is no such slot, and NotABucketError if somebody wrote
         wrong values into the file.
@@ -367,10 +374,10 @@ class Bucket:
 
         Raises BufferError, InvalidArgumentError if there is no such slot, FileNotDoneError if the
         bucket's own message isn't done, SizeTooLargeError if `nbytes` is greater than a bucket's
-        size, and DetachedFullError if the slot is full. The party holds the bucket then.
+        size, and DetachedFullError if the slot has no room. The party holds the bucket then.
         """
     def done(self) -> None:
-        """Empties the slot of the message, so that nobody takes the message again.
+        """Takes the message out of its slot, so that nobody takes it again.
 
         The party holds the bucket, and may write it, post it or free it. Views that were made
         before stay read-only.
@@ -380,7 +387,8 @@ class Bucket:
     def detach(self) -> int:
         """Detaches the bucket, and returns its number, by which any party attaches it.
 
-        If the bucket's message isn't done, it is put back into its slot instead.
+        If the bucket's message isn't done, it is put back instead: it can be taken from its slot
+        again, before younger ones.
 
         Raises BufferError.
         """

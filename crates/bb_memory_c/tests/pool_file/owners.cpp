@@ -57,7 +57,7 @@ struct shared {
     std::atomic<std::uint32_t> clerks;
 };
 
-const bb_pool_file_options OPTIONS = {64, 8, 20, 4, 3, 0, sizeof(shared)};
+const bb_pool_file_options OPTIONS = {64, 8, 20, 4, 3, 1, 0, sizeof(shared)};
 
 void expect(bool holds, int line) {
     if (!holds) {
@@ -181,7 +181,7 @@ void run_buckets(const bb::pool_file &file, bb::pool_file_party &sender,
         EXPECT(third.post(9, 6) == BB_INVALID_ARGUMENT && third.post(0, 65) == BB_SIZE_TOO_LARGE);
         EXPECT(third.post(0, 6) == BB_OK && !third && third.post(0, 6) == BB_NOT_HELD);
     }
-    EXPECT(file.info()->held == 0 && file.info()->full_slots == 1);
+    EXPECT(file.info()->held == 0 && file.info()->messages == 1);
     {
         bb::pool_file_message message = receiver.take(0);
         EXPECT(message.size() == 6 &&
@@ -212,7 +212,7 @@ void run_buckets(const bb::pool_file &file, bb::pool_file_party &sender,
         EXPECT(message.as<order>()->number == 9 && message.as<order>()->price == 4.5);
         EXPECT(message.done() == BB_OK);
     }
-    EXPECT(file.info()->held == 0 && file.info()->full_slots == 0);
+    EXPECT(file.info()->held == 0 && file.info()->messages == 0);
 }
 
 // A party that hasn't joined, or is moved, has a code for each call.
@@ -266,7 +266,7 @@ void run_in_any_order(const char *path) {
     }
     EXPECT(!is_mapped(path));
     bb::pool_file file;
-    EXPECT(file.open(path) == BB_OK && file.info()->alive == 0 && file.info()->full_slots == 1);
+    EXPECT(file.open(path) == BB_OK && file.info()->alive == 0 && file.info()->messages == 1);
     {
         // A message and a bucket whose party is gone before them.
         bb::pool_file_party first;
@@ -281,7 +281,7 @@ void run_in_any_order(const char *path) {
             EXPECT(taken.done() == BB_OK);
             return taken;
         }();
-        EXPECT(file.info()->held == 0 && file.info()->full_slots == 1);
+        EXPECT(file.info()->held == 0 && file.info()->messages == 1);
         EXPECT(!message && message.code() == BB_NOT_HELD && message.done() == BB_NOT_HELD);
         EXPECT(message.data() == nullptr && message.size() == 0 && done.data() == nullptr);
         EXPECT(bucket.code() == BB_NOT_HELD && bucket.data() == nullptr);
@@ -331,7 +331,7 @@ void run_unaligned(const char *path) {
 
     bb::pool_file file;
     bb::pool_file_party party;
-    EXPECT(file.open(path, {24, 8, 2, 1, 2, 0, 0}) == BB_OK && party.join(file) == BB_OK);
+    EXPECT(file.open(path, {24, 8, 2, 1, 2, 1, 0, 0}) == BB_OK && party.join(file) == BB_OK);
     const char text[16] = "sixteen bytes..";
     EXPECT(party.post(0, text) == BB_OK && party.post(1, text) == BB_OK);
     const bb::pool_file_message first = party.take(0);
@@ -339,6 +339,43 @@ void run_unaligned(const char *path) {
     EXPECT((first.as<wide>() == nullptr) != (second.as<wide>() == nullptr));
     EXPECT(std::strcmp(*first.as<char[16]>(), text) == 0);
     EXPECT(std::strcmp(*second.as<char[16]>(), text) == 0);
+}
+
+// The messages of one slot come in order. A party works on several of them, and is done with them
+// in any order.
+void run_queues(const char *path) {
+    bb::pool_file file;
+    bb::pool_file_party party;
+    EXPECT(file.open(path, {64, 8, 20, 4, 2, 3, 0, 0}) == BB_OK && party.join(file) == BB_OK);
+    EXPECT(file.info()->options.depth == 3);
+    for (int number = 1; number <= 3; number++)
+        EXPECT(party.post(1, number) == BB_OK);
+    EXPECT(party.post(1, 4) == BB_DETACHED_FULL && file.info()->messages == 3);
+    EXPECT(file.wait_empty(1, 1) == BB_FILE_TIMED_OUT && file.wait_empty(0, 1) == BB_OK);
+    {
+        bb::pool_file_message first = party.take(1);
+        bb::pool_file_message second = party.take(1);
+        EXPECT(*first.as<int>() == 1 && *second.as<int>() == 2 && file.info()->held == 2);
+        EXPECT(second.done() == BB_OK && second.done() == BB_NOT_HELD);
+        // The first message keeps its place, so there is no room yet.
+        EXPECT(file.info()->messages == 2 && party.post(1, 4) == BB_DETACHED_FULL);
+        std::swap(first, second);
+        EXPECT(*first.as<int>() == 2 && *second.as<int>() == 1);
+    }
+    EXPECT(file.info()->held == 0 && file.info()->messages == 2);
+    {
+        // The first message was put back, and comes before the third one.
+        bb::pool_file_message first = party.take(1);
+        EXPECT(*first.as<int>() == 1 && first.done() == BB_OK && file.wait_empty(1, 1) == BB_OK);
+    }
+    EXPECT(party.post(1, 4) == BB_OK && party.post(1, 5) == BB_OK);
+    EXPECT(party.post(1, 6) == BB_DETACHED_FULL);
+    for (int number = 3; number <= 5; number++) {
+        bb::pool_file_message message = party.take(1);
+        EXPECT(*message.as<int>() == number && message.done() == BB_OK);
+    }
+    EXPECT(party.take(1).code() == BB_DETACHED_EMPTY && file.info()->messages == 0);
+    EXPECT(file.info()->held == 0 && file.info()->detached == 0);
 }
 
 // A party that outlives `main`, as a static object does, leaves all the same.
@@ -359,7 +396,7 @@ void run_exit(const char *path) {
     bb::pool_file file;
     bb::pool_file_party party;
     EXPECT(file.open(path) == BB_OK && file.info()->alive == 0 && file.info()->held == 0);
-    EXPECT(file.info()->full_slots == 1 && party.join(file) == BB_OK);
+    EXPECT(file.info()->messages == 1 && party.join(file) == BB_OK);
     EXPECT(party.take(2).done() == BB_OK);
 }
 
@@ -392,12 +429,12 @@ void run(const char *path) {
             EXPECT(!receiver.take(0));
         }
         // A message that wasn't done with is put back.
-        EXPECT(file.info()->held == 0 && file.info()->full_slots == 1);
+        EXPECT(file.info()->held == 0 && file.info()->messages == 1);
         {
             bb::pool_file_message first = receiver.take(0);
             bb::pool_file_message message = std::move(first);
             EXPECT(!first && message.as<order>()->price == 1.5);
-            EXPECT(message.done() == BB_OK && file.info()->full_slots == 0);
+            EXPECT(message.done() == BB_OK && file.info()->messages == 0);
             EXPECT(message.as<order>()->number == 7);  // its bytes are there until it ends
             EXPECT(message.done() == BB_NOT_HELD);
         }
@@ -429,6 +466,8 @@ int main(int argc, char **argv) {
     run_exit(argv[1]);
     EXPECT(unlink(argv[1]) == 0);
     run_unaligned(argv[1]);
+    EXPECT(unlink(argv[1]) == 0);
+    run_queues(argv[1]);
     EXPECT(unlink(argv[1]) == 0);
     puts("owners: files, watches, parties, buckets and messages give back what they have");
     return 0;
