@@ -7,6 +7,7 @@
 ghost use Rattle.bb_memory_file.specs.FileCalls.{IsLeave};
 ghost use Rattle.bb_memory_file.specs.FileLog.{FileLog};
 ghost use Rattle.bb_memory_file.specs.FileNotes.{Allocates, AreCached, Attaches, Caches, Deallocates, Detaches, Finishes, Flushes, FreesLast, GivesAllBack, InUse, IsDoneWith, IsRefusal, JoinedParty, Joins, JoinsNot, MissesFirst, Posts, Reaps, Receives, Sends, Takes, Undone, Unheld, no_ends, queues_of, used_in};
+ghost use Rattle.bb_memory_file.specs.FileQueueCalls.{AllObey};
 ghost use Rattle.std.specs.Prelude.{IfErr, IfNone, IfOk, IfSome, IsOk, Some, [], length, replicate, slice_get, vec_capacity, ℕ, ◌<◌, ◌≡◌, ◌≤◌};
 
 use crate::calls::{Received, Whereabouts};
@@ -234,10 +235,11 @@ impl<W: Words + Drop> Joined<W> {
         self.words.slots()
     }
 
-    /// Returns the depth of the file's queues.
+    /// Returns the depth of the file's queues. What the party has done obeys the rules of each of them.
     #[inline(always)]
     pub fn depth(&self) -> u32
-        ensures { result ≡ self.now.depth }
+        ensures value { result ≡ self.now.depth }
+        ensures obeys { AllObey self.now.depth (W.log self.now.words) }
     {
         self.depth
     }
