@@ -2,6 +2,7 @@
 use Rattle.bb_memory_file.proofs.FileQueueSlots.{slot_range}
 use Rattle.bb_memory_file.proofs.FileRecentLooks.{all_recent, fills_length}
 use Rattle.bb_memory_file.proofs.FileRunMoments.{own_beyond}
+use Rattle.bb_memory_file.proofs.FileRunSteps.{log_of, session}
 use Rattle.bb_memory_file.proofs.FileSteps.{allocates, counts, ends, fills, passes, posts, sends, stays, takes}
 use Rattle.bb_memory_file.specs.FileCode.{Event, ExchangeFlag, ExchangeSlot, FileLog, LoadFlag, LoadLife, LoadSlot, Path, StoreEntry, StoreFlag, StoreLife, begins, looks, moves, steps, told}
 use Rattle.bb_memory_file.specs.FileLog.{fresh_log}
@@ -9,11 +10,10 @@ use Rattle.bb_memory_file.specs.FileNames.{Allocate, Count, Counting, Empty, Fil
 use Rattle.bb_memory_file.specs.FileQueueLives.{GoesThrough, ProcessesObey, events_in}
 use Rattle.bb_memory_file.specs.FileQueueLooks.{CanFill, CanPass, CanTake, EventsObey, over}
 use Rattle.bb_memory_file.specs.FileRuns.{Act, AreTrue, Life, own, sleeps, words_after, works}
-use Rattle.bb_memory_file.proofs.FileRunSteps.{log_of, session}
 use Rattle.bb_memory_file_machine.specs.FileMachine.{FileScene, same_flag}
 use Rattle.bb_memory_file_machine.specs.FileQueues.{FileQueue, IsLater, IsSlotOf, earlier, lap_before, now}
 use Rattle.bb_memory_lists.proofs.ListEntries.{contains-behind, contains-first}
-use Rattle.std.proofs.Common.{List, [], arith, false, refl, subst, suc, sym, zero, ℕ, lit<, ◌++◌, ◌-◌, ◌^◌, ◌∷◌, ◌≡◌, ◌≢◌}
+use Rattle.std.proofs.Common.{List, [], arith, false, lit<, refl, subst, suc, sym, zero, ℕ, ◌++◌, ◌-◌, ◌^◌, ◌∷◌, ◌≡◌, ◌≢◌}
 
 abbrev scene : FileScene
 scene = record { buckets = 1; slots = 2; parties = 2; processes = 2 }

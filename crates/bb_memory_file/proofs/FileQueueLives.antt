@@ -6,7 +6,7 @@ use Rattle.bb_memory_file.proofs.FileRunSteps.{log_of, own_mine, session}
 use Rattle.bb_memory_file.specs.FileCode.{EmptySlot, Event, ExchangeFlag, ExchangeSlot, FileLog, Finds, Has, Holds, IsKnown, IsStep, LoadEntry, LoadFlag, LoadLife, LoadSlot, MayBe, MissFlag, MissSlot, StoreEntry, StoreFlag, StoreLife, Unknown, known_of, left_by}
 use Rattle.bb_memory_file.specs.FileLog.{Known, is_held, known_by}
 use Rattle.bb_memory_file.specs.FileNames.{DetachedBy, Empty, FileFlag, FileStep, Free, HeldBy, Message, Place, Refused, SentTo, Slot, Take}
-use Rattle.bb_memory_file.specs.FileQueueLives.{AreRecent, EventRelies, LooksAreRecent, FillRelies, IsRecent, LookTest, PassRelies, ProcessesObey, TakeRelies, events_in, events_of}
+use Rattle.bb_memory_file.specs.FileQueueLives.{AreRecent, EventRelies, FillRelies, IsRecent, LookTest, LooksAreRecent, PassRelies, ProcessesObey, TakeRelies, events_in, events_of}
 use Rattle.bb_memory_file.specs.FileQueueLooks.{CanFill, CanPass, CanTake, EventObeys, EventsObey, Look, Shows, ShowsUnsent}
 use Rattle.bb_memory_file.specs.FileQueueLooks as looks
 use Rattle.bb_memory_file.specs.FileQueueRuns.{ActObeys, ActsObey}

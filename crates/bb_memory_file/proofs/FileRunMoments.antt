@@ -6,6 +6,7 @@ use Rattle.bb_memory_file.specs.FileCode as code
 use Rattle.bb_memory_file.specs.FileLog.{fresh_log}
 use Rattle.bb_memory_file.specs.FileNames.{Counting, Dead, FileStep, Lock, Outside, Place}
 use Rattle.bb_memory_file.specs.FileQueueLives.{events_in, events_of}
+use Rattle.bb_memory_file.specs.FileRecords.{operations_in}
 use Rattle.bb_memory_file.specs.FileRuns.{Act, AreTrue, Dies, Frees, Life, Locks, Operates, Unlocks, actor, acts_of, own, words_after}
 use Rattle.bb_memory_file.specs.FileRuns as runs
 use Rattle.bb_memory_file_machine.proofs.FileInvariant.{Sound}
@@ -13,9 +14,9 @@ use Rattle.bb_memory_file_machine.proofs.FileSteps.{holds_always}
 use Rattle.bb_memory_file_machine.specs.FileMachine.{FileScene, FileWords}
 use Rattle.bb_memory_file_machine.specs.FileQueues.{IsMoment, earlier, now}
 use Rattle.bb_memory_lists.proofs.ListEntries.{contains-behind, contains-first}
-use Rattle.std.proofs.Common.{Bool, List, [], ap, arith, false, inl, inr, length, refl, subst, sym, true, ℕ, ◌+◌, ◌++◌, ◌<◌, ◌∙◌, ◌∷◌, ◌≡◌, ◌≤◌, ◌⊎◌}
+use Rattle.std.proofs.Common.{Bool, List, [], ap, arith, false, inl, inr, length, refl, subst, sym, true, ℕ, ◌++◌, ◌+◌, ◌<◌, ◌∙◌, ◌∷◌, ◌≡◌, ◌≤◌, ◌⊎◌}
 use Rattle.std.proofs.lemmas.Bool.{eqb-true}
-use Rattle.std.specs.Prelude.{Contains, ◌==◌}
+use Rattle.std.specs.Prelude.{Contains, map, ◌==◌}
 
 -- MOMENTS
 
@@ -102,12 +103,29 @@ pub events_session : (process party : ℕ) (events : List Event) → events_in (
 events_session process party [] = refl
 events_session process party (event ∷ events) = ap (λ (l : List Event). event ∷ l) (events_session process party events)
 
--- the events of a process that has a number's lock are those of its log
-pub events_told : (process : ℕ) (log : FileLog) (acts : List Act) →
-    own process acts ≡ acts_of process log ++ Locks process log.party ∷ [] → events_of process acts ≡ log.events
-events_told process log acts is =
-    ap (λ (l : List Act). events_in l) is ∙ events_session process log.party log.events
+-- acts that aren't operations have no events
+operations_events : (acts : List Act) → events_in (operations_in acts) ≡ events_in acts
+operations_events [] = refl
+operations_events (Operates process party event ∷ acts) = ap (λ (l : List Event). event ∷ l) (operations_events acts)
+operations_events (Locks process party ∷ acts) = operations_events acts
+operations_events (Unlocks process party ∷ acts) = operations_events acts
+operations_events (Dies process ∷ acts) = operations_events acts
+operations_events (Frees process party ∷ acts) = operations_events acts
 
+-- the acts that a log tells have its events
+told_events : (process party : ℕ) (events : List Event) →
+    events_in (map (λ (e : Event). Operates process party e) events) ≡ events
+told_events process party [] = refl
+told_events process party (event ∷ events) = ap (λ (l : List Event). event ∷ l) (told_events process party events)
+
+-- if the operations of a process are those that a log tells, its events are the log's
+pub events_told : (process : ℕ) (log : FileLog) (acts : List Act) → operations_in (own process acts) ≡ acts_of process log →
+    events_of process acts ≡ log.events
+events_told process log acts is =
+    sym (operations_events (own process acts)) ∙ ap (λ (l : List Act). events_in l) is
+    ∙ told_events process log.party log.events
+
+-- a session has one act more than events
 pub session_length : (process party : ℕ) (events : List Event) → length (session process party events) ≡ length events + 1
 session_length process party [] = refl
 session_length process party (event ∷ events) = let less = session_length process party events in omega (arith, less)

@@ -7,14 +7,14 @@ ghost use Rattle.bb_memory_file.specs.FileParties.{among, scene_of, with_process
 ghost use Rattle.bb_memory_file.specs.FileQueueLives.{AreRecent, GoesThrough, ProcessesObey, events_of};
 ghost use Rattle.bb_memory_file.specs.FileQueueLooks.{EventsObey};
 ghost use Rattle.bb_memory_file.specs.FileQueueRuns.{ActsObey};
-ghost use Rattle.bb_memory_file.specs.FileRecords.{AreLives, IsMachinesRow, IsRecord, IsTold};
+ghost use Rattle.bb_memory_file.specs.FileRecords.{AreLives, IsMachinesRow, IsRecord, IsTold, operations_in};
 ghost use Rattle.bb_memory_file.specs.FileRows.{IsEvent, Says};
-ghost use Rattle.bb_memory_file.specs.FileRuns.{Act, IsMachines, IsRun, Locks, acts_of, own, words_after};
+ghost use Rattle.bb_memory_file.specs.FileRuns.{Act, IsMachines, IsRun, acts_of, own, words_after};
 ghost use Rattle.bb_memory_file.specs.Recorded.{IsFoundIn, Run, WordEvent};
 ghost use Rattle.bb_memory_file.specs.declared.geometry.FileGeometry.{FileGeometry};
 ghost use Rattle.bb_memory_file_machine.specs.FileMachine.{FileScene, FileWords, opening_state};
 ghost use Rattle.bb_memory_file_machine.specs.FileQueues.{FileQueue, Obey, fills, queue_rules};
-ghost use Rattle.std.specs.Prelude.{List, Option, [], length, replicate, reverse, ℕ, ◌++◌, ◌<◌, ◌^◌, ◌∷◌, ◌≡◌};
+ghost use Rattle.std.specs.Prelude.{List, Option, length, replicate, reverse, ℕ, ◌<◌, ◌^◌, ◌≡◌};
 
 /// States that the code is the machine: whatever processes do to a file by these calls, in any order
 /// of their operations, killed anywhere, some steps of the machine leave the same words and locks,
@@ -44,10 +44,9 @@ pub fn queue_lives_law()
         → IsRun queue.scene acts taken places → (obey : ProcessesObey queue acts) → AreRecent queue acts obey
         → ActsObey queue acts }
 
-    // The events of a process that has a number's lock are those of its log.
+    // If the operations of a process are those that a log tells, its events are the log's.
     ensures logs { (process : ℕ) (log : FileLog) (acts : List Act)
-        → own process acts ≡ acts_of process log ++ Locks process log.party ∷ []
-        → events_of process acts ≡ log.events }
+        → operations_in (own process acts) ≡ acts_of process log → events_of process acts ≡ log.events }
 
     // In a run that fills no slot 2^29 times, each look is recent.
     ensures recent { (queue : FileQueue) (acts : List Act)
@@ -72,8 +71,8 @@ pub fn words_law()
 
 /// States that the recorded operations of all hands on the words of a file, which began as a new
 /// file's, are true acts of processes. Each of them has the log of its party, or looks. If the acts of
-/// each party's process are its life, some steps of the machine leave the words that the row says after
-/// the operations. The function does nothing: its contract is the law.
+/// each party's process are its life, all acts are a run, and some steps of the machine leave the words
+/// that the row says after the operations. The function does nothing: its contract is the law.
 pub fn recorded_law()
     ensures told { (geometry : FileGeometry) (scene : FileScene) (parties : ℕ → Option ℕ) (start : List ℕ) (run : Run)
         (acts : List Act) → IsRecord geometry scene parties start run acts
@@ -81,6 +80,9 @@ pub fn recorded_law()
     ensures machine { (geometry : FileGeometry) (scene : FileScene) (parties : ℕ → Option ℕ) (start : List ℕ) (run : Run)
         (acts : List Act) (taken : ℕ → List FileStep) (places : ℕ → Place) → IsRecord geometry scene parties start run acts
         → AreLives scene parties acts taken places → IsMachinesRow geometry scene start run acts taken places }
+    ensures run { (geometry : FileGeometry) (scene : FileScene) (parties : ℕ → Option ℕ) (start : List ℕ) (run : Run)
+        (acts : List Act) (taken : ℕ → List FileStep) (places : ℕ → Place) → IsRecord geometry scene parties start run acts
+        → AreLives scene parties acts taken places → IsRun scene acts taken places }
 {}
 
 /// States that a path doesn't depend on the number of processes, so that the paths of a party are those

@@ -15,7 +15,7 @@ pub returns-in_default : goal.returns-in_default
 returns-in_default g c =
     let old = g.W.Words.log c.args.words.now in
     record {
-      done = λ process. looked_done old c.args.bucket process c.find-found.result _ c.in_default.not-In c.find-found.ensures.found;
-      others = c.find-found.ensures.found.others;
-      obeys = looked_obeys old c.args.bucket c.find-found.result _ c.find-found.ensures.found;
+      done = λ process. looked_done old c.args.bucket process c.find-place.result _ c.in_default.not-In c.find-place.ensures.found;
+      others = c.find-place.ensures.found.others;
+      obeys = looked_obeys old c.args.bucket c.find-place.result _ c.find-place.ensures.found;
     }
