@@ -2,7 +2,7 @@
 -- each call and after it.
 use Rattle.bb_memory_file.proofs.FileEvents.{append_assoc, gets_on}
 use Rattle.bb_memory_file.proofs.FileLooks.{head_on, looks_move_none, obey_on, tail_on}
-use Rattle.bb_memory_file.specs.FileCalls.{BeginsSearch, Gets, IsAttach, IsDeallocate, IsDetach, IsDone, IsJoin, IsLookedUp, IsPost, IsPutBack, IsReceive, IsSettled, MovesNone, TakesOne, Whereabouts, has_some, moves_message}
+use Rattle.bb_memory_file.specs.FileCalls.{BeginsSearch, Gets, IsAttach, IsDeallocate, IsDetach, IsDone, IsJoin, IsPost, IsPutBack, IsReceive, IsSettled, MovesNone, TakesOne, Whereabouts, has_some, moves_message}
 use Rattle.bb_memory_file.specs.FileCalls.received as received
 use Rattle.bb_memory_file.specs.FileCalls.whereabouts as whereabouts
 use Rattle.bb_memory_file.specs.FileCode.{EmptySlot, ExchangeFlag, ExchangeSlot, FileLog, LoadEntry, LoadSlot, MissFlag, MissSlot, StoreEntry, StoreFlag}
@@ -15,8 +15,8 @@ use Rattle.bb_memory_file_machine.specs.FileMachine.{FileScene}
 use Rattle.bb_memory_file_machine.specs.FileQueues.{FileQueue, IsLater, IsSlotOf, earlier, lap_before, next_lap, now, slot_before}
 use Rattle.bb_memory_lists.proofs.SliceGets.{length-set_at, slice_get-replicated, slice_get-set_other, slice_get-set_same}
 use Rattle.bb_memory_pool_machine.proofs.PoolSteps.{test_same}
+use Rattle.std.proofs.Common.{Bool, List, None, Option, Some, [], ap, arith, false, inl, inr, length, refl, subst, sym, true, ℕ, ◌*◌, ◌++◌, ◌+◌, ◌<◌, ◌∙◌, ◌∷◌, ◌≡◌, ◌≤◌}
 use Rattle.std.proofs.Math.Nat.{div-mul-le_self, mul-le-mul_right}
-use Rattle.std.proofs.Common.{Bool, List, None, Option, Some, [], ap, arith, false, inl, inr, length, refl, subst, sym, true, ℕ, ◌*◌, ◌++◌, ◌+◌, ◌<◌, ◌∙◌, ◌∷◌, ◌≡◌, ◌≢◌, ◌≤◌}
 use Rattle.std.proofs.lemmas.Bool.{cases_eq, le-ltb}
 use Rattle.std.proofs.lemmas.List.{length-replicate}
 use Rattle.std.proofs.lemmas.Option.{slice_get-get_or}
@@ -235,9 +235,12 @@ module _ (old new : FileLog) (depth : ℕ) (ends : List Ends) (keeps : KeepsQueu
                 log.events slot bucket lap) (sym is)
                 (take_single old.scene number slot old.party old.events lap bucket its)),
             obeys number,
-          )))
-          (events, gets ∙ ap (λ (all : List Event). record middle { events = all })
-          (append_assoc events (ExchangeFlag bucket (SentTo slot lap) (HeldBy middle.party) ∷ []) middle.events), none)
+          ))) (
+            events,
+            gets ∙ ap (λ (all : List Event). record middle { events = all })
+                (append_assoc events (ExchangeFlag bucket (SentTo slot lap) (HeldBy middle.party) ∷ []) middle.events),
+            none,
+          )
 
       pub keeps_message : (length : ℕ) → ((process : ℕ) → IsReceive process middle slot lap bucket size (received.Message length) new) →
           KeepsQueues new depth ends
@@ -264,11 +267,10 @@ module _ (old new : FileLog) (depth : ℕ) (ends : List Ends) (keeps : KeepsQueu
 -- DONE
 
 done_grows : (process : ℕ) (old new : FileLog) (bucket : ℕ) (found : Whereabouts) → IsDoneAt process old bucket found new → Grows old new
-done_grows process old new bucket (whereabouts.In slot lap) (below, (before, found, by, gets, first, (next, emptied)), clear) =
-    (
-      (StoreEntry bucket Nowhere ∷ EmptySlot slot (next_lap lap) ∷ []) ++ found,
-      gets_on old before new found (StoreEntry bucket Nowhere ∷ EmptySlot slot (next_lap lap) ∷ []) gets emptied,
-    )
+done_grows process old new bucket (whereabouts.In slot lap) (below, (before, found, by, gets, first, (next, emptied)), clear) = (
+  (StoreEntry bucket Nowhere ∷ EmptySlot slot (next_lap lap) ∷ []) ++ found,
+  gets_on old before new found (StoreEntry bucket Nowhere ∷ EmptySlot slot (next_lap lap) ∷ []) gets emptied,
+)
 done_grows process old new bucket whereabouts.Entered did = (did.2.0, did.2.2)
 done_grows process old new bucket whereabouts.Nowhere did = (did.2.0, did.2.2)
 
