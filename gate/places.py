@@ -67,9 +67,9 @@ PATH = re.compile(r"(?<![\w:])(?:::\s*)?((?:std|core|alloc|atomic_table|thiserro
 CALLED = frozenset(
     """
     close_with compare_exchange copied fill filter from_elem from_raw from_slice get
-    into_raw_with_allocator is_none is_some iter_mut join_seat load_new_seat map map_err matches max min
-    null_mut of_words ok ok_or peek pop push_reserved replace rev saturating_sub split_seat store
-    swap truncate try_clone unwrap with_capacity wrapping_sub
+    into_raw_with_allocator is_none is_some iter_mut join_seat load_new_seat map map_err matches max
+    min null_mut of_words ok ok_or peek pop push_reserved replace rev saturating_sub split_seat
+    store swap truncate try_clone unwrap with_capacity wrapping_sub
     """.split()
 )
 ATTRIBUTE = re.compile(r"#!?\[(?!cycle\b)[^\[\]]*\]")

@@ -20,6 +20,7 @@ MUTANTS = sorted((CRATE / "tests/pool_file/mutants").glob("*.mutant"))
 # The functions of the C files that have no mutant, and the reason for each.
 WITHOUT_MUTANT = {
     "pause_shortly": "it changes nothing but the time that a spin takes",
+    "pool_file_each_message": "only bb-pool calls it: shown.txt has what it lists",
     "pool_file_open_to_look": "only bb-pool calls it: the crate's `check` looks as another user",
 }
 # A function in C, with its name.

@@ -55,6 +55,8 @@ module _ {W : Type 0} (log : W → FileLog) (old : JoinedParty W) where
           hint = hint_after ((before.party i).hint) (outcome.Gives last);
           cached = sym (ap (λ (p : JoinedParty W). p.cached) party) i;
           most = (before.party i).most;
+          depth = (before.party i).depth;
+          ends = (before.party i).ends;
         });
       }
 
@@ -71,6 +73,8 @@ module _ {W : Type 0} (log : W → FileLog) (old : JoinedParty W) where
           hint = (flushes.party i).hint;
           cached = (flushes.party i).cached;
           most = most;
+          depth = (flushes.party i).depth;
+          ends = (flushes.party i).ends;
         };
       }
 

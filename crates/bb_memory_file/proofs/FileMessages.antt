@@ -1,7 +1,7 @@
 -- The walks of calls on messages.
 use Rattle.bb_memory_file.proofs.FileSteps.{clears, empties, fills, gives_up, posts, puts_back, sends, takes}
 use Rattle.bb_memory_file.proofs.FileWalks.{walk_look, walk_on, walk_step}
-use Rattle.bb_memory_file.specs.FileCalls.{Gets, IsAt, IsFound, IsLookedUp, IsPost, IsPutBack, IsReceive, Makes, Whereabouts, is_fit, length_in, unseen}
+use Rattle.bb_memory_file.specs.FileCalls.{Gets, IsAt, IsFill, IsFound, IsLookedUp, IsPost, IsPutBack, IsReceive, Makes, Whereabouts, is_fit, length_in, unseen}
 use Rattle.bb_memory_file.specs.FileCalls.received as received
 use Rattle.bb_memory_file.specs.FileCalls.whereabouts as whereabouts
 use Rattle.bb_memory_file.specs.FileCode.{EmptySlot, ExchangeFlag, ExchangeSlot, FileLog, Has, HasNot, Holds, Known, LoadEntry, LoadSlot, MissFlag, MissSlot, Path, Seen, StoreEntry, StoreFlag, Unknown, Unseen, begins, known_of, looks, steps, told}
@@ -133,54 +133,62 @@ module _ (process : ℕ) (old : FileLog) (slot bucket size : ℕ) where
     ),
   )
 
-  -- the slot is empty at this lap
-  module _ (lap : ℕ) (clear : is_clear (known_of old bucket) ≡ true) where
-    abbrev seen : FileLog
-    seen = told old (LoadSlot slot (Empty lap))
+  abbrev seen_empty : ℕ → FileLog
+  seen_empty lap = told old (LoadSlot slot (Empty lap))
 
+  -- a look at the slot found it empty at this lap, and the rest of the call has filled it, or not
+  pub post_by : (lap : ℕ) (one : FileLog) (filled : Bool) (new : FileLog) → IsLap lap →
+      one ≡ told old (LoadSlot slot (Empty lap)) → IsFill process one slot lap bucket size filled new →
+      IsPost process old slot bucket size filled new
+  post_by lap one filled new in_range is fill =
+      by_answer filled (subst (λ log. IsFill process log slot lap bucket size filled new) is fill)
+    where
+      seen_walk : Makes process old [] (seen_empty lap)
+      seen_walk = walk_look process old (seen_empty lap) Outside (LoadSlot slot (Empty lap)) tt refl
+
+      by_answer : (answer : Bool) → IsFill process (seen_empty lap) slot lap bucket size answer new →
+          IsPost process old slot bucket size answer new
+      by_answer true says =
+          (lap, walk_on process old (seen_empty lap) new Outside Outside Outside [] _ seen_walk says.0, says.1, in_range)
+      by_answer false says =
+          (lap, inr (says.1, walk_on process old (seen_empty lap) new Outside Outside Outside [] _ seen_walk says.0))
+
+  -- the slot was empty at this lap
+  module _ (lap : ℕ) (clear : is_clear (known_of old bucket) ≡ true) where
     abbrev entered : FileLog
-    entered = told seen (StoreEntry bucket (In slot size))
+    entered = told old (StoreEntry bucket (In slot size))
 
     path_entered : Path process old Outside entered (Post process old.party slot bucket size ∷ []) (Posting old.party slot bucket)
-    path_entered = steps seen [] Outside (StoreEntry bucket (In slot size)) (Post process old.party slot bucket size)
-        (Posting old.party slot bucket) (looks old [] Outside (LoadSlot slot (Empty lap)) begins tt) refl
-        (posts seen process slot bucket size (still_clear (known_of old bucket) (HasNot slot) clear))
+    path_entered = steps old [] Outside (StoreEntry bucket (In slot size)) (Post process old.party slot bucket size)
+        (Posting old.party slot bucket) begins refl (posts old process slot bucket size clear)
 
-    pub given_up : (one two three new : FileLog) → one ≡ seen → two ≡ told one (StoreEntry bucket (In slot size)) →
-        three ≡ told two (MissSlot slot (Empty lap)) → new ≡ told three (StoreEntry bucket Nowhere) →
-        IsPost process old slot bucket size false new
-    given_up one two three new e1 e2 e3 e4 =
-        subst (λ log. IsPost process old slot bucket size false log)
-        (sym (e4 ∙ ap (λ log. told log (StoreEntry bucket Nowhere)) (e3 ∙ ap (λ log. told log (MissSlot slot (Empty lap)))
-        (e2 ∙ ap (λ log. told log (StoreEntry bucket (In slot size))) e1)))) (
-          lap,
-          inr (
-            refl,
-            record {
-              path = steps (told entered (MissSlot slot (Empty lap))) (Post process old.party slot bucket size ∷ [])
-                  (Posting old.party slot bucket) (StoreEntry bucket Nowhere) (Next process) Outside
-                  (looks entered (Post process old.party slot bucket size ∷ []) (Posting old.party slot bucket)
-                  (MissSlot slot (Empty lap)) path_entered tt) refl
-                  (gives_up (told entered (MissSlot slot (Empty lap))) process slot bucket);
-              scene = refl;
-              party = refl;
-            },
-          ),
+    pub given_up : (two three new : FileLog) → two ≡ entered → three ≡ told two (MissSlot slot (Empty lap)) →
+        new ≡ told three (StoreEntry bucket Nowhere) → IsFill process old slot lap bucket size false new
+    given_up two three new e2 e3 e4 =
+        subst (λ log. IsFill process old slot lap bucket size false log)
+        (sym (e4 ∙ ap (λ log. told log (StoreEntry bucket Nowhere)) (e3 ∙ ap (λ log. told log (MissSlot slot (Empty lap))) e2))) (
+          record {
+            path = steps (told entered (MissSlot slot (Empty lap))) (Post process old.party slot bucket size ∷ [])
+                (Posting old.party slot bucket) (StoreEntry bucket Nowhere) (Next process) Outside
+                (looks entered (Post process old.party slot bucket size ∷ []) (Posting old.party slot bucket)
+                (MissSlot slot (Empty lap)) path_entered tt) refl
+                (gives_up (told entered (MissSlot slot (Empty lap))) process slot bucket);
+            scene = refl;
+            party = refl;
+          },
+          refl,
         )
 
     abbrev filled : FileLog
     filled = told entered (ExchangeSlot slot (Empty lap) (Message lap bucket))
 
-    pub posted : (one two three new : FileLog) → one ≡ seen → two ≡ told one (StoreEntry bucket (In slot size)) →
+    pub posted : (two three new : FileLog) → two ≡ entered →
         three ≡ told two (ExchangeSlot slot (Empty lap) (Message lap bucket)) →
-        new ≡ told three (StoreFlag bucket (SentTo slot lap)) →
-        IsPost process old slot bucket size true new
-    posted one two three new e1 e2 e3 e4 =
-        subst (λ log. IsPost process old slot bucket size true log)
+        new ≡ told three (StoreFlag bucket (SentTo slot lap)) → IsFill process old slot lap bucket size true new
+    posted two three new e2 e3 e4 =
+        subst (λ log. IsFill process old slot lap bucket size true log)
         (sym (e4 ∙ ap (λ log. told log (StoreFlag bucket (SentTo slot lap)))
-        (e3 ∙ ap (λ log. told log (ExchangeSlot slot (Empty lap) (Message lap bucket)))
-        (e2 ∙ ap (λ log. told log (StoreEntry bucket (In slot size))) e1)))) (
-          lap,
+        (e3 ∙ ap (λ log. told log (ExchangeSlot slot (Empty lap) (Message lap bucket))) e2))) (
           record {
             path = steps filled (Fill process lap ∷ Post process old.party slot bucket size ∷ [])
                 (Sending old.party slot bucket lap)

@@ -1,15 +1,18 @@
 -- The notes of a party say what it knows of its buckets, before each call and after it.
 use Rattle.bb_memory_file.proofs.FileMessages.{seen_away}
-use Rattle.bb_memory_file.proofs.FileWalks.{path_on, walk_look, walk_nowhere}
+use Rattle.bb_memory_file.proofs.FileWalks.{path_on, walk_look, walk_nowhere, walk_on}
 use Rattle.bb_memory_file.specs.FileCalls.{BeginsSearch, Gets, IsAttach, IsDeallocate, IsDetach, IsDone, IsJoin, IsPost, IsPutBack, IsReceive, IsSettled, TakesOne, unseen}
 use Rattle.bb_memory_file.specs.FileCalls.received as received
 use Rattle.bb_memory_file.specs.FileCalls.whereabouts as whereabouts
 use Rattle.bb_memory_file.specs.FileCode.{FileLog, Has, HasNot, Holds, IsWalk, Known, LoadSlot, MissFlag, Path, Seen, Unknown, begins, known_of, looks, told}
 use Rattle.bb_memory_file.specs.FileLog.{IsKnownIn, fresh_log, held_still, is_clear, is_held, seen_in, with_entry, with_seen}
 use Rattle.bb_memory_file.specs.FileNames.{Counting, Entry, FileStep, Free, HeldBy, In, Message, Nowhere, Outside, Place, Settled, Slot}
-use Rattle.bb_memory_file.specs.FileNotes.{Cached, InUse, IsHome, IsJoined, IsNoted, Note, Undone, Unheld, looked}
+use Rattle.bb_memory_file.specs.FileNotes.{AreNoted, Cached, InUse, IsHome, IsJoined, IsNoted, Note, Taken, Undone, Unheld, looked, notes_sent}
+use Rattle.bb_memory_file.specs.FileNotes.taken as taken
+use Rattle.bb_memory_file.specs.FileQueueCalls.{Full, IsDoneAt, IsReceipt, IsSend, KnowsOthers, Overtaken, Sending, Sent, noted_after}
 use Rattle.bb_memory_file.specs.FileRuns.{CanUnlock, MayUnlock}
 use Rattle.bb_memory_file_machine.specs.FileMachine.{FileScene, same_flag}
+use Rattle.bb_memory_file_machine.specs.FileQueues.{FileQueue}
 use Rattle.bb_memory_lists.proofs.SliceGets.{length-set_at, slice_get-replicated, slice_get-set_other, slice_get-set_same}
 use Rattle.bb_memory_pool_machine.proofs.PoolSteps.{test_same}
 use Rattle.std.proofs.Common.{Bool, List, None, Option, Some, [], ap, arith, false, get_or, inl, inr, length, refl, subst, sym, true, ℕ, ◌++◌, ◌<◌, ◌∙◌, ◌∷◌, ◌≡◌, ◌≢◌}
@@ -61,6 +64,12 @@ from_cached Unknown noted = absurd noted
 from_cached (Holds None seen) noted = absurd noted
 from_cached (Holds (Some Nowhere) seen) noted = tt
 from_cached (Holds (Some (In slot size)) seen) noted = absurd noted
+
+clear_noted : (known : Known) → is_clear known ≡ true → IsNoted known InUse
+clear_noted Unknown clear = absurd (cc)
+clear_noted (Holds None seen) clear = absurd (cc)
+clear_noted (Holds (Some Nowhere) seen) clear = tt
+clear_noted (Holds (Some (In slot size)) seen) clear = absurd (cc)
 
 held_by : (known : Known) → IsNoted known Undone → is_held known ≡ true
 held_by Unknown noted = absurd noted
@@ -302,6 +311,88 @@ module _ (old new : FileLog) (notes : List Note) (joined : IsJoined old notes) (
       ((process : ℕ) → IsPutBack process old bucket whereabouts.Nowhere new) → IsJoined new (slice_set notes bucket InUse)
   after_nowhere was did = go_noted old new notes joined (λ process. (_, (did process).0)) bucket InUse
       (subst (λ known. IsNoted known InUse) (sym (did 0).1.1) tt) (did 0).2 Undone was
+
+  module _ (was : slice_get notes bucket ≡ Some Undone) (others : KnowsOthers old bucket new) where
+    pub after_done_in : (slot lap : ℕ) → ((process : ℕ) → IsDoneAt process old bucket (whereabouts.In slot lap) new) →
+        IsJoined new (slice_set notes bucket InUse)
+    after_done_in slot lap did = go_noted old new notes joined (λ process. goes_by (did process)) bucket InUse
+        (clear_noted (known_of new bucket) (did 0).2) others Undone was
+      where
+        goes_by : {process : ℕ} → IsDoneAt process old bucket (whereabouts.In slot lap) new →
+            (taken : List FileStep) × IsWalk process old Outside new taken Outside
+        goes_by {process} (below, (before, found, by, gets, first, (next, emptied)), clear) =
+            (_, walk_on process old before new Outside Outside Outside [] _ first next)
+
+    pub after_done_entered : ((process : ℕ) → IsDoneAt process old bucket whereabouts.Entered new) → IsJoined new notes
+    after_done_entered did = go_again old new notes joined (λ process. (_, (did process).0)) bucket Undone
+        (subst (λ known. IsNoted known Undone) (sym (did 0).1.2) tt) others was
+
+    pub after_done_nowhere : ((process : ℕ) → IsDoneAt process old bucket whereabouts.Nowhere new) →
+        IsJoined new (slice_set notes bucket InUse)
+    after_done_nowhere did = go_noted old new notes joined (λ process. (_, (did process).0)) bucket InUse
+        (subst (λ known. IsNoted known InUse) (sym (did 0).1.1) tt) others Undone was
+
+  -- a sender
+  module _ (queue : FileQueue) (size : ℕ) (was : slice_get notes bucket ≡ Some InUse) (others : KnowsOthers old bucket new) where
+    pub after_sent : (sending : Sending) (slot : ℕ) → sending ≡ Sent slot →
+        ((process : ℕ) → IsSend process old queue bucket size sending new) → IsJoined new (slice_set notes bucket Unheld)
+    after_sent sending slot is did = by_sent
+        (λ process. subst (λ (s : Sending). IsSend process old queue bucket size s new) is (did process))
+      where
+        by_sent : ((process : ℕ) → IsSend process old queue bucket size (Sent slot) new) → IsJoined new (slice_set notes bucket Unheld)
+        by_sent sent = go_noted old new notes joined (λ process. (_, (sent process).9)) bucket Unheld
+            (subst (λ known. IsNoted known Unheld) (sym (sent 0).10) tt) others InUse was
+
+    pub after_unsent : (sending : Sending) → ((slot : ℕ) → sending ≢ Sent slot) →
+        ((process : ℕ) → IsSend process old queue bucket size sending new) → IsJoined new notes
+    after_unsent (Sent slot) other did = absurd (other slot refl)
+    after_unsent Full other did = go_again old new notes joined (λ process. (_, (did process).10)) bucket InUse
+        (clear_noted (known_of new bucket) (did 0).11) others was
+    after_unsent Overtaken other did = go_again old new notes joined (λ process. (_, (did process).2)) bucket InUse
+        (clear_noted (known_of new bucket) (did 0).3) others was
+
+-- a receiver
+receipt_goes : (process : ℕ) (old new : FileLog) (notes : List Note) (queue : FileQueue) (size : ℕ) (answer : Taken) →
+    IsReceipt process old notes queue size answer new → (steps : List FileStep) × IsWalk process old Outside new steps Outside
+receipt_goes process old new notes queue size taken.Empty did = (_, did.5)
+receipt_goes process old new notes queue size (taken.Message bucket bytes) did =
+    (_, walk_on process old did.2 new Outside Outside Outside [] _ did.4 did.8.1)
+receipt_goes process old new notes queue size taken.NotSent did = (_, did.0)
+receipt_goes process old new notes queue size taken.Wrong (inl did) = (_, did.0)
+receipt_goes process old new notes queue size taken.Wrong (inr did) =
+    (_, walk_on process old did.3 new Outside Outside Outside [] _ did.5 did.7.2)
+
+-- a message that a receiver takes is in a bucket that the party doesn't hold
+pub received_unheld : (process : ℕ) (old new : FileLog) (notes : List Note) (queue : FileQueue) (size : ℕ) (answer : Taken)
+    (bucket bytes : ℕ) → answer ≡ taken.Message bucket bytes → IsReceipt process old notes queue size answer new →
+    slice_get notes bucket ≡ Some Unheld
+received_unheld process old new notes queue size answer bucket bytes is did =
+    unheld_by (subst (λ (a : Taken). IsReceipt process old notes queue size a new) is did)
+  where
+    unheld_by : IsReceipt process old notes queue size (taken.Message bucket bytes) new → slice_get notes bucket ≡ Some Unheld
+    unheld_by receipt = receipt.6
+
+pub after_receipt : (old new : FileLog) (notes later : List Note) (queue : FileQueue) (size : ℕ) (answer : Taken) →
+    IsJoined old notes → ((process : ℕ) → IsReceipt process old notes queue size answer new) → AreNoted new later →
+    IsJoined new later
+after_receipt old new notes later queue size answer joined did noted = record {
+  home = home_on old new joined.home (λ process. receipt_goes process old new notes queue size answer (did process));
+  noted = noted;
+}
+
+-- the notes stay if nothing is sent, or received
+pub unsent_notes : (notes : List Note) (bucket : ℕ) (sending : Sending) → ((slot : ℕ) → sending ≢ Sent slot) →
+    notes_sent notes bucket sending ≡ notes
+unsent_notes notes bucket (Sent slot) other = absurd (other slot refl)
+unsent_notes notes bucket Full other = refl
+unsent_notes notes bucket Overtaken other = refl
+
+pub unreceived_notes : (notes : List Note) (answer : Taken) →
+    ((bucket length : ℕ) → answer ≢ taken.Message bucket length) → noted_after notes answer ≡ notes
+unreceived_notes notes taken.Empty other = refl
+unreceived_notes notes taken.Wrong other = refl
+unreceived_notes notes taken.NotSent other = refl
+unreceived_notes notes (taken.Message bucket length) other = absurd (other bucket length refl)
 
 -- ALL BUCKETS
 

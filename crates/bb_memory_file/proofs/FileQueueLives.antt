@@ -6,7 +6,7 @@ use Rattle.bb_memory_file.proofs.FileRunSteps.{log_of, own_mine, session}
 use Rattle.bb_memory_file.specs.FileCode.{EmptySlot, Event, ExchangeFlag, ExchangeSlot, FileLog, Finds, Has, Holds, IsKnown, IsStep, LoadEntry, LoadFlag, LoadLife, LoadSlot, MayBe, MissFlag, MissSlot, StoreEntry, StoreFlag, StoreLife, Unknown, known_of, left_by}
 use Rattle.bb_memory_file.specs.FileLog.{Known, is_held, known_by}
 use Rattle.bb_memory_file.specs.FileNames.{DetachedBy, Empty, FileFlag, FileStep, Free, HeldBy, Message, Place, Refused, SentTo, Slot, Take}
-use Rattle.bb_memory_file.specs.FileQueueLives.{AreRecent, EventRelies, LooksAreRecent, FillRelies, IsRecent, LookTest, PassRelies, ProcessesObey, TakeRelies, events_in, events_of}
+use Rattle.bb_memory_file.specs.FileQueueLives.{AreRecent, EventRelies, FillRelies, IsRecent, LookTest, LooksAreRecent, PassRelies, ProcessesObey, TakeRelies, events_in, events_of}
 use Rattle.bb_memory_file.specs.FileQueueLooks.{CanFill, CanPass, CanTake, EventObeys, EventsObey, Look, Shows, ShowsUnsent}
 use Rattle.bb_memory_file.specs.FileQueueLooks as looks
 use Rattle.bb_memory_file.specs.FileQueueRuns.{ActObeys, ActsObey}
@@ -29,10 +29,11 @@ use Rattle.std.specs.Prelude.{Contains, slice_get, slice_set}
 -- a bucket that was sent isn't held after another flag was written
 never_held : (flags : List FileFlag) (other bucket : ℕ) (to : FileFlag) (slot lap number : ℕ) → ¬ (to ≡ HeldBy number) →
     slice_get flags bucket ≡ Some (SentTo slot lap) → ¬ (slice_get (slice_set flags other to) bucket ≡ Some (HeldBy number))
-never_held flags other bucket to slot lap number unheld was held = elim (slice_get-set flags other bucket to (HeldBy number) held) [
-  | inl before ↦ let same = one_value flags bucket (SentTo slot lap) (HeldBy number) was before in absurd (cc)
-  | inr this ↦ unheld this.1
-]
+never_held flags other bucket to slot lap number unheld was held =
+    elim (slice_get-set flags other bucket to (HeldBy number) held) [
+      | inl before ↦ let same = one_value flags bucket (SentTo slot lap) (HeldBy number) was before in absurd (cc)
+      | inr this ↦ unheld this.1
+    ]
 
 -- a step by which a party gets a bucket that is sent is a take
 takes_sent : (words : FileWords) (place : Place) (step : FileStep) (move : FileMove) (bucket slot lap number : ℕ) →
@@ -87,8 +88,8 @@ sent_to words place step move process party slot bucket lap _ step_is allowed = 
 
 -- no step of a party stores the flag of a bucket that is sent, so that the party holds the bucket
 never_stored : (log : FileLog) (process : ℕ) (words : FileWords) (here : Place) (bucket slot lap number : ℕ) (step : FileStep)
-    (there : Place) → Sound words → MayBe log process words → IsStep log process here (StoreFlag bucket (HeldBy number)) step there →
-    ¬ IsFlag words bucket (SentTo slot lap)
+    (there : Place) → Sound words → MayBe log process words →
+    IsStep log process here (StoreFlag bucket (HeldBy number)) step there → ¬ IsFlag words bucket (SentTo slot lap)
 never_stored log process words here bucket slot lap number step there sound may made is =
     let stored = made words may tt in
     let held : IsFlag (move_at words here step).words bucket (HeldBy number) =
@@ -176,17 +177,19 @@ Relying party queue all process events event =
     (obeys : EventObeys party queue events event)
     × EventRelies party queue events event (IsRecent queue.scene all process events) obeys
 
-relying_then : (party : ℕ) (queue : FileQueue) (all : List Act) (process : ℕ) (event : Event) (before events : List Event) →
-    IsMoment (event ∷ before) events → (obey : EventsObey party queue events) → LooksAreRecent party queue all process events obey →
+relying_then : (party : ℕ) (queue : FileQueue) (all : List Act) (process : ℕ) (event : Event)
+    (before events : List Event) → IsMoment (event ∷ before) events → (obey : EventsObey party queue events) →
+    LooksAreRecent party queue all process events obey →
     Relying party queue all process before event × EventsObey party queue before
 relying_then party queue all process event before _ now obey rely = ((obey.0, rely.0), obey.1)
 relying_then party queue all process event before _ (earlier last events past) obey rely =
     relying_then party queue all process event before events past obey.1 rely.1
 
 -- what a process in a session has seen
-module _ (queue : FileQueue) (all acts : List Act) (process party : ℕ) (events : List Event) (below : process < queue.scene.processes)
-    (true_acts : AreTrue queue.scene acts) (lives : Lives queue.scene acts) (mine : own process acts ≡ session process party events)
-    (past : IsMoment acts all) (obey : EventsObey party queue events) where
+module _ (queue : FileQueue) (all acts : List Act) (process party : ℕ) (events : List Event)
+    (below : process < queue.scene.processes) (true_acts : AreTrue queue.scene acts) (lives : Lives queue.scene acts)
+    (mine : own process acts ≡ session process party events) (past : IsMoment acts all)
+    (obey : EventsObey party queue events) where
   abbrev Recently : LookTest
   Recently = IsRecent queue.scene all process events
 
@@ -264,15 +267,17 @@ module _ (queue : FileQueue) (all acts : List Act) (process party : ℕ) (events
 no_fill : (words later : FileWords) (slot lap found bucket : ℕ) → later.slots ≡ words.slots → IsSlot words slot (Empty lap) →
     ¬ IsSlot later slot (Message found bucket)
 no_fill words later slot lap found bucket same was is =
-    let e = one_value words.slots slot (Empty lap) (Message found bucket) was (ap (λ (l : List Slot). slice_get l slot) (sym same) ∙ is)
-    in absurd (cc)
+    let e = one_value words.slots slot (Empty lap) (Message found bucket) was
+    (ap (λ (l : List Slot). slice_get l slot) (sym same) ∙ is) in
+    absurd (cc)
 
 -- a slot that stays isn't emptied
 no_empty : (words later : FileWords) (slot lap bucket next : ℕ) → later.slots ≡ words.slots →
     IsSlot words slot (Message lap bucket) → ¬ IsSlot later slot (Empty next)
 no_empty words later slot lap bucket next same was is =
-    let e = one_value words.slots slot (Message lap bucket) (Empty next) was (ap (λ (l : List Slot). slice_get l slot) (sym same) ∙ is)
-    in absurd (cc)
+    let e = one_value words.slots slot (Message lap bucket) (Empty next) was
+    (ap (λ (l : List Slot). slice_get l slot) (sym same) ∙ is) in
+    absurd (cc)
 
 -- a bucket whose flag stays isn't taken
 no_take : (words later : FileWords) (bucket slot lap party : ℕ) → later.flags ≡ words.flags →
@@ -322,8 +327,9 @@ module _ (queue : FileQueue) (all : List Act) (obey : ProcessesObey queue all) (
     knows : Knowing queue.scene process party events before
     knows = knowing queue.scene process party events acts below true_acts lives mine
 
-    fills_slot : (other slot lap found bucket : ℕ) (from to : Slot) → IsMoment (Operates process party (ExchangeSlot other from to) ∷ acts) all →
-        IsSlot before other from → IsSlotOf queue slot → IsSlot before slot (Empty lap) →
+    fills_slot : (other slot lap found bucket : ℕ) (from to : Slot) →
+        IsMoment (Operates process party (ExchangeSlot other from to) ∷ acts) all → IsSlot before other from → IsSlotOf queue slot →
+        IsSlot before slot (Empty lap) →
         IsSlot (with_slot before other to) slot (Message found bucket) → MayFill (words_after queue.scene) queue acts slot lap
     fills_slot other slot lap found bucket from to past there its was is =
         elim (set_cases before.slots other slot to from (Message found bucket) there is) [
@@ -342,8 +348,9 @@ module _ (queue : FileQueue) (all : List Act) (obey : ProcessesObey queue all) (
               all_relied.1 slot lap (relied.0 its) (relied.1 its)
         ]
 
-    empties_slot : (other slot lap bucket next : ℕ) (from to : Slot) → IsMoment (Operates process party (ExchangeSlot other from to) ∷ acts) all →
-        IsSlot before other from → IsSlotOf queue slot → IsSlot before slot (Message lap bucket) →
+    empties_slot : (other slot lap bucket next : ℕ) (from to : Slot) →
+        IsMoment (Operates process party (ExchangeSlot other from to) ∷ acts) all → IsSlot before other from → IsSlotOf queue slot →
+        IsSlot before slot (Message lap bucket) →
         IsSlot (with_slot before other to) slot (Empty next) → MayEmpty before slot next
     empties_slot other slot lap bucket next from to past there its was is =
         elim (set_cases before.slots other slot to from (Empty next) there is) [
@@ -362,8 +369,9 @@ module _ (queue : FileQueue) (all : List Act) (obey : ProcessesObey queue all) (
               relied.0 its ∙ ap (λ (l : ℕ). next_lap l) laps
         ]
 
-    takes_bucket : (other slot bucket lap number : ℕ) (from to : FileFlag) → IsMoment (Operates process party (ExchangeFlag other from to) ∷ acts) all →
-        IsFlag before other from → IsSlotOf queue slot → IsFlag before bucket (SentTo slot lap) →
+    takes_bucket : (other slot bucket lap number : ℕ) (from to : FileFlag) →
+        IsMoment (Operates process party (ExchangeFlag other from to) ∷ acts) all → IsFlag before other from → IsSlotOf queue slot →
+        IsFlag before bucket (SentTo slot lap) →
         IsFlag (with_flag before other to) bucket (HeldBy number) → MayTake (words_after queue.scene) queue acts slot bucket lap
     takes_bucket other slot bucket lap number from to past there its was is =
         elim (set_cases before.flags other bucket to from (HeldBy number) there is) [
@@ -396,7 +404,8 @@ module _ (queue : FileQueue) (all : List Act) (obey : ProcessesObey queue all) (
               (subst (λ (e : Event). IsStep (log_of queue.scene party events) process here e step there) same made) was
         ]
 
-    empties_own : (other slot lap bucket goes_on next : ℕ) → IsMoment (Operates process party (EmptySlot other goes_on) ∷ acts) all →
+    empties_own : (other slot lap bucket goes_on next : ℕ) →
+        IsMoment (Operates process party (EmptySlot other goes_on) ∷ acts) all →
         IsSlot before slot (Message lap bucket) → IsSlot (with_slot before other (Empty goes_on)) slot (Empty next) →
         MayEmpty before slot next
     empties_own other slot lap bucket goes_on next past was is =
@@ -434,8 +443,8 @@ module _ (queue : FileQueue) (all : List Act) (obey : ProcessesObey queue all) (
         fill = λ slot lap found bucket its was is. absurd (no_fill words words slot lap found bucket refl was is);
         take = λ slot bucket lap number its was is.
             takes_bucket acts process party made.events true_acts.0 true_acts.2
-            (lives_before queue.scene (Operates process party event) acts lives) made.session other slot bucket lap number from to past
-            true_acts.1 its was is;
+            (lives_before queue.scene (Operates process party event) acts lives) made.session other slot bucket lap number
+            from to past true_acts.1 its was is;
         empty = λ slot lap bucket next its was is. absurd (no_empty words words slot lap bucket next refl was is);
       }
   event_obeys acts process party (StoreFlag other to) past true_acts lives =
@@ -457,8 +466,8 @@ module _ (queue : FileQueue) (all : List Act) (obey : ProcessesObey queue all) (
       let shorter = lives_before queue.scene (Operates process party event) acts lives in
       record {
         fill = λ slot lap found bucket its was is.
-            fills_slot acts process party made.events true_acts.0 true_acts.2 shorter made.session other slot lap found bucket from to
-            past true_acts.1 its was is;
+            fills_slot acts process party made.events true_acts.0 true_acts.2 shorter made.session other slot lap found bucket
+            from to past true_acts.1 its was is;
         take = λ slot bucket lap number its was is. absurd (no_take words words bucket slot lap number refl was is);
         empty = λ slot lap bucket next its was is.
             empties_slot acts process party made.events true_acts.0 true_acts.2 shorter made.session other slot lap bucket next

@@ -10,7 +10,7 @@ use Rattle.bb_memory_file_machine.specs.FileLaws.{IsFlag, IsSlot}
 use Rattle.bb_memory_file_machine.specs.FileMachine.{FileScene, FileWords}
 use Rattle.bb_memory_file_machine.specs.FileQueues.{FileQueue, HasSeen, History, IsMoment, IsSlotOf, MayEmpty, MayFill, MayPass, MayTake, Obey, StepObeys, earlier, fills, is_filling, lap_before, now, outcome_after, over, queue_rules, slot_before, unsent, words_at}
 use Rattle.bb_memory_file_machine.specs.declared.steps.file.FileOutcome.TheVariants.{OnSlot, Receives}
-use Rattle.std.proofs.Common.{Bool, List, Some, ap, arith, false, length, refl, reverse, sym, ℕ, ◌+◌, ◌∙◌, ◌∷◌, ◌≡◌, ◌≤◌}
+use Rattle.std.proofs.Common.{Bool, List, Some, ap, arith, false, refl, reverse, sym, ℕ, ◌+◌, ◌∙◌, ◌∷◌, ◌≡◌}
 use Rattle.std.specs.Prelude.{if◌then◌else◌, slice_get}
 
 -- MOMENTS

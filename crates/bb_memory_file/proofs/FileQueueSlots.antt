@@ -28,11 +28,21 @@ later_tested lap other small too more false e = λ later.
     let most = ltb-false ((other + 2 ^ 30 - lap) % 2 ^ 30) (2 ^ 29) e in
     let less = is.1 in absurd (omega (arith, most, less))
 
+pub never_later : (lap : ℕ) → lap < 2 ^ 30 → ¬ IsLater lap lap
+never_later lap small (more, positive, half, is) = absurd (omega (arith, small, positive, half, is))
+
+pub last_apart : (lap : ℕ) → lap < 2 ^ 30 → last_lap lap ≢ lap
+last_apart lap small is = absurd (omega (arith, small, is))
+
+pub last_not_later : (lap : ℕ) → lap < 2 ^ 30 → ¬ IsLater lap (last_lap lap)
+last_not_later lap small (more, positive, half, is) = absurd (omega (arith, small, positive, half, is))
+
+-- the lap before an empty slot's lap was filled
+pub last_filled : (lap : ℕ) → lap < 2 ^ 30 → IsLater (last_lap lap) lap
+last_filled lap small = (1, omega arith, omega arith, omega arith)
+
 pub last_next : (lap : ℕ) → lap < 2 ^ 30 → last_lap (next_lap lap) ≡ lap
 last_next lap small = omega arith
-
-pub next_last : (lap : ℕ) → lap < 2 ^ 30 → IsLater (last_lap lap) lap
-next_last lap small = (1, omega arith, omega arith, omega arith)
 
 -- SLOTS
 

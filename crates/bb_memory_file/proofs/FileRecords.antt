@@ -7,7 +7,7 @@ use Rattle.bb_memory_file.specs.FileNames.{FileStep, Outside, Place}
 use Rattle.bb_memory_file.specs.FileOperations.{AreLooks, IsLook, looks_at_entry, looks_at_flag, looks_at_life, looks_at_slot}
 use Rattle.bb_memory_file.specs.FileRecords.{AreBy, AreKept, AreLives, IsKept, IsMachinesRow, IsRecord, IsTold, Tells, act_by, acts_by, changes_lock, is_operation, nothing, operates, operations_in, party_by}
 use Rattle.bb_memory_file.specs.FileRows.{IsEvent, Says}
-use Rattle.bb_memory_file.specs.FileRuns.{Act, Dies, Frees, IsMachines, IsTrue, Life, Locks, Operates, Unlocks, acted, actor, own, words_after}
+use Rattle.bb_memory_file.specs.FileRuns.{Act, Dies, Frees, IsMachines, IsRun, IsTrue, Life, Locks, Operates, Unlocks, acted, actor, own, words_after}
 use Rattle.bb_memory_file.specs.FileRuns as runs
 use Rattle.bb_memory_file.specs.Recorded.{AllFound, Exchange, IsFoundIn, Load, Run, Store, WordEvent, of_hand, written}
 use Rattle.bb_memory_file.specs.Recorded as row
@@ -205,12 +205,17 @@ module _ (geometry : FileGeometry) (scene : FileScene) (parties : ℕ → Option
       subst (λ (steps : List FileStep). Life scene process (own process acts) steps (places process)) (sym at.0)
       (subst (λ (place : Place). Life scene process (own process acts) [] place) (sym at.1) life)
 
+  -- the acts are a run
+  pub is_run : IsRun scene acts taken places
+  is_run = record {
+    true = (is_told geometry scene parties start run acts record').true;
+    lives = λ process. life_of process (parties process) refl;
+  }
+
   pub is_machines_row : IsMachinesRow geometry scene start run acts taken places
   is_machines_row =
       let told = is_told geometry scene parties start run acts record' in
-      let machine : IsMachines scene acts taken places =
-      is_machines scene acts taken places
-      (record { true = told.true; lives = λ process. life_of process (parties process) refl }) in
+      let machine : IsMachines scene acts taken places = is_machines scene acts taken places is_run in
       record {
         machine = machine;
         says = subst (λ (words : FileWords). Says geometry (row.words_after start run) words) (sym machine.words) told.says;

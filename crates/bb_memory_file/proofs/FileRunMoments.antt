@@ -5,7 +5,8 @@ use Rattle.bb_memory_file.specs.FileCode.{ChangesNone, Event, FileLog, IsStep, M
 use Rattle.bb_memory_file.specs.FileCode as code
 use Rattle.bb_memory_file.specs.FileLog.{fresh_log}
 use Rattle.bb_memory_file.specs.FileNames.{Counting, Dead, FileStep, Lock, Outside, Place}
-use Rattle.bb_memory_file.specs.FileQueueLives.{events_in}
+use Rattle.bb_memory_file.specs.FileQueueLives.{events_in, events_of}
+use Rattle.bb_memory_file.specs.FileRecords.{operations_in}
 use Rattle.bb_memory_file.specs.FileRuns.{Act, AreTrue, Dies, Frees, Life, Locks, Operates, Unlocks, actor, acts_of, own, words_after}
 use Rattle.bb_memory_file.specs.FileRuns as runs
 use Rattle.bb_memory_file_machine.proofs.FileInvariant.{Sound}
@@ -13,9 +14,9 @@ use Rattle.bb_memory_file_machine.proofs.FileSteps.{holds_always}
 use Rattle.bb_memory_file_machine.specs.FileMachine.{FileScene, FileWords}
 use Rattle.bb_memory_file_machine.specs.FileQueues.{IsMoment, earlier, now}
 use Rattle.bb_memory_lists.proofs.ListEntries.{contains-behind, contains-first}
-use Rattle.std.proofs.Common.{Bool, List, [], ap, arith, false, inl, inr, length, refl, subst, sym, true, ℕ, ◌+◌, ◌++◌, ◌<◌, ◌∙◌, ◌∷◌, ◌≡◌, ◌≤◌, ◌⊎◌}
+use Rattle.std.proofs.Common.{Bool, List, [], ap, arith, false, inl, inr, length, refl, subst, sym, true, ℕ, ◌++◌, ◌+◌, ◌<◌, ◌∙◌, ◌∷◌, ◌≡◌, ◌≤◌, ◌⊎◌}
 use Rattle.std.proofs.lemmas.Bool.{eqb-true}
-use Rattle.std.specs.Prelude.{Contains, ◌==◌}
+use Rattle.std.specs.Prelude.{Contains, map, ◌==◌}
 
 -- MOMENTS
 
@@ -64,6 +65,15 @@ own_moment process moment _ (earlier act acts past) = elim (own_cases process ac
   | inr other ↦ subst (λ (l : List Act). IsMoment (own process moment) l) (sym other) (own_moment process moment acts past)
 ]
 
+-- a run has no acts of processes that aren't in its scene
+pub own_beyond : (scene : FileScene) (acts : List Act) (process : ℕ) → AreTrue scene acts → scene.processes ≤ process →
+    own process acts ≡ []
+own_beyond scene [] process true_acts beyond = refl
+own_beyond scene (act ∷ acts) process true_acts beyond = elim (own_cases process act acts) [
+  | inl mine ↦ let below = true_acts.0 in let same = mine.0 in absurd (omega (arith, below, same, beyond))
+  | inr other ↦ other ∙ own_beyond scene acts process true_acts.2 beyond
+]
+
 -- a process that has done this has taken the number's lock
 pub has_locked : (process party : ℕ) (events : List Event) (acts : List Act) → own process acts ≡ session process party events →
     Contains acts (Locks process party)
@@ -93,6 +103,29 @@ pub events_session : (process party : ℕ) (events : List Event) → events_in (
 events_session process party [] = refl
 events_session process party (event ∷ events) = ap (λ (l : List Event). event ∷ l) (events_session process party events)
 
+-- acts that aren't operations have no events
+operations_events : (acts : List Act) → events_in (operations_in acts) ≡ events_in acts
+operations_events [] = refl
+operations_events (Operates process party event ∷ acts) = ap (λ (l : List Event). event ∷ l) (operations_events acts)
+operations_events (Locks process party ∷ acts) = operations_events acts
+operations_events (Unlocks process party ∷ acts) = operations_events acts
+operations_events (Dies process ∷ acts) = operations_events acts
+operations_events (Frees process party ∷ acts) = operations_events acts
+
+-- the acts that a log tells have its events
+told_events : (process party : ℕ) (events : List Event) →
+    events_in (map (λ (e : Event). Operates process party e) events) ≡ events
+told_events process party [] = refl
+told_events process party (event ∷ events) = ap (λ (l : List Event). event ∷ l) (told_events process party events)
+
+-- if the operations of a process are those that a log tells, its events are the log's
+pub events_told : (process : ℕ) (log : FileLog) (acts : List Act) → operations_in (own process acts) ≡ acts_of process log →
+    events_of process acts ≡ log.events
+events_told process log acts is =
+    sym (operations_events (own process acts)) ∙ ap (λ (l : List Act). events_in l) is
+    ∙ told_events process log.party log.events
+
+-- a session has one act more than events
 pub session_length : (process party : ℕ) (events : List Event) → length (session process party events) ≡ length events + 1
 session_length process party [] = refl
 session_length process party (event ∷ events) = let less = session_length process party events in omega (arith, less)
@@ -166,8 +199,8 @@ pub record Made (scene : FileScene) (process party : ℕ) (event : Event) (befor
   pub there : Place
   pub made : IsStep (log_of scene party events) process here event step there
 
-made_path : (scene : FileScene) (process number party : ℕ) (event : Event) (rest : List Act) (log : FileLog) (taken : List FileStep)
-    (here : Place) → ¬ ChangesNone event → Path process (fresh_log scene number) (Counting number) log taken here →
+made_path : (scene : FileScene) (process number party : ℕ) (event : Event) (rest : List Act) (log : FileLog)
+    (taken : List FileStep) (here : Place) → ¬ ChangesNone event → Path process (fresh_log scene number) (Counting number) log taken here →
     acts_of process log ++ Locks process number ∷ [] ≡ Operates process party event ∷ rest →
     Made scene process party event rest
 made_path scene process number party event rest log taken here changes code.begins e = absurd (cc)
@@ -178,7 +211,8 @@ made_path scene process number party event rest _ taken here changes
     let same : other ≡ event = cc in
     let named : log.party ≡ party = cc in
     let before : acts_of process log ++ Locks process number ∷ [] ≡ rest = cc in
-    let numbers : number ≡ party = sym (path_same process (fresh_log scene number) (Counting number) log done at path).1 ∙ named in
+    let numbers : number ≡ party =
+    sym (path_same process (fresh_log scene number) (Counting number) log done at path).1 ∙ named in
     record {
       events = log.events;
       session = sym before ∙ acts_same scene process number log done at path
@@ -290,7 +324,8 @@ pub made_in_order : (scene : FileScene) (process party : ℕ) (one two : Event) 
     IsMoment (one ∷ first) (two ∷ second) →
     IsMoment (Operates process party one ∷ at.moment) (Operates process party two ∷ next.moment)
 made_in_order scene process party one two first second acts at next order =
-    elim (cases_moment (Operates process party one ∷ at.moment) acts (Operates process party two ∷ next.moment) at.past next.past) [
+    elim (cases_moment (Operates process party one ∷ at.moment) acts (Operates process party two ∷ next.moment) at.past
+    next.past) [
       | inl earlier_one ↦ earlier_one
       | inr later_one ↦ in_order_by scene process party one two first second acts at next order
           (Operates process party one ∷ at.moment) refl later_one

@@ -2,7 +2,7 @@
 use Rattle.bb_memory_file.proofs.FileKnows.{after_one, may_be_after, may_be_rests}
 use Rattle.bb_memory_file.specs.FileCode.{Brings, Event, FileLog, MayBe}
 use Rattle.bb_memory_file.specs.FileNames.{FileOutcome, FileStep, Place, Refused}
-use Rattle.bb_memory_file.specs.FileRuns.{Act, Follows, IsTrue, Locks, Operates, acted, actor, own, steps_of, words_after, looks_on, moves_on, steps_on}
+use Rattle.bb_memory_file.specs.FileRuns.{Act, Follows, IsTrue, Locks, Operates, acted, actor, looks_on, moves_on, own, steps_of, steps_on, words_after}
 use Rattle.bb_memory_file_machine.proofs.FileInvariant.{Sound}
 use Rattle.bb_memory_file_machine.proofs.FileSteps.{holds_always}
 use Rattle.bb_memory_file_machine.proofs.FileTheorem.{buckets_always}

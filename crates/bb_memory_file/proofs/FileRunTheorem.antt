@@ -5,7 +5,7 @@ use Rattle.bb_memory_file.specs.FileCode.{Brings, Event, FileLog, Finds, MayBe, 
 use Rattle.bb_memory_file.specs.FileCode as code
 use Rattle.bb_memory_file.specs.FileLog.{fresh_log}
 use Rattle.bb_memory_file.specs.FileNames.{Counting, Dead, FileStep, Kill, Lock, Outside, Place, Refused, Release, Unlock}
-use Rattle.bb_memory_file.specs.FileRuns.{Act, Follows, AreTrue, Dies, Frees, IsMachines, IsRun, IsTrue, Life, Locks, MayUnlock, Operates, Unlocks, actor, acts_of, own, words_after, opens}
+use Rattle.bb_memory_file.specs.FileRuns.{Act, AreTrue, Dies, Follows, Frees, IsMachines, IsRun, IsTrue, Life, Locks, MayUnlock, Operates, Unlocks, actor, acts_of, opens, own, words_after}
 use Rattle.bb_memory_file.specs.FileRuns as runs
 use Rattle.bb_memory_file_machine.specs.FileLaws.{IsLock}
 use Rattle.bb_memory_file_machine.specs.FileMachine.{FileScene, FileWords, finds_own, is_own, left_by, move_at, opening_state, outcomes_of, with_lock}

@@ -40,6 +40,8 @@ module _ {W : Type 0} (log : W → FileLog) (before old : JoinedParty W) (misses
         hint = (moved ∙ ap (λ (h : Hint). hint_after h (outcome.Takes bucket)) same_hint) i;
         cached = (misses.unchanged i).cached;
         most = (misses.unchanged i).most;
+        depth = (misses.unchanged i).depth;
+        ends = (misses.unchanged i).ends;
       },
     );
   }

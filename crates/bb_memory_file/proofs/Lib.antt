@@ -2,6 +2,7 @@ pub mod FileBeginnings
 pub mod FileBuckets
 pub mod FileCaches
 pub mod FileCounts
+pub mod FileEnds
 pub mod FileEvents
 pub mod FileFlagWords
 pub mod FileFlushes
@@ -11,9 +12,17 @@ pub mod FileMade
 pub mod FileMessages
 pub mod FileNotes
 pub mod FileProcesses
+pub mod FileQueueDone
+pub mod FileQueueExample
+pub mod FileQueueHeads
 pub mod FileQueueLives
+pub mod FileQueueNotes
+pub mod FileQueueReceipts
 pub mod FileQueueRuns
+pub mod FileQueueSends
 pub mod FileQueueSlots
+pub mod FileQueueWalks
+pub mod FileRecentLooks
 pub mod FileRecords
 pub mod FileRows
 pub mod FileRunMoments

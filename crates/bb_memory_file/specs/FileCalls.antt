@@ -131,6 +131,7 @@ IsPost process old slot bucket length true new =
     (lap : ℕ) × Makes process old (Next process ∷ Fill process lap ∷ Post process old.party slot bucket length ∷ []) new
     × Gets old (StoreFlag bucket (SentTo slot lap) ∷ ExchangeSlot slot (Empty lap) (Message lap bucket)
     ∷ StoreEntry bucket (In slot length) ∷ LoadSlot slot (Empty lap) ∷ []) new
+    × IsLap lap
 IsPost process old slot bucket length false new =
     (lap : ℕ) × (((other : ℕ) × Gets old (LoadSlot slot (Message lap other) ∷ []) new × Makes process old [] new)
     ⊎ (Gets old (StoreEntry bucket Nowhere ∷ MissSlot slot (Empty lap) ∷ StoreEntry bucket (In slot length)

@@ -5,7 +5,7 @@ use Rattle.bb_memory_file.specs.FileCalls.whereabouts as whereabouts
 use Rattle.bb_memory_file.specs.FileCode.{FileLog, Holds, Known, LoadSlot, Path, StoreFlag, Unknown, known_of, told}
 use Rattle.bb_memory_file.specs.FileLog.{Event, fresh_log}
 use Rattle.bb_memory_file.specs.FileNames.{Counting, Deallocate, Empty, FileStep, Free, In, Message, Nowhere, Outside, Slot}
-use Rattle.bb_memory_file.specs.FileQueueCalls.{AllObey, IsReceipt, IsSend, Sending, Sent}
+use Rattle.bb_memory_file.specs.FileQueueCalls.{AllObey, IsDoneAt, IsReceipt, IsSend, Sending, Sent, noted_after}
 use Rattle.bb_memory_file.specs.FileQueueLooks.{KnowsHead, KnowsTail, Position}
 use Rattle.bb_memory_file.specs.FileSettlers.{IsCounted}
 pub use Rattle.bb_memory_file.specs.declared.joined.Ends.{Ends}
@@ -19,7 +19,7 @@ use Rattle.bb_memory_file_machine.specs.FileQueues.{FileQueue}
 use Rattle.bb_memory_pool_machine.specs.PoolHints.{hint_after}
 use Rattle.bb_memory_pool_machine.specs.declared.hint.Hint.{Hint}
 use Rattle.bb_memory_pool_machine.specs.declared.steps.pool.PoolOutcome.TheVariants as outcome
-use Rattle.std.specs.Prelude.{AllPairs, Bool, Contains, Err, IfSome, List, None, Ok, Option, Result, Some, [], false, if◌then◌else◌, length, map, nat_lt, replicate, slice_get, slice_set, true, ℕ, ◌++◌, ◌+◌, ◌/◌, ◌<◌, ◌==◌, ◌∷◌, ◌≡◌, ◌≢◌, ◌≤◌, ◌⊎◌}
+use Rattle.std.specs.Prelude.{AllPairs, Bool, Contains, Err, IfSome, List, None, Ok, Option, Result, Some, [], false, if◌then◌else◌, length, map, nat_lt, replicate, slice_get, slice_set, true, ℕ, ◌++◌, ◌+◌, ◌/◌, ◌<◌, ◌==◌, ◌^◌, ◌∷◌, ◌≡◌, ◌≢◌, ◌≤◌, ◌⊎◌}
 
 -- A party that has joined: the words of its file, a note of each bucket, the hint at which its next
 -- search begins, the numbers of the buckets that it caches, in the order in which it cached them, how
@@ -80,6 +80,7 @@ pub record AreEnds (queue : FileQueue) (events : List Event) (ends : Ends) : Typ
 -- what the party has done obeys the rules of each queue of this depth, and it knows where it goes on
 pub record KeepsQueues (log : FileLog) (depth : ℕ) (ends : List Ends) : Type 0 where
   pub deep : 0 < depth
+  pub fits : log.scene.slots < 2 ^ 32
   pub enough : length ends ≡ queues_of log.scene.slots depth
   pub known : (number : ℕ) (its : Ends) → slice_get ends number ≡ Some its →
       AreEnds (record { scene = log.scene; number = number; depth = depth }) log.events its
@@ -328,11 +329,6 @@ Sends log old queue bucket length (Ok sending) new =
     }))
 Sends log old queue bucket length (Err refusal) new = IsRefusal (slice_get old.notes bucket) refusal × (new ≡ old)
 
--- the notes after this answer of a receiver
-abbrev pub notes_received : List Note → Taken → List Note
-notes_received notes (taken.Message bucket length) = slice_set notes bucket Undone
-notes_received notes taken = notes
-
 -- The party has noted where it goes on as a receiver at the queue, and if it has received a message, that
 -- it isn't done with it.
 abbrev pub Receives : {W : Type 0} → (W → FileLog) → JoinedParty W → ℕ → ℕ → Taken → JoinedParty W → Type 0
@@ -341,9 +337,30 @@ Receives log old queue size taken new =
     × ((its : Ends) × (head : Option Position) × (slice_get old.ends queue ≡ Some its)
     × (new ≡ record old {
       words = new.words;
-      notes = notes_received old.notes taken;
+      notes = noted_after old.notes taken;
       ends = slice_set old.ends queue (record its { head = head });
     }))
+
+-- the party has no message in a bucket with this note
+abbrev pub HasNoMessage : Option Note → Type 0
+HasNoMessage (Some Unheld) = Unit {0}
+HasNoMessage (Some Cached) = Unit {0}
+HasNoMessage (Some InUse) = Unit {0}
+HasNoMessage _ = ⊥
+
+-- The party was at work on the message in the bucket, and its slot, which is this one, is empty now. Or the
+-- call says why not. If the message's slot hasn't the bucket, which no file shows in which only these calls
+-- write, the party isn't done with it.
+abbrev pub Finishes : {W : Type 0} → (W → FileLog) → JoinedParty W → ℕ → Result ℕ Refusal → JoinedParty W → Type 0
+Finishes log old bucket (Ok slot) new =
+    (slice_get old.notes bucket ≡ Some Undone) × ((lap : ℕ)
+    × Does log (λ process before after. IsDoneAt process before bucket (whereabouts.In slot lap) after) old bucket InUse new)
+Finishes log old bucket (Err NotABucket) new = (slice_get old.notes bucket ≡ None) × (new ≡ old)
+Finishes log old bucket (Err NotHeld) new = HasNoMessage (slice_get old.notes bucket) × (new ≡ old)
+Finishes log old bucket (Err NotDone) new =
+    (slice_get old.notes bucket ≡ Some Undone)
+    × (DoesOnly log (λ process before after. IsDoneAt process before bucket whereabouts.Entered after) old new
+    ⊎ Does log (λ process before after. IsDoneAt process before bucket whereabouts.Nowhere after) old bucket InUse new)
 
 -- all buckets that the party held, in use or cached, are given back, or sent, and it holds none
 abbrev pub GivesAllBack : {W : Type 0} → (W → FileLog) → JoinedParty W → ℕ → JoinedParty W → Type 0

@@ -5,10 +5,10 @@ use Rattle.bb_memory_file.specs.FileCalls.whereabouts as whereabouts
 use Rattle.bb_memory_file.specs.FileCode.{ChangesNone, Event, ExchangeSlot, FileLog, LoadFlag, LoadSlot, MissFlag, MissSlot, StoreEntry, StoreFlag, Unknown, known_of, told}
 use Rattle.bb_memory_file.specs.FileLog.{is_clear}
 use Rattle.bb_memory_file.specs.FileNames.{Empty, FileStep, Fill, In, Message, Next, Nowhere, Post, SentTo, Slot}
-use Rattle.bb_memory_file.specs.FileQueueLooks.{CanFill, CanPass, CanTake, EventsObey, KnowsHead, KnowsTail, Position, last_lap, position_after}
-use Rattle.bb_memory_file.specs.declared.joined.Note.{Note}
-use Rattle.bb_memory_file.specs.declared.joined.Note.TheVariants.{Undone, Unheld}
-use Rattle.bb_memory_file.specs.declared.joined.Taken.{Taken}
+use Rattle.bb_memory_file.specs.FileQueueLooks.{CanFill, CanPass, CanTake, EventsObey, KnowsHead, KnowsTail, Position, last_lap, position_after, position_on}
+pub use Rattle.bb_memory_file.specs.declared.joined.Note.{Note}
+pub use Rattle.bb_memory_file.specs.declared.joined.Note.TheVariants.{Undone, Unheld}
+pub use Rattle.bb_memory_file.specs.declared.joined.Taken.{Taken}
 use Rattle.bb_memory_file.specs.declared.joined.Taken.TheVariants as taken
 pub use Rattle.bb_memory_file.specs.declared.queues.Sending.{Sending}
 pub use Rattle.bb_memory_file.specs.declared.queues.Sending.TheVariants.{Full, Overtaken, Sent}
@@ -31,8 +31,8 @@ KnowsOthers old bucket new =
 
 -- the party has only looked since
 pub data Looks (old : FileLog) : FileLog → Type 0 where
-  begins : Looks old old
-  on : (log : FileLog) (event : Event) → Looks old log → ChangesNone event → Looks old (told log event)
+  nothing : Looks old old
+  looks : (log : FileLog) (event : Event) → Looks old log → ChangesNone event → Looks old (told log event)
 
 -- the event is one of those since the moment
 pub record Happens (moment events : List Event) (event : Event) : Type 0 where
@@ -44,15 +44,10 @@ pub record Happens (moment events : List Event) (event : Event) : Type 0 where
 -- test, which is one of a lap and a word.
 pub data Passes (test : ℕ → Slot → Type 0) (queue : FileQueue) (before : FileLog) (from : Position) : ℕ → FileLog → Position →
     Type 0 where
-  none : Passes test queue before from 0 before from
-  next : (count : ℕ) (log : FileLog) (position : Position) (word : Slot) → Passes test queue before from count log position →
+  stays : Passes test queue before from 0 before from
+  moves_on : (count : ℕ) (log : FileLog) (position : Position) (word : Slot) → Passes test queue before from count log position →
       test position.lap word →
       Passes test queue before from (count + 1) (told log (LoadSlot position.slot word)) (position_after queue position)
-
--- the position so many slots after this one
-abbrev pub position_on : FileQueue → Position → ℕ → Position
-position_on queue position zero = position
-position_on queue position (suc count) = position_after queue (position_on queue position count)
 
 -- SENDERS
 
@@ -66,9 +61,9 @@ attempts process party bucket size (slot ∷ slots) =
 -- The sender has tried these slots, the last first, and others were faster so often: another party filled
 -- the slot that it had found empty, or others filled each slot of the queue while it looked at them.
 pub data Attempts (queue : FileQueue) (bucket size : ℕ) (old : FileLog) : List ℕ → ℕ → FileLog → Type 0 where
-  begins : Attempts queue bucket size old [] 0 old
-  looks : (tried : List ℕ) (count : ℕ) (log : FileLog) (slot : ℕ) (word : Slot) → Attempts queue bucket size old tried count log →
-      Attempts queue bucket size old tried count (told log (LoadSlot slot word))
+  untried : Attempts queue bucket size old [] 0 old
+  sought : (tried : List ℕ) (count : ℕ) (log new : FileLog) → Attempts queue bucket size old tried count log → Looks log new →
+      Attempts queue bucket size old tried count new
   missed : (tried : List ℕ) (count : ℕ) (log : FileLog) (position : Position) → Attempts queue bucket size old tried count log →
       KnowsTail queue log.events position →
       Attempts queue bucket size old (position.slot ∷ tried) (count + 1) (record log {
@@ -124,11 +119,11 @@ IsOver lap word = IsLater lap (lap_said word)
 -- queue while it looked at them. Or it found that a message is sent, and missed it. Or it found that a
 -- message is sent, and then that an older one is, too.
 pub data Loses (queue : FileQueue) (old : FileLog) : ℕ → FileLog → Type 0 where
-  begins : Loses queue old 0 old
-  looks : (count : ℕ) (log new : FileLog) → Loses queue old count log → Looks log new → Loses queue old count new
+  unbeaten : Loses queue old 0 old
+  searched : (count : ℕ) (log new : FileLog) → Loses queue old count log → Looks log new → Loses queue old count new
   overtaken : (count : ℕ) (log : FileLog) (from : Position) (new : FileLog) (to : Position) → Loses queue old count log →
       KnowsHead queue log.events from → Passes IsOver queue log from (queue.depth + 1) new to → Loses queue old (count + 1) new
-  missed : (count : ℕ) (log before : FileLog) (slot lap bucket : ℕ) → Loses queue old count log → Looks log before →
+  beaten : (count : ℕ) (log before : FileLog) (slot lap bucket : ℕ) → Loses queue old count log → Looks log before →
       IsSlotOf queue slot → Happens log.events before.events (LoadFlag bucket (SentTo slot lap)) →
       Loses queue old (count + 1) (told before (MissFlag bucket (SentTo slot lap)))
   older : (count : ℕ) (log before : FileLog) (head : Position) (more less bucket other : ℕ) → Loses queue old count log →
@@ -154,7 +149,7 @@ pub record NoneSent (party : ℕ) (queue : FileQueue) (old new : List Event) : T
 
 -- the laps of two slots of a queue are never so far from each other
 abbrev pub IsFar : ℕ → ℕ → Type 0
-IsFar lap other = 2 ^ 29 ≤ (other + 2 ^ 28 + (2 ^ 30 - lap)) % 2 ^ 30
+IsFar lap other = 2 ^ 29 ≤ (other + 2 ^ 28 + (2 ^ 30 - lap)) % 2 ^ 30 + 1
 
 -- a message that a receiver finds in a slot is none in a bucket with this note
 abbrev pub IsStray : Option Note → Type 0

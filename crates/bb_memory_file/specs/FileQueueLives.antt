@@ -3,9 +3,9 @@
 -- The laps of a slot come round. So what a process has seen of a slot counts only until the slot has been
 -- filled too many times since.
 use Rattle.bb_memory_file.specs.FileLog.{Event, ExchangeFlag, ExchangeSlot}
-use Rattle.bb_memory_file.specs.FileNames.{Empty, HeldBy, Message, SentTo}
+use Rattle.bb_memory_file.specs.FileNames.{Empty, FileStep, HeldBy, Message, Place, SentTo}
 use Rattle.bb_memory_file.specs.FileQueueLooks.{CanFill, CanPass, CanTake, EventObeys, EventsObey, held, over, unsent}
-use Rattle.bb_memory_file.specs.FileRuns.{Act, Locks, Operates, own, words_after}
+use Rattle.bb_memory_file.specs.FileRuns.{Act, IsRun, Locks, Operates, own, words_after}
 use Rattle.bb_memory_file_machine.specs.FileMachine.{FileScene}
 use Rattle.bb_memory_file_machine.specs.FileQueues.{FileQueue, IsMoment, IsSlotOf, fills, slot_before}
 use Rattle.std.specs.Prelude.{Contains, List, [], ℕ, ◌+◌, ◌<◌, ◌^◌, ◌∷◌, ◌≡◌, ◌≢◌}
@@ -86,3 +86,27 @@ abbrev pub AreRecent : (queue : FileQueue) (acts : List Act) → ProcessesObey q
 AreRecent queue acts obey =
     (process party : ℕ) (locks : Contains acts (Locks process party)) →
     LooksAreRecent party queue acts process (events_of process acts) (obey process party locks)
+
+-- A RUN BY THE RULES
+
+-- a run whose processes obey the rules of a queue of this depth by recent looks, and in which one process
+-- posts a message to the queue, and another one takes it
+pub record GoesThrough (depth : ℕ) : Type 0 where
+  pub queue : FileQueue
+  pub depth_is : queue.depth ≡ depth
+  pub acts : List Act
+  pub taken : ℕ → List FileStep
+  pub places : ℕ → Place
+  pub run : IsRun queue.scene acts taken places
+  pub obey : ProcessesObey queue acts
+  pub recent : AreRecent queue acts obey
+  pub sender : ℕ
+  pub receiver : ℕ
+  pub apart : sender ≢ receiver
+  pub slot : ℕ
+  pub its : IsSlotOf queue slot
+  pub lap : ℕ
+  pub bucket : ℕ
+  pub posted : Contains (events_of sender acts) (ExchangeSlot slot (Empty lap) (Message lap bucket))
+  pub party : ℕ
+  pub received : Contains (events_of receiver acts) (ExchangeFlag bucket (SentTo slot lap) (HeldBy party))

@@ -8,7 +8,7 @@ pub use Rattle.bb_memory_file.specs.declared.queues.Position.{Position}
 pub use Rattle.bb_memory_file.specs.declared.queues.Queue.{Queue}
 use Rattle.bb_memory_file_machine.specs.FileMachine.{FileScene}
 use Rattle.bb_memory_file_machine.specs.FileQueues.{FileQueue, IsFilled, IsLater, IsMoment, IsSlotOf, IsWhole, lap_before, lap_said, next_lap, slot_before}
-use Rattle.std.specs.Prelude.{List, Option, Some, [], if◌then◌else◌, nat_lt, true, ℕ, ◌%◌, ◌*◌, ◌+◌, ◌-◌, ◌<◌, ◌^◌, ◌∷◌, ◌≡◌, ◌≢◌}
+use Rattle.std.specs.Prelude.{List, Option, Some, [], if◌then◌else◌, nat_lt, suc, true, zero, ℕ, ◌%◌, ◌*◌, ◌+◌, ◌-◌, ◌<◌, ◌^◌, ◌∷◌, ◌≡◌, ◌≢◌}
 
 -- LOOKS
 
@@ -93,6 +93,11 @@ position_after queue position =
     if nat_lt (position.slot + 1) (queue.number * queue.depth + queue.depth)
     then record position { slot = position.slot + 1 }
     else record { slot = queue.number * queue.depth; lap = next_lap position.lap }
+
+-- the position so many slots after this one
+abbrev pub position_on : FileQueue → Position → ℕ → Position
+position_on queue position zero = position
+position_on queue position (suc count) = position_after queue (position_on queue position count)
 
 -- a sender may fill the slot at this position, unless the slot is filled there already
 abbrev pub KnowsTail : FileQueue → List Event → Position → Type 0

@@ -187,11 +187,11 @@ pub fn done_with<W: Words>(words: &mut W, bucket: u32) -> Whereabouts
     ensures others { KnowsOthers (W.log words.old) bucket (W.log words.new) }
     ensures obeys { (depth : ℕ) → AllObey depth (W.log words.old) → AllObey depth (W.log words.new) }
 {
-    let found = find(words, bucket);
-    if let Whereabouts::In { slot, lap } = found {
+    let place = find(words, bucket);
+    if let Whereabouts::In { slot, lap } = place {
         done(words, slot, bucket, lap);
     }
-    found
+    place
 }
 
 /// Puts back the message in a bucket that the party holds, if the bucket is in a slot. Returns where

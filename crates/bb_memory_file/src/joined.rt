@@ -1,9 +1,13 @@
 //! A party that has joined: the words of its file, and what it has noted of each bucket, so that a
 //! call knows without a look at the file whether the party holds a bucket, and whether it is done with
 //! the bucket's message. A party may cache the buckets that it gave back last for its next requests.
+//!
+//! The slots of a file are queues of one depth, and the party notes where it goes on at each of them. At
+//! depth 1 each slot is single: it has no order to keep, and calls name the slot.
 ghost use Rattle.bb_memory_file.specs.FileCalls.{IsLeave};
 ghost use Rattle.bb_memory_file.specs.FileLog.{FileLog};
-ghost use Rattle.bb_memory_file.specs.FileNotes.{Allocates, AreCached, Attaches, Caches, Deallocates, Detaches, Flushes, FreesLast, GivesAllBack, InUse, IsDoneWith, IsRefusal, JoinedParty, Joins, JoinsNot, MissesFirst, Posts, Reaps, Receives, Sends, Takes, Undone, Unheld, no_ends, queues_of, used_in};
+ghost use Rattle.bb_memory_file.specs.FileNotes.{Allocates, AreCached, Attaches, Caches, Deallocates, Detaches, Finishes, Flushes, FreesLast, GivesAllBack, InUse, IsDoneWith, IsRefusal, JoinedParty, Joins, JoinsNot, MissesFirst, Posts, Reaps, Receives, Sends, Takes, Undone, Unheld, no_ends, queues_of, used_in};
+ghost use Rattle.bb_memory_file.specs.FileQueueCalls.{AllObey};
 ghost use Rattle.std.specs.Prelude.{IfErr, IfNone, IfOk, IfSome, IsOk, Some, [], length, replicate, slice_get, vec_capacity, ℕ, ◌<◌, ◌≡◌, ◌≤◌};
 
 use crate::calls::{Received, Whereabouts};
@@ -92,11 +96,7 @@ fn queues_of(slots: u32, depth: u32) -> u32
     requires { 0 < depth }
     ensures { result ≡ queues_of slots depth }
 {
-    if depth == 1 {
-        0
-    } else {
-        slots / depth
-    }
+    if depth == 1 { 0 } else { slots / depth }
 }
 
 /// Returns the ends of a party that has been at no queue, for a file whose slots are queues of this depth.
@@ -132,6 +132,8 @@ pub fn reap<W: Words + Drop>(mut words: W, dead: bool, left: bool) -> Result<u32
 /// requests take these buckets first, without an operation on the words.
 ///
 /// A cached bucket stays held, so the other parties' requests fail if each bucket is cached or in use.
+///
+/// Whatever it does obeys the rules of each queue of its depth.
 #[derive(Drop)]
 pub struct Joined<W: Words + Drop> {
     words: W,
@@ -233,10 +235,11 @@ impl<W: Words + Drop> Joined<W> {
         self.words.slots()
     }
 
-    /// Returns the depth of the file's queues.
+    /// Returns the depth of the file's queues. What the party has done obeys the rules of each of them.
     #[inline(always)]
     pub fn depth(&self) -> u32
-        ensures { result ≡ self.now.depth }
+        ensures value { result ≡ self.now.depth }
+        ensures obeys { AllObey self.now.depth (W.log self.now.words) }
     {
         self.depth
     }
@@ -448,7 +451,6 @@ impl<W: Words + Drop> Joined<W> {
     /// Says that the party is done with the message in a single slot, which it has taken: empties the slot.
     /// Returns whether the party was at work on it. The party goes on holding the bucket.
     pub fn done(&mut self, slot: u32) -> bool
-        requires single { self.old.depth ≡ 1 }
         requires slot { slot < (W.log self.old.words).scene.slots }
         ensures { IsDoneWith W.log self.old slot result self.new }
     {
@@ -463,9 +465,10 @@ impl<W: Words + Drop> Joined<W> {
         true
     }
 
-    /// Posts a message of `length` bytes in a bucket into a queue. Fails as `deallocate` does.
+    /// Posts a message of `length` bytes in a bucket into a queue, in the slot whose turn it is. Fails as
+    /// `deallocate` does.
     pub fn send(&mut self, queue: u32, bucket: u32, length: u32) -> Result<Sending, Refusal>
-        requires { queue < length self.old.ends }
+        requires { queue < queues_of (W.log self.old.words).scene.slots self.old.depth }
         ensures { Sends W.log self.old queue bucket length result self.new }
     {
         self.check(bucket)?;
@@ -479,9 +482,10 @@ impl<W: Words + Drop> Joined<W> {
         Ok(sender.sending)
     }
 
-    /// Takes the oldest message of a queue that is sent. `size` is the size of a bucket in bytes.
+    /// Takes the oldest message of a queue that is sent. `size` is the size of a bucket in bytes. A message
+    /// that another party has taken is left out, and one whose sender hasn't finished.
     pub fn receive(&mut self, queue: u32, size: u32) -> Taken
-        requires { queue < length self.old.ends }
+        requires { queue < queues_of (W.log self.old.words).scene.slots self.old.depth }
         ensures { Receives W.log self.old queue size result self.new }
     {
         let ends = self.ends[queue as usize];
@@ -498,7 +502,9 @@ impl<W: Words + Drop> Joined<W> {
     /// The party goes on holding the bucket. Fails with `NotABucket` if the file has no such bucket, with
     /// `NotHeld` if the party has no message in it, and with `NotDone` if the message's slot hasn't the
     /// bucket, which no file shows in which only these calls write.
-    pub fn done_with(&mut self, bucket: u32) -> Result<u32, Refusal> {
+    pub fn done_with(&mut self, bucket: u32) -> Result<u32, Refusal>
+        ensures { Finishes W.log self.old bucket result self.new }
+    {
         match self.note(bucket) {
             None => Err(Refusal::NotABucket),
             Some(Note::Undone) => match calls::done_with(&mut self.words, bucket) {

@@ -3,15 +3,16 @@
 //! A queue of `depth` messages is `depth` slots in a row, which are used in turn. No word of the file says
 //! where it begins and ends: a party finds that by looks at the slots, and goes on from there the next
 //! time.
-ghost use Rattle.bb_memory_file.specs.FileLog.{IsLap, is_clear, known_of, lap_in};
+ghost use Rattle.bb_memory_file.specs.FileLog.{FileLog, IsLap, LoadSlot, is_clear, known_of, lap_in, told};
 ghost use Rattle.bb_memory_file.specs.FileNotes.{AreNoted};
-ghost use Rattle.bb_memory_file.specs.FileQueueCalls.{AllObey, Grows, IsFar, IsOver, IsReceipt, IsSend, KnowsOthers, noted_after};
-ghost use Rattle.bb_memory_file.specs.FileQueueLooks.{IsPosition, KnowsHead, KnowsTail, last_lap, position_after, queue_in};
-ghost use Rattle.bb_memory_file.specs.FileQueueSteps.{IsTurn};
+ghost use Rattle.bb_memory_file.specs.FileQueueCalls.{AllObey, Grows, IsFar, IsOver, IsReceipt, IsSend, KnowsOthers, Looks, Loses, SendsBy, noted_after};
+ghost use Rattle.bb_memory_file.specs.FileQueueLooks.{IsPosition, KnowsHead, KnowsTail, Look, last_lap, position_after, queue_in};
+ghost use Rattle.bb_memory_file.specs.FileQueueSteps.{FindsHead, FindsOldest, FindsTurn, HasBegun, IsTurn, KnowsSame, LooksAt, SeesBefore, StopsAt, Walks, noted_if};
+ghost use Rattle.bb_memory_file.specs.FileQueueSteps.oldest.{At};
 ghost use Rattle.bb_memory_file.specs.FileNames.{Empty};
 ghost use Rattle.bb_memory_file_machine.specs.FileMachine.{FileScene};
 ghost use Rattle.bb_memory_file_machine.specs.FileQueues.{IsFilled, IsLater, IsWhole, lap_said};
-ghost use Rattle.std.specs.Prelude.{IfSome, IsTrue, MatchBool, true, ℕ, ◌*◌, ◌+◌, ◌/◌, ◌<◌, ◌^◌, ◌≡◌, ◌≢◌};
+ghost use Rattle.std.specs.Prelude.{IfSome, IsTrue, MatchBool, MatchOption, slice_get, true, ℕ, ◌*◌, ◌+◌, ◌/◌, ◌<◌, ◌^◌, ◌≡◌, ◌≢◌};
 
 use crate::calls;
 use crate::calls::Received;
@@ -138,7 +139,7 @@ impl Queue {
         requires fits { self.number * self.depth + self.depth < 2 ^ 32 }
         requires slot { position.slot / self.depth ≡ self.number }
         requires lap { IsLap position.lap }
-        ensures after { (scene : FileScene) → result ≡ position_after (queue_in scene self) position }
+        ensures { (scene : FileScene) → result ≡ position_after (queue_in scene self) position }
     {
         let slot = position.slot + 1;
         if slot < self.end() {
@@ -204,6 +205,17 @@ fn try_to_send<W: Words>(
     bucket: u32,
     length: u32,
 ) -> Sender
+    requires whole { IsWhole (queue_in (W.log words.old).scene queue) }
+    requires depth { 0 < queue.depth }
+    requires fits { queue.number * queue.depth + queue.depth < 2 ^ 32 }
+    requires tail { KnowsTail (queue_in (W.log words.old).scene queue) (W.log words.old).events tail }
+    requires below { bucket < (W.log words.old).scene.buckets }
+    requires clear { is_clear (known_of (W.log words.old) bucket) ≡ true }
+    ensures sends { (process : ℕ) → SendsBy 1 process (W.log words.old) (queue_in (W.log words.old).scene queue) bucket length result.sending (W.log words.new) }
+    ensures tail { KnowsTail (queue_in (W.log words.old).scene queue) (W.log words.new).events result.tail }
+    ensures obeys { AllObey queue.depth (W.log words.old) → AllObey queue.depth (W.log words.new) }
+    ensures others { KnowsOthers (W.log words.old) bucket (W.log words.new) }
+    ensures grows { Grows (W.log words.old) (W.log words.new) }
 {
     let Stop { position, word } = find_turn(words, queue, tail);
     if is_filled(position.lap, word) {
@@ -235,6 +247,12 @@ fn try_to_send<W: Words>(
 /// Finds the slot whose turn it is, from `tail` on. If the slots' laps have come round since the party was
 /// at `tail`, begins anew.
 fn find_turn<W: Words>(words: &mut W, queue: Queue, tail: Position) -> Stop
+    requires whole { IsWhole (queue_in (W.log words.old).scene queue) }
+    requires depth { 0 < queue.depth }
+    requires fits { queue.number * queue.depth + queue.depth < 2 ^ 32 }
+    requires tail { KnowsTail (queue_in (W.log words.old).scene queue) (W.log words.old).events tail }
+    ensures turn { FindsTurn (queue_in (W.log words.old).scene queue) (W.log words.old) result (W.log words.new) }
+    ensures same { KnowsSame (W.log words.old) (W.log words.new) }
 {
     let stop = pass_filled(words, queue, tail);
     if is_turn(stop.position.lap, stop.word) {
@@ -246,18 +264,27 @@ fn find_turn<W: Words>(words: &mut W, queue: Queue, tail: Position) -> Stop
 
 /// Finds a position that a sender may fill, by a look at the queue's first slot.
 fn find_tail<W: Words>(words: &mut W, queue: Queue) -> Position
+    requires whole { IsWhole (queue_in (W.log words.old).scene queue) }
+    requires depth { 0 < queue.depth }
+    requires fits { queue.number * queue.depth + queue.depth < 2 ^ 32 }
+    ensures before { SeesBefore (queue_in (W.log words.old).scene queue) (W.log words.old).events (W.log words.new).events result }
+    ensures position { IsPosition (queue_in (W.log words.old).scene queue) result }
+    ensures looks { Looks (W.log words.old) (W.log words.new) }
+    ensures same { KnowsSame (W.log words.old) (W.log words.new) }
 {
     let slot = queue.first();
-    let lap = match words.load_slot(slot) {
-        Slot::Empty { lap } => last_lap(lap),
-        Slot::Message { lap, bucket: _ } => lap,
-    };
+    let lap = lap_filled(words.load_slot(slot));
     queue.after(Position { slot, lap })
 }
 
 /// Goes on from a position to the first slot that isn't filled there, or over as many slots as the queue
 /// has. Returns where it stopped, and what word it found there.
 fn pass_filled<W: Words>(words: &mut W, queue: Queue, from: Position) -> Stop
+    requires whole { IsWhole (queue_in (W.log words.old).scene queue) }
+    requires depth { 0 < queue.depth }
+    requires fits { queue.number * queue.depth + queue.depth < 2 ^ 32 }
+    requires from { IsPosition (queue_in (W.log words.old).scene queue) from }
+    ensures { StopsAt IsFilled (queue_in (W.log words.old).scene queue) (W.log words.old) from result (W.log words.new) }
 {
     let mut position = from;
     for _passed in 0..queue.depth {
@@ -326,12 +353,22 @@ fn receive_from<W: Words>(
     oldest: Stop,
     size: u32,
 ) -> Taken
+    requires whole { IsWhole (queue_in (W.log words.old).scene queue) }
+    requires depth { 0 < queue.depth }
+    requires fits { queue.number * queue.depth + queue.depth < 2 ^ 32 }
+    requires noted { AreNoted (W.log words.old) notes.now }
+    requires head { KnowsHead (queue_in (W.log words.old).scene queue) (W.log words.old).events oldest.position }
+    requires look { Look (W.log words.old).events oldest.position.slot oldest.word }
+    requires lap { lap_said oldest.word ≡ oldest.position.lap }
+    ensures receives { (begun : FileLog) → FindsOldest (queue_in (W.log words.old).scene queue) begun (At oldest) (W.log words.old) → (process : ℕ) → IsReceipt process begun notes.now (queue_in (W.log words.old).scene queue) size result (W.log words.new) }
+    ensures obeys { AllObey queue.depth (W.log words.old) → AllObey queue.depth (W.log words.new) }
+    ensures noted { AreNoted (W.log words.new) (noted_after notes.now result) }
 {
     let Stop { position, word } = oldest;
     let Slot::Message { lap: _, bucket } = word else {
         return Taken::Empty;
     };
-    match notes.get(bucket as usize) {
+    match note_of(notes, bucket) {
         Some(Note::Unheld) => {
             match calls::receive(words, position.slot, position.lap, bucket, size) {
                 Received::NotSent => receive_later(words, notes, queue, position, size),
@@ -353,6 +390,14 @@ fn receive_later<W: Words>(
     head: Position,
     size: u32,
 ) -> Taken
+    requires whole { IsWhole (queue_in (W.log words.old).scene queue) }
+    requires depth { 0 < queue.depth }
+    requires fits { queue.number * queue.depth + queue.depth < 2 ^ 32 }
+    requires noted { AreNoted (W.log words.old) notes.now }
+    requires head { KnowsHead (queue_in (W.log words.old).scene queue) (W.log words.old).events head }
+    ensures receives { (begun : FileLog) → HasBegun (queue_in (W.log words.old).scene queue) begun head (W.log words.old) → (process : ℕ) → IsReceipt process begun notes.now (queue_in (W.log words.old).scene queue) size result (W.log words.new) }
+    ensures obeys { AllObey queue.depth (W.log words.old) → AllObey queue.depth (W.log words.new) }
+    ensures noted { AreNoted (W.log words.new) (noted_after notes.now result) }
 {
     for _attempt in 0..ATTEMPTS {
         if let Some(taken) = try_to_receive(words, notes, queue, head, size) {
@@ -372,6 +417,14 @@ fn try_to_receive<W: Words>(
     head: Position,
     size: u32,
 ) -> Option<Taken>
+    requires whole { IsWhole (queue_in (W.log words.old).scene queue) }
+    requires depth { 0 < queue.depth }
+    requires fits { queue.number * queue.depth + queue.depth < 2 ^ 32 }
+    requires noted { AreNoted (W.log words.old) notes.now }
+    requires head { KnowsHead (queue_in (W.log words.old).scene queue) (W.log words.old).events head }
+    ensures receives { (begun : FileLog) → HasBegun (queue_in (W.log words.old).scene queue) begun head (W.log words.old) → MatchOption result (Loses (queue_in (W.log words.old).scene queue) (W.log words.old) 1 (W.log words.new)) (λ taken. (process : ℕ) → IsReceipt process begun notes.now (queue_in (W.log words.old).scene queue) size taken (W.log words.new)) }
+    ensures obeys { AllObey queue.depth (W.log words.old) → AllObey queue.depth (W.log words.new) }
+    ensures noted { AreNoted (W.log words.new) (noted_if notes.now result) }
 {
     let (position, bucket, passed) = match walk_on(words, notes, queue, head, queue.depth) {
         Walked::Sent {
@@ -407,6 +460,14 @@ fn walk_on<W: Words>(
     head: Position,
     slots: u32,
 ) -> Walked
+    requires whole { IsWhole (queue_in (W.log words.old).scene queue) }
+    requires depth { 0 < queue.depth }
+    requires fits { queue.number * queue.depth + queue.depth < 2 ^ 32 }
+    requires noted { AreNoted (W.log words.old) notes.now }
+    requires head { IsPosition (queue_in (W.log words.old).scene queue) head }
+    ensures walks { Walks (W.log words.old).party (queue_in (W.log words.old).scene queue) notes.now (W.log words.old) head slots result (W.log words.new) }
+    ensures looks { Looks (W.log words.old) (W.log words.new) }
+    ensures noted { AreNoted (W.log words.new) notes.now }
 {
     let mut position = head;
     for passed in 0..slots {
@@ -432,6 +493,11 @@ fn walk_on<W: Words>(
 
 /// Looks whether the message is sent that a load has found at this position, in a slot that isn't over.
 fn look_at<W: Words>(words: &mut W, notes: &[Note], position: Position, word: Slot) -> Looked
+    requires noted { AreNoted (W.log words.old) notes.now }
+    requires look { Look (W.log words.old).events position.slot word }
+    ensures finds { LooksAt notes.now (W.log words.old) position word result (W.log words.new) }
+    ensures looks { Looks (W.log words.old) (W.log words.new) }
+    ensures noted { AreNoted (W.log words.new) notes.now }
 {
     let Position { slot, lap } = position;
     if lap_said(word) != lap {
@@ -440,7 +506,7 @@ fn look_at<W: Words>(words: &mut W, notes: &[Note], position: Position, word: Sl
     let Slot::Message { lap: _, bucket } = word else {
         return Looked::Empty;
     };
-    match notes.get(bucket as usize) {
+    match note_of(notes, bucket) {
         Some(Note::Unheld) => {
             if calls::is_same(words.load_flag(bucket), FileFlag::SentTo { slot, lap }) {
                 Looked::Sent { bucket }
@@ -453,9 +519,22 @@ fn look_at<W: Words>(words: &mut W, notes: &[Note], position: Position, word: Sl
     }
 }
 
+/// Returns the party's note of the bucket, or None if the file has no such bucket.
+fn note_of(notes: &[Note], bucket: u32) -> Option<Note>
+    ensures { result ≡ slice_get notes.now bucket }
+{
+    notes.get(bucket as usize).copied()
+}
+
 /// Finds the oldest message of the queue with which no party is done, or the empty slot whose turn it is,
 /// from `head` on. If the slots' laps have come round since the party was at `head`, begins anew.
 fn find_oldest<W: Words>(words: &mut W, queue: Queue, head: Option<Position>) -> Oldest
+    requires whole { IsWhole (queue_in (W.log words.old).scene queue) }
+    requires depth { 0 < queue.depth }
+    requires fits { queue.number * queue.depth + queue.depth < 2 ^ 32 }
+    requires head { IfSome head (λ position. KnowsHead (queue_in (W.log words.old).scene queue) (W.log words.old).events position) }
+    ensures oldest { FindsOldest (queue_in (W.log words.old).scene queue) (W.log words.old) result (W.log words.new) }
+    ensures same { KnowsSame (W.log words.old) (W.log words.new) }
 {
     if let Some(head) = head {
         let stop = pass_over(words, queue, head);
@@ -469,6 +548,11 @@ fn find_oldest<W: Words>(words: &mut W, queue: Queue, head: Option<Position>) ->
 /// Finds the oldest message of the queue, or the empty slot whose turn it is, by looks at all slots.
 #[inline(never)]
 fn find_anew<W: Words>(words: &mut W, queue: Queue) -> Oldest
+    requires whole { IsWhole (queue_in (W.log words.old).scene queue) }
+    requires depth { 0 < queue.depth }
+    requires fits { queue.number * queue.depth + queue.depth < 2 ^ 32 }
+    ensures oldest { FindsOldest (queue_in (W.log words.old).scene queue) (W.log words.old) result (W.log words.new) }
+    ensures same { KnowsSame (W.log words.old) (W.log words.new) }
 {
     for _attempt in 0..ATTEMPTS {
         let Some(head) = find_head(words, queue) else {
@@ -488,6 +572,11 @@ fn find_anew<W: Words>(words: &mut W, queue: Queue) -> Oldest
 /// Goes on from a position to the first slot that isn't over there, or over as many slots as the queue
 /// has. Returns where it stopped, and what word it found there.
 fn pass_over<W: Words>(words: &mut W, queue: Queue, from: Position) -> Stop
+    requires whole { IsWhole (queue_in (W.log words.old).scene queue) }
+    requires depth { 0 < queue.depth }
+    requires fits { queue.number * queue.depth + queue.depth < 2 ^ 32 }
+    requires from { IsPosition (queue_in (W.log words.old).scene queue) from }
+    ensures { StopsAt IsOver (queue_in (W.log words.old).scene queue) (W.log words.old) from result (W.log words.new) }
 {
     let mut position = from;
     for _passed in 0..queue.depth {
@@ -503,6 +592,12 @@ fn pass_over<W: Words>(words: &mut W, queue: Queue, from: Position) -> Stop
 
 /// Finds the slot whose lap comes first. Returns None if a lap is far from that of the first slot.
 fn find_head<W: Words>(words: &mut W, queue: Queue) -> Option<Position>
+    requires whole { IsWhole (queue_in (W.log words.old).scene queue) }
+    requires depth { 0 < queue.depth }
+    requires fits { queue.number * queue.depth + queue.depth < 2 ^ 32 }
+    ensures head { FindsHead (queue_in (W.log words.old).scene queue) (W.log words.old) result (W.log words.new) }
+    ensures looks { Looks (W.log words.old) (W.log words.new) }
+    ensures same { KnowsSame (W.log words.old) (W.log words.new) }
 {
     let first = queue.first();
     let lap = lap_said(words.load_slot(first));
@@ -531,13 +626,13 @@ fn is_later(lap: u32, other: u32) -> bool
     more > 0 && more < LAPS / 2
 }
 
-/// Returns whether the other lap is none of the half of all laps that is around this one.
+/// Returns whether the other lap is far from this one: a quarter of all laps before it or after it.
 fn is_far(lap: u32, other: u32) -> bool
     requires lap { IsLap lap }
     requires other { IsLap other }
     ensures { MatchBool result (IsFar lap other) (¬ IsFar lap other) }
 {
-    (other + LAPS / 4 + (LAPS - lap)) % LAPS >= LAPS / 2
+    (other + LAPS / 4 + (LAPS - lap)) % LAPS + 1 >= LAPS / 2
 }
 
 /// Returns whether a slot with this word was filled at this lap.
@@ -596,6 +691,18 @@ fn lap_said(word: Slot) -> u32
 {
     match word {
         Slot::Empty { lap } => lap,
+        Slot::Message { lap, bucket: _ } => lap,
+    }
+}
+
+/// Returns the last lap at which a slot with this word was filled.
+fn lap_filled(word: Slot) -> u32
+    requires { IsLap (lap_in word) }
+    ensures filled { IsFilled result word }
+    ensures lap { IsLap result }
+{
+    match word {
+        Slot::Empty { lap } => last_lap(lap),
         Slot::Message { lap, bucket: _ } => lap,
     }
 }

@@ -362,6 +362,26 @@ static void full_and_empty(void) {
     remove_it(file);
 }
 
+// Looks and waits find what is in a slot, wherever the slot's turn is. The slot has room for three
+// messages, and has one or two.
+static void each_turn(void) {
+    bb_pool_file *file = open_it(3);
+    bb_file_party *party = join_it(file);
+    EXPECT(post(file, party, 1, 0) == BB_OK);
+    for (uint64_t number = 1; number < 10; number++) {
+        EXPECT(number_in(bb_pool_file_look(file, 1)) == number - 1);
+        EXPECT(bb_pool_file_wait_empty(file, 1, 0) == BB_OK);
+        EXPECT(post(file, party, 1, number) == BB_OK);
+        EXPECT(number_in(bb_pool_file_look(file, 1)) == number - 1);
+        finish(party, take(file, party, 1, number - 1));
+        EXPECT(bb_pool_file_wait_full(file, 1, 0) == BB_OK);
+        EXPECT(bb_pool_file_wait_full(file, 0, 0) == BB_FILE_TIMED_OUT);
+        EXPECT(bb_pool_file_wait_full(file, 2, 0) == BB_FILE_TIMED_OUT);
+        EXPECT(info_of(file).messages == 1);
+    }
+    remove_it(file);
+}
+
 // A place without a message of the party, and calls of parties that have left.
 static void other_codes(void) {
     bb_pool_file *file = open_it(2);
@@ -642,6 +662,7 @@ int main(int argc, char **argv) {
     alarm(LONGEST);
     snprintf(path, sizeof path, "%s/queue", argv[1]);
     full_and_empty();
+    each_turn();
     other_codes();
     depth_of_one();
     depth_of_the_file();

@@ -7,21 +7,21 @@ use Rattle.bb_memory_pool_machine.proofs.PoolSteps.{test_same}
 use Rattle.std.proofs.Common.{[], ap, refl, ◌∷◌}
 use Rattle.std.proofs.lemmas.Bool.{ne_eqb}
 
-pub returns-in_default : goal.returns-in_default
-returns-in_default g c =
+pub returns-in_default-clause-found : goal.returns-in_default-clause-found
+returns-in_default-clause-found g c =
     found_nowhere (g.W.Words.log c.args.words.now) c.args.bucket c.requires.held _ c.load_entry.result c.load_entry.ensures.told
     c.in_default.is
 
-pub returns-in_default-load_slot : goal.returns-in_default-load_slot
-returns-in_default-load_slot g c =
+pub returns-in_default-load_slot-clause-found : goal.returns-in_default-load_slot-clause-found
+returns-in_default-load_slot-clause-found g c =
     let old = g.W.Words.log c.args.words.now in
     let word = Empty c.in_default-load_slot.field-0 in
     found_in old c.args.bucket c.requires.held c.in-In.slot c.in-In.length word whereabouts.Entered _ _ c.in-In.ensures.told
     c.in_default-load_slot.ensures.told (is_entered old c.args.bucket c.requires.held c.in-In.slot c.in-In.length word refl)
     (c.in-In.slot, c.in-In.length, word, refl, refl)
 
-pub returns-then-other-bucket : goal.returns-then-other-bucket
-returns-then-other-bucket g c =
+pub returns-then-other-bucket-clause-found : goal.returns-then-other-bucket-clause-found
+returns-then-other-bucket-clause-found g c =
     let old = g.W.Words.log c.args.words.now in
     let word = Message c.in-Message.lap c.in-Message.other in
     found_in old c.args.bucket c.requires.held c.in-In.slot c.in-In.length word
@@ -33,8 +33,8 @@ returns-then-other-bucket g c =
           ∷ LoadEntry c.args.bucket (In c.in-In.slot c.in-In.length) ∷ []) c.if-other-bucket.true,
     )
 
-pub returns-else-other-bucket : goal.returns-else-other-bucket
-returns-else-other-bucket g c =
+pub returns-else-other-bucket-clause-found : goal.returns-else-other-bucket-clause-found
+returns-else-other-bucket-clause-found g c =
     let old = g.W.Words.log c.args.words.now in
     let word = Message c.in-Message.lap c.in-Message.other in
     found_in old c.args.bucket c.requires.held c.in-In.slot c.in-In.length word whereabouts.Entered _ _ c.in-In.ensures.told

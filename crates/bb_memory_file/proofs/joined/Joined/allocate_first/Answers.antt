@@ -24,4 +24,5 @@ invariant_of-self g c =
       omega (arith, ap length c.in-Some.ensures.items),
       omega arith,
       c.self.invariant.4,
+      c.self.invariant.5,
     )

@@ -1,9 +1,10 @@
 use Rattle.bb_memory_file.proofs.FileCaches.{cached_still_none, in_use_apart}
+use Rattle.bb_memory_file.proofs.FileEnds.{keeps_still, takes_still}
 use Rattle.bb_memory_file.proofs.FileNotes.{after_allocate, after_no_allocate}
 use Rattle.bb_memory_file.proofs.FileTakings.{later_took, none_left}
 use Rattle.bb_memory_file.proofs.joined.Joined.allocate_later.Goals as goal
 use Rattle.bb_memory_file.specs.FileNotes.{InUse}
-use Rattle.std.proofs.Common.{[], ◌≡◌}
+use Rattle.std.proofs.Common.{None, Some, [], ◌≡◌}
 
 pub invariant_of-self : goal.invariant_of-self
 invariant_of-self g c = (
@@ -12,6 +13,7 @@ invariant_of-self g c = (
   c.self.invariant.2,
   c.self.invariant.3,
   c.self.invariant.4,
+  keeps_still _ _ _ c.self.inside.ends.items c.self.invariant.5 (takes_still _ _ None c.in_default.ensures.takes),
 )
 
 pub invariant_of-self-2 : goal.invariant_of-self-2
@@ -24,6 +26,7 @@ invariant_of-self-2 g c =
       c.self.invariant.2,
       c.self.invariant.3,
       c.self.invariant.4,
+      keeps_still _ _ _ c.self.inside.ends.items c.self.invariant.5 (takes_still _ _ (Some c.in-Some.bucket) c.in-Some.ensures.takes),
     )
 
 pub returns : goal.returns

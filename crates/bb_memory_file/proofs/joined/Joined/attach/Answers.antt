@@ -1,8 +1,9 @@
 use Rattle.bb_memory_file.proofs.FileCaches.{cached_while, in_use_apart, unheld_apart}
+use Rattle.bb_memory_file.proofs.FileEnds.{attach_still, keeps_still}
 use Rattle.bb_memory_file.proofs.FileNotes.{after_attach, after_no_attach}
 use Rattle.bb_memory_file.proofs.joined.Joined.attach.Goals as goal
 use Rattle.bb_memory_file.specs.FileNotes.{InUse, Unheld}
-use Rattle.std.proofs.Common.{Some, inl, inr, refl, rules, ◌≡◌}
+use Rattle.std.proofs.Common.{Some, false, inl, inr, refl, rules, true, ◌≡◌}
 use Rattle.std.specs.Prelude.{slice_get}
 
 pub invariant_of-self : goal.invariant_of-self
@@ -15,6 +16,7 @@ invariant_of-self g c =
       c.self.invariant.2,
       c.self.invariant.3,
       c.self.invariant.4,
+      keeps_still _ _ _ c.self.inside.ends.items c.self.invariant.5 (attach_still _ _ c.args.bucket true c.if-is_attached.ensures),
     )
 
 pub invariant_of-self-else-is_attached : goal.invariant_of-self-else-is_attached
@@ -26,6 +28,7 @@ invariant_of-self-else-is_attached g c =
       c.self.invariant.2,
       c.self.invariant.3,
       c.self.invariant.4,
+      keeps_still _ _ _ c.self.inside.ends.items c.self.invariant.5 (attach_still _ _ c.args.bucket false c.if-is_attached.ensures),
     )
 
 pub returns-then-is_attached : goal.returns-then-is_attached

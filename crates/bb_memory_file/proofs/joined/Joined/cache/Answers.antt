@@ -23,6 +23,8 @@ returns-clause-caches g c =
       hint = (c.self-2.view_is i).hint;
       cached = (c.in_ok-room.ensures.items ∙ sym (ap (λ (p : JoinedParty g.row.W.Denot). p.cached) c.flush.ensures.party)) i;
       most = most;
+      depth = (c.self-2.view_is i).depth;
+      ends = (c.self-2.view_is i).ends;
     }) in
     subst (λ (n : ℕ). Flushes g.W.Words.log (record old { most = n }) (record {
       words = c.self-2.inside.words;
@@ -30,6 +32,8 @@ returns-clause-caches g c =
       hint = c.self-2.inside.hint;
       cached = c.in_ok-room.room.items;
       most = most;
+      depth = c.self-2.inside.depth;
+      ends = c.self-2.inside.ends.items;
     })) least later
 
 pub invariant_of-self : goal.invariant_of-self
@@ -42,4 +46,5 @@ invariant_of-self g c =
       rw c.in_ok-room.ensures.items (omega arith),
       c.in_ok-room.ensures.room,
       (search rules),
+      c.self-2.invariant.5,
     )

@@ -1,4 +1,5 @@
 use Rattle.bb_memory_file.proofs.FileCaches.{cached_more, cached_while, in_use_apart, unheld_apart}
+use Rattle.bb_memory_file.proofs.FileEnds.{deallocate_still, keeps_still}
 use Rattle.bb_memory_file.proofs.FileNotes.{after_cached, after_deallocate, below_by, in_use_clear, within}
 use Rattle.bb_memory_file.proofs.joined.Joined.deallocate.Goals as goal
 use Rattle.bb_memory_file.specs.FileNotes.{AreCached, Cached, InUse, Unheld}
@@ -17,6 +18,7 @@ invariant_of-self g c =
       grind (arith, common_steps),
       grind (arith, common_steps),
       c.self.invariant.4,
+      c.self.invariant.5,
     )
 
 pub deallocate-requires-clause-below : goal.deallocate-requires-clause-below
@@ -43,6 +45,7 @@ invariant_of-self-else-len-self g c =
       c.self.invariant.2,
       c.self.invariant.3,
       c.self.invariant.4,
+      keeps_still _ _ _ c.self.inside.ends.items c.self.invariant.5 (deallocate_still _ _ c.args.bucket c.deallocate.ensures),
     )
 
 pub returns-else-len-self : goal.returns-else-len-self
@@ -58,6 +61,8 @@ returns-else-len-self g c = rw (← c.self.view_is) (
         hint = c.follow_return.ensures i;
         cached = c.self.inside.cached.items;
         most = c.self.inside.most;
+        depth = c.self.inside.depth;
+        ends = c.self.inside.ends.items;
       },
     );
   },

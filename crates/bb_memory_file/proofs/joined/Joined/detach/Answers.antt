@@ -1,4 +1,5 @@
 use Rattle.bb_memory_file.proofs.FileCaches.{cached_while, in_use_apart, unheld_apart}
+use Rattle.bb_memory_file.proofs.FileEnds.{detach_still, keeps_still}
 use Rattle.bb_memory_file.proofs.FileNotes.{after_detach, in_use_clear, within}
 use Rattle.bb_memory_file.proofs.joined.Joined.detach.Goals as goal
 use Rattle.bb_memory_file.specs.FileNotes.{InUse, Unheld}
@@ -23,6 +24,7 @@ invariant_of-self g c = (
   c.self.invariant.2,
   c.self.invariant.3,
   c.self.invariant.4,
+  keeps_still _ _ _ c.self.inside.ends.items c.self.invariant.5 (detach_still _ _ c.args.bucket c.detach.ensures),
 )
 
 pub returns-in_ok-check-in_default : goal.returns-in_ok-check-in_default

@@ -1,4 +1,5 @@
 use Rattle.bb_memory_file.proofs.FileCaches.{cached_while, in_use_apart, undone_apart}
+use Rattle.bb_memory_file.proofs.FileEnds.{keeps_done, keeps_still, look_still}
 use Rattle.bb_memory_file.proofs.FileNotes.{after_done, after_look, below_by, undone_in, within}
 use Rattle.bb_memory_file.proofs.joined.Joined.done.Goals as goal
 use Rattle.bb_memory_file.specs.FileCalls.{IsDone}
@@ -14,6 +15,7 @@ invariant_of-self g c = (
   c.self.invariant.2,
   c.self.invariant.3,
   c.self.invariant.4,
+  keeps_still _ _ _ c.self.inside.ends.items c.self.invariant.5 (look_still _ _ c.args.slot _ c.load_slot.ensures.told),
 )
 
 pub invariant_of-self-2 : goal.invariant_of-self-2
@@ -23,6 +25,7 @@ invariant_of-self-2 g c = (
   c.self.invariant.2,
   c.self.invariant.3,
   c.self.invariant.4,
+  keeps_still _ _ _ c.self.inside.ends.items c.self.invariant.5 (look_still _ _ c.args.slot _ c.load_slot.ensures.told),
 )
 
 pub done-requires-clause-below : goal.done-requires-clause-below
@@ -54,6 +57,7 @@ invariant_of-self-3 g c =
       c.self.invariant.2,
       c.self.invariant.3,
       c.self.invariant.4,
+      keeps_done _ _ _ c.self.inside.ends.items c.self.invariant.5 c.args.slot c.in-Message.bucket _ c.in-Message.lap c.in-Message.ensures.told (undone_in _ c.self.inside.notes.items c.self.invariant.0 c.in-Message.bucket _ c.args.slot c.in-Message.lap was c.in-Message.ensures.told) c.done.ensures,
     )
 
 pub invariant_of-self-in_default-note : goal.invariant_of-self-in_default-note
@@ -63,6 +67,7 @@ invariant_of-self-in_default-note g c = (
   c.self.invariant.2,
   c.self.invariant.3,
   c.self.invariant.4,
+  keeps_still _ _ _ c.self.inside.ends.items c.self.invariant.5 (look_still _ _ c.args.slot _ c.load_slot.ensures.told),
 )
 
 pub returns : goal.returns

@@ -1,4 +1,5 @@
 use Rattle.bb_memory_file.proofs.FileCaches.{cached_less, last_cached, unheld_apart}
+use Rattle.bb_memory_file.proofs.FileEnds.{deallocate_still, keeps_still}
 use Rattle.bb_memory_file.proofs.FileNotes.{after_deallocate, below_by, cached_clear, within}
 use Rattle.bb_memory_file.proofs.joined.Joined.free_last.Goals as goal
 use Rattle.bb_memory_file.specs.FileNotes.{Cached, Unheld}
@@ -37,6 +38,7 @@ invariant_of-self-2 g c =
       omega (arith, ap length c.in-Some.ensures.items),
       omega arith,
       c.self.invariant.4,
+      keeps_still _ _ _ c.self.inside.ends.items c.self.invariant.5 (deallocate_still _ _ last c.deallocate.ensures),
     )
 
 pub returns : goal.returns
@@ -51,5 +53,7 @@ returns g c = rw (← c.self.view_is) (
     hint = c.follow_return.ensures i;
     cached = c.pop.new.self.items;
     most = c.self.inside.most;
+    depth = c.self.inside.depth;
+    ends = c.self.inside.ends.items;
   },
 )

@@ -1,4 +1,5 @@
 use Rattle.bb_memory_file.proofs.FileCaches.{cached_none}
+use Rattle.bb_memory_file.proofs.FileEnds.{all_still, keeps_still}
 use Rattle.bb_memory_file.proofs.FileNotes.{after_all}
 use Rattle.bb_memory_file.proofs.joined.Joined.give_all_back.Goals as goal
 use Rattle.bb_memory_file.specs.FileNotes.{AreCached, IsJoined, Note, Unheld}
@@ -16,4 +17,5 @@ invariant_of-self g c =
       grind (arith, common_steps),
       grind (arith, common_steps),
       c.self.invariant.4,
+      keeps_still _ _ _ c.self.inside.ends.items c.self.invariant.5 (all_still _ _ _ c.give_all_back-freed.ensures),
     )

@@ -1,4 +1,5 @@
 use Rattle.bb_memory_file.proofs.FileCaches.{cached_while, in_use_apart, unheld_apart}
+use Rattle.bb_memory_file.proofs.FileEnds.{keeps_no_post, keeps_post}
 use Rattle.bb_memory_file.proofs.FileNotes.{after_no_post, after_post, in_use_clear, within}
 use Rattle.bb_memory_file.proofs.joined.Joined.post.Goals as goal
 use Rattle.bb_memory_file.specs.FileNotes.{InUse, Unheld}
@@ -23,6 +24,7 @@ invariant_of-self g c = (
   c.self.invariant.2,
   c.self.invariant.3,
   c.self.invariant.4,
+  keeps_post _ _ _ c.self.inside.ends.items c.self.invariant.5 c.args.slot c.args.bucket (rw (← c.self.view_is) at c.requires.single) c.args.length c.if-is_posted.ensures,
 )
 
 pub invariant_of-self-else-is_posted : goal.invariant_of-self-else-is_posted
@@ -33,6 +35,7 @@ invariant_of-self-else-is_posted g c = (
   c.self.invariant.2,
   c.self.invariant.3,
   c.self.invariant.4,
+  keeps_no_post _ _ _ c.self.inside.ends.items c.self.invariant.5 c.args.slot c.args.bucket (rw (← c.self.view_is) at c.requires.single) c.args.length c.if-is_posted.ensures,
 )
 
 pub returns-then-is_posted : goal.returns-then-is_posted

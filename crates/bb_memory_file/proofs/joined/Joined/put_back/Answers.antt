@@ -1,6 +1,8 @@
 use Rattle.bb_memory_file.proofs.FileCaches.{cached_while, in_use_apart, undone_apart, unheld_apart}
+use Rattle.bb_memory_file.proofs.FileEnds.{keeps_still, put_back_still}
 use Rattle.bb_memory_file.proofs.FileNotes.{after_entered, after_nowhere, after_put_back, undone_held, within}
 use Rattle.bb_memory_file.proofs.joined.Joined.put_back.Goals as goal
+use Rattle.bb_memory_file.specs.FileCalls.whereabouts as whereabouts
 use Rattle.bb_memory_file.specs.FileNotes.{InUse, Undone, Unheld}
 use Rattle.std.proofs.Common.{inl, inr, refl}
 
@@ -21,6 +23,7 @@ invariant_of-self g c = (
   c.self.invariant.2,
   c.self.invariant.3,
   c.self.invariant.4,
+  keeps_still _ _ _ c.self.inside.ends.items c.self.invariant.5 (put_back_still _ _ c.args.bucket (whereabouts.In c.in-In.slot c.in-In.lap) c.in-In.ensures),
 )
 
 pub invariant_of-self-in-Entered : goal.invariant_of-self-in-Entered
@@ -31,6 +34,7 @@ invariant_of-self-in-Entered g c = (
   c.self.invariant.2,
   c.self.invariant.3,
   c.self.invariant.4,
+  keeps_still _ _ _ c.self.inside.ends.items c.self.invariant.5 (put_back_still _ _ c.args.bucket whereabouts.Entered c.in-Entered.ensures),
 )
 
 pub index_mut-requires-in-Nowhere : goal.index_mut-requires-in-Nowhere
@@ -46,6 +50,7 @@ invariant_of-self-in-Nowhere g c = (
   c.self.invariant.2,
   c.self.invariant.3,
   c.self.invariant.4,
+  keeps_still _ _ _ c.self.inside.ends.items c.self.invariant.5 (put_back_still _ _ c.args.bucket whereabouts.Nowhere c.in-Nowhere.ensures),
 )
 
 pub returns-in-In : goal.returns-in-In

@@ -1,4 +1,5 @@
 use Rattle.bb_memory_file.proofs.FileCaches.{cached_still_none, in_use_apart}
+use Rattle.bb_memory_file.proofs.FileEnds.{begun_still, keeps_still, takes_still}
 use Rattle.bb_memory_file.proofs.FileNotes.{after_allocate, after_no_first}
 use Rattle.bb_memory_file.proofs.FileSearches.{allocate_takes}
 use Rattle.bb_memory_file.proofs.FileTakings.{not_last}
@@ -14,6 +15,7 @@ invariant_of-self g c = (
   c.self.invariant.2,
   c.self.invariant.3,
   c.self.invariant.4,
+  keeps_still _ _ _ c.self.inside.ends.items c.self.invariant.5 (begun_still _ _ c.self.inside.hint.bucket c.if-not-allocate_first.ensures.answer),
 )
 
 pub invariant_of-self-2 : goal.invariant_of-self-2
@@ -26,6 +28,7 @@ invariant_of-self-2 g c =
       c.self.invariant.2,
       c.self.invariant.3,
       c.self.invariant.4,
+      keeps_still _ _ _ c.self.inside.ends.items c.self.invariant.5 (takes_still _ _ (Some c.self.inside.hint.bucket) (allocate_takes _ _ c.self.inside.hint.bucket (Some c.self.inside.hint.bucket) c.if-not-allocate_first.ensures.answer)),
     )
 
 pub returns-clause-taken : goal.returns-clause-taken
@@ -41,6 +44,8 @@ returns-clause-taken g c =
           hint = c.follow_first.ensures i;
           cached = c.self.inside.cached.items;
           most = c.self.inside.most;
+          depth = c.self.inside.depth;
+          ends = c.self.inside.ends.items;
         },
       );
     })

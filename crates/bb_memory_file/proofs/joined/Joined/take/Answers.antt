@@ -1,4 +1,5 @@
 use Rattle.bb_memory_file.proofs.FileCaches.{cached_while, undone_apart, unheld_apart}
+use Rattle.bb_memory_file.proofs.FileEnds.{keeps_message, keeps_not_sent, keeps_still, keeps_wrong, look_still}
 use Rattle.bb_memory_file.proofs.FileNotes.{after_look, after_message, after_not_sent, after_wrong, below_by, within}
 use Rattle.bb_memory_file.proofs.joined.Joined.take.Goals as goal
 use Rattle.bb_memory_file.specs.FileCalls.{IsReceive}
@@ -15,6 +16,7 @@ invariant_of-self g c = (
   c.self.invariant.2,
   c.self.invariant.3,
   c.self.invariant.4,
+  keeps_still _ _ _ c.self.inside.ends.items c.self.invariant.5 (look_still _ _ c.args.slot _ c.load_slot.ensures.told),
 )
 
 pub invariant_of-self-2 : goal.invariant_of-self-2
@@ -24,6 +26,7 @@ invariant_of-self-2 g c = (
   c.self.invariant.2,
   c.self.invariant.3,
   c.self.invariant.4,
+  keeps_still _ _ _ c.self.inside.ends.items c.self.invariant.5 (look_still _ _ c.args.slot _ c.load_slot.ensures.told),
 )
 
 pub invariant_of-self-in-None : goal.invariant_of-self-in-None
@@ -33,6 +36,7 @@ invariant_of-self-in-None g c = (
   c.self.invariant.2,
   c.self.invariant.3,
   c.self.invariant.4,
+  keeps_still _ _ _ c.self.inside.ends.items c.self.invariant.5 (look_still _ _ c.args.slot _ c.load_slot.ensures.told),
 )
 
 pub receive-requires-clause-below : goal.receive-requires-clause-below
@@ -52,6 +56,7 @@ invariant_of-self-in-NotSent g c =
       c.self.invariant.2,
       c.self.invariant.3,
       c.self.invariant.4,
+      keeps_not_sent _ _ _ c.self.inside.ends.items c.self.invariant.5 c.args.slot c.in-Message.bucket _ c.in-Message.lap c.in-Message.ensures.told (rw (← c.self.view_is) at c.requires.single) c.args.size c.in-NotSent.ensures,
     )
 
 pub invariant_of-self-in-Wrong : goal.invariant_of-self-in-Wrong
@@ -64,6 +69,7 @@ invariant_of-self-in-Wrong g c =
       c.self.invariant.2,
       c.self.invariant.3,
       c.self.invariant.4,
+      keeps_wrong _ _ _ c.self.inside.ends.items c.self.invariant.5 c.args.slot c.in-Message.bucket _ c.in-Message.lap c.in-Message.ensures.told (rw (← c.self.view_is) at c.requires.single) c.args.size c.in-Wrong.ensures,
     )
 
 pub index_mut-requires : goal.index_mut-requires
@@ -82,6 +88,7 @@ invariant_of-self-in-Message-receive g c =
       c.self.invariant.2,
       c.self.invariant.3,
       c.self.invariant.4,
+      keeps_message _ _ _ c.self.inside.ends.items c.self.invariant.5 c.args.slot c.in-Message.bucket _ c.in-Message.lap c.in-Message.ensures.told (rw (← c.self.view_is) at c.requires.single) c.args.size c.in-Message-receive.length c.in-Message-receive.ensures,
     )
 
 pub invariant_of-self-in_default-note : goal.invariant_of-self-in_default-note
@@ -91,6 +98,7 @@ invariant_of-self-in_default-note g c = (
   c.self.invariant.2,
   c.self.invariant.3,
   c.self.invariant.4,
+  keeps_still _ _ _ c.self.inside.ends.items c.self.invariant.5 (look_still _ _ c.args.slot _ c.load_slot.ensures.told),
 )
 
 pub returns-in-NotSent : goal.returns-in-NotSent
