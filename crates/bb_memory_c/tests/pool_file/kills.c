@@ -998,12 +998,8 @@ static void operate(int what, struct prepared with) {
         EXPECT(bb_pool_file_post(file, mine, 0, with.place, 33) == BB_OK);
         post_id(file, mine, 0, 26);
         break;
-    case IS_DONE:
-        EXPECT(bb_file_party_done(mine, with.place) == BB_OK);
-        break;
-    case PUTS_TAKEN_BACK:
-        EXPECT(bb_pool_file_detach(file, mine, with.place).code == BB_OK);
-        break;
+    case IS_DONE: EXPECT(bb_file_party_done(mine, with.place) == BB_OK); break;
+    case PUTS_TAKEN_BACK: EXPECT(bb_pool_file_detach(file, mine, with.place).code == BB_OK); break;
     case NOTES_LOOK:
         got = bb_pool_file_look(file, 0);
         *noted = got.code == BB_OK ? (uint32_t)got.len : NO_LENGTH + got.code;
