@@ -10,7 +10,7 @@ invariant_of-self c = c.self.invariant
 pub receive-requires : goal.receive-requires
 receive-requires c =
     let there = rw (← c.self.view_is) at c.requires in
-    let apart = test_apart c.self.inside.party.depth 1 (λ same. c.if-depth-eq1.false (c.depth.ensures ∙ same)) in
+    let apart = test_apart c.self.inside.party.depth 1 (λ same. c.if-depth-eq1.false (c.depth.ensures.value ∙ same)) in
     rw apart (rw apart at there)
 
 pub invariant_of-self-else-depth-eq1 : goal.invariant_of-self-else-depth-eq1
