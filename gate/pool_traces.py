@@ -43,7 +43,7 @@ OF_MUTANT = (
     *(random_trace(seed) for seed in range(2, 10)),
 )
 # The traces of the code, the longest first.
-OF_CODE = (("duels", "7", "3"), *reversed(OF_MUTANT))
+OF_CODE = (("duels", "13", "3"), *reversed(OF_MUTANT))
 # The word that a mutant has instead of a program if only the machine refuses it.
 MACHINE = "machine"
 # The least number of instructions of each call that have to be stepped and compared.

@@ -998,12 +998,8 @@ static void operate(int what, struct prepared with) {
         EXPECT(bb_pool_file_post(file, mine, 0, with.place, 33) == BB_OK);
         post_id(file, mine, 0, 26);
         break;
-    case IS_DONE:
-        EXPECT(bb_file_party_done(mine, with.place) == BB_OK);
-        break;
-    case PUTS_TAKEN_BACK:
-        EXPECT(bb_pool_file_detach(file, mine, with.place).code == BB_OK);
-        break;
+    case IS_DONE: EXPECT(bb_file_party_done(mine, with.place) == BB_OK); break;
+    case PUTS_TAKEN_BACK: EXPECT(bb_pool_file_detach(file, mine, with.place).code == BB_OK); break;
     case NOTES_LOOK:
         got = bb_pool_file_look(file, 0);
         *noted = got.code == BB_OK ? (uint32_t)got.len : NO_LENGTH + got.code;
@@ -1580,28 +1576,31 @@ static bool pause_look_behind(bb_pool_file *ours, bb_file_party *party, uint32_t
 struct scene {
     const char *name;
     bool (*play)(bb_pool_file *ours, bb_file_party *party, uint32_t steps);
-    // Whether it is long, so that it doesn't stop after each instruction, and is the same for slots of
-    // each depth.
-    bool is_long;
-    // Whether it needs a depth of at least 3, and then how many outcomes it has.
+    // It stops processes after each instruction whose number, less 1, is a multiple of this, or of
+    // the argument of `pause` if this is 0.
+    uint32_t stride;
+    // Whether it is for slots of a greater depth, and then how many outcomes it has.
     bool is_deep;
     uint32_t outcomes;
 };
 
 static int run_pause(uint32_t long_stride) {
     static const struct scene scenes[] = {
-        {"take", pause_take, false, false, 0},
-        {"take, posted again", pause_posted, false, false, 0},
-        {"look", pause_look, false, false, 0},
-        {"reap", pause_reap, true, false, 0},
-        {"leave", pause_leave, true, false, 0},
-        {"open", pause_open, true, false, 0},
-        {"post, passed", pause_passed, false, true, 3},
-        {"take, looks again", pause_take_again, false, true, 2},
-        {"take, posted behind", pause_posted_behind, false, true, 2},
-        {"done", pause_done, false, true, 2},
-        {"put back", pause_put_back, false, true, 2},
-        {"look, posted behind", pause_look_behind, false, true, 0},
+        {"take", pause_take, 1, false, 0},
+        {"take, posted again", pause_posted, 1, false, 0},
+        {"look", pause_look, 1, false, 0},
+        {"reap", pause_reap, 0, false, 0},
+        {"leave", pause_leave, 0, false, 0},
+        {"open", pause_open, 0, false, 0},
+        {"look, posted behind", pause_look_behind, 5, true, 0},
+        {"look", pause_look, 5, true, 0},
+        {"take", pause_take, 1, true, 0},
+        {"take, posted again", pause_posted, 1, true, 0},
+        {"take, posted behind", pause_posted_behind, 1, true, 2},
+        {"take, looks again", pause_take_again, 1, true, 2},
+        {"post, passed", pause_passed, 1, true, 3},
+        {"done", pause_done, 1, true, 2},
+        {"put back", pause_put_back, 1, true, 2},
     };
     const bool is_deep = options.depth > 1;
     EXPECT(!is_deep || options.depth >= 3);
@@ -1610,9 +1609,9 @@ static int run_pause(uint32_t long_stride) {
     EXPECT(noted != MAP_FAILED);
     for (size_t at = 0; at < sizeof scenes / sizeof *scenes; at++) {
         const struct scene *scene = &scenes[at];
-        if (is_deep ? scene->is_long : scene->is_deep)
+        if (scene->is_deep != is_deep)
             continue;
-        const uint32_t stride = scene->is_long ? long_stride : 1;
+        const uint32_t stride = scene->stride == 0 ? long_stride : scene->stride;
         uint32_t steps = 1;
         memset(outcomes, 0, sizeof outcomes);
         for (bool ended = false; !ended; steps += stride) {

@@ -581,6 +581,54 @@ static void both_are_woken(void) {
     remove_it(file);
 }
 
+// A wait that spins looks only at its own slot, in a file where no spin has been in vain yet.
+static void spins_at_one_slot(void) {
+    bb_pool_file *file = open_it(3);
+    bb_file_party *party = join_it(file);
+    for (uint64_t number = 0; number < 3; number++)
+        EXPECT(post(file, party, 0, number) == BB_OK);
+    EXPECT(bb_pool_file_wait_full(file, 1, 1) == BB_FILE_TIMED_OUT);
+    remove_it(file);
+}
+
+static void *wait_for_message(void *context) {
+    EXPECT(bb_pool_file_wait_full(context, 2, BB_NO_TIMEOUT) == BB_OK);
+    return NULL;
+}
+
+// A thread that waits for a message is woken when one is put back, by a detach or by a leave.
+// Otherwise it sleeps for up to a tenth of a second.
+static void put_back_wakes(void) {
+    enum {
+        ROUNDS = 20
+    };
+
+    uint32_t slow = 0;
+    bb_pool_file *file = open_it(3);
+    bb_file_party *party = join_it(file);
+    for (uint32_t round = 0; round < ROUNDS; round++) {
+        pthread_t thread;
+        bb_file_party *other = join_it(file);
+        EXPECT(post(file, party, 2, 1) == BB_OK);
+        const bb_message message = take(file, other, 2, 1);
+        EXPECT(pthread_create(&thread, NULL, wait_for_message, file) == 0);
+        rest(5);
+        const uint64_t begun = now();
+        const bool leaves = round % 2 == 0;
+        if (leaves)
+            EXPECT(bb_pool_file_leave(file, other) == BB_OK);
+        else
+            EXPECT(bb_pool_file_detach(file, other, message.place).code == BB_OK);
+        EXPECT(pthread_join(thread, NULL) == 0);
+        slow += now() - begun > 50000000;
+        if (!leaves)
+            EXPECT(bb_pool_file_leave(file, other) == BB_OK);
+        finish(party, take(file, party, 2, 1));
+    }
+    EXPECT(slow < ROUNDS / 4);
+    remove_it(file);
+}
+
 int main(int argc, char **argv) {
     EXPECT(argc == 2);
     EXPECT(signal(SIGALRM, give_up) != SIG_ERR && signal(SIGTERM, give_up) != SIG_ERR);
@@ -594,6 +642,8 @@ int main(int argc, char **argv) {
     comes_back();
     killed_receiver();
     both_are_woken();
+    spins_at_one_slot();
+    put_back_wakes();
     one_at_work(16);
     several_at_work(16);
     one_at_work(2);

@@ -76,6 +76,56 @@ fn each_change_is_allowed(rt: HostRuntime) {
     same(&rt, end_of(rt.alloc(), POSTED), end);
 }
 
+/// Two parties post into a slot that is two cells deep, which are slots of the machine. The first one
+/// finds that the second one has filled the first cell, and fills the second cell. The messages are
+/// taken in the order of the cells.
+#[test]
+fn a_post_that_tries_the_next_cell_is_allowed(rt: HostRuntime) {
+    let text = b"file 2 2 2 2
+join 0
+lock 0 0
+life 0 0 0 2
+life 0 0 2 3
+ok 0
+join 1
+lock 1 1
+life 1 1 0 2
+life 1 1 2 3
+ok 1
+allocate 0 0
+flag 0 0 0 1
+ok 0 0
+allocate 1 1
+flag 1 1 0 5
+ok 1 1
+post 0 0 0 0 8
+entry 0 0 0 34359738369
+post 1 1 0 1 8
+entry 1 1 0 34359738369
+slot 1 0 0 2
+flag 1 1 5 3
+ok 1
+entry 0 0 34359738369 0
+refused 0
+post 0 0 1 0 8
+entry 0 0 0 34359738370
+slot 0 1 0 1
+flag 0 0 1 7
+ok 0
+take 1 1 0
+flag 1 1 3 5
+ok 1 1 8
+take 1 1 1
+flag 1 0 7 5
+ok 1 0 8
+";
+    let end = End::Same {
+        lines: 37,
+        changes: 18,
+    };
+    same(&rt, end_of(rt.alloc(), text), end);
+}
+
 #[test]
 fn a_post_that_fills_the_slot_first_is_refused(rt: HostRuntime) {
     let text = b"file 2 1 1 1
