@@ -35,11 +35,10 @@ module _ (queue : FileQueue) (old middle : FileLog) (count : ℕ) (before : Lose
       let one : (more + count) + 1 ≡ (more + 1) + count = omega arith in
       subst (λ (n : ℕ). Loses queue old n (told last (MissFlag bucket (SentTo slot lap)))) one
       (beaten (more + count) log last slot lap bucket (loses_on more log rest) since its sent)
-  loses_on _ _ (older more log last head high low bucket other rest since fewer most sent) =
+  loses_on _ _ (older more log new between head high low bucket other rest since fewer most sent also) =
       let one : (more + count) + 1 ≡ (more + 1) + count = omega arith in
-      subst (λ (n : ℕ). Loses queue old n
-      (told last (LoadFlag other (SentTo (position_on queue head low).slot (position_on queue head low).lap)))) one
-      (older (more + count) log last head high low bucket other (loses_on more log rest) since fewer most sent)
+      subst (λ (n : ℕ). Loses queue old n new) one
+      (older (more + count) log new between head high low bucket other (loses_on more log rest) since fewer most sent also)
 
 pub oldest_since : (queue : FileQueue) (old one : FileLog) (found : Oldest) (new : FileLog) → Looks old one →
     FindsOldest queue one found new → FindsOldest queue old found new
