@@ -437,3 +437,46 @@ receipt_as one other queue begun notes size answer new same says process =
 pub loses_as : (one other : FileScene) (queue : Queue) (old : FileLog) (count : ℕ) (new : FileLog) → one ≡ other →
     Loses (queue_in one queue) old count new → Loses (queue_in other queue) old count new
 loses_as one other queue old count new same lost = subst (λ scene. Loses (queue_in scene queue) old count new) same lost
+
+-- THE OLDEST MESSAGE
+
+module _ (queue : FileQueue) (begun : FileLog) (stop : Stop) (old : FileLog)
+    (found : FindsOldest queue begun (oldest.At stop) old) where
+  oldest_seen : Looks begun old
+  oldest_seen = looks_then begun found.0 found.1 old (LoadSlot stop.position.slot stop.word) tt found.3
+
+  pub seen_oldest : Looks begun old
+  seen_oldest = oldest_seen
+
+  oldest_past : IsMoment found.0.events old.events
+  oldest_past = subst (λ (l : FileLog). IsMoment found.0.events l.events) (sym found.3)
+      (earlier (LoadSlot stop.position.slot stop.word) found.0.events now)
+
+  oldest_happened : Happens begun.events old.events (LoadSlot stop.position.slot stop.word)
+  oldest_happened = subst (λ (l : FileLog). Happens begun.events l.events (LoadSlot stop.position.slot stop.word)) (sym found.3)
+      (happens_now begun.events found.0.events (LoadSlot stop.position.slot stop.word) (looks_moment begun found.0 found.1))
+
+  pub oldest_head : KnowsHead queue old.events stop.position
+  oldest_head = head_later queue found.0.events old.events stop.position oldest_past found.2
+
+  pub oldest_look : Look old.events stop.position.slot stop.word
+  oldest_look = look_happened begun.events old.events stop.position.slot stop.word oldest_happened
+
+  module _ (lap bucket : ℕ) (is : stop.word ≡ Message lap bucket) where
+    pub oldest_message : stop.word ≡ Message stop.position.lap bucket
+    oldest_message = is ∙ ap (λ l. Message l bucket) (sym (ap lap_said is) ∙ found.4)
+
+    message_happened : Happens begun.events old.events (LoadSlot stop.position.slot (Message stop.position.lap bucket))
+    message_happened = subst (λ w. Happens begun.events old.events (LoadSlot stop.position.slot w)) oldest_message oldest_happened
+
+    pub oldest_begun : HasBegun queue begun stop.position old
+    oldest_begun = (oldest_seen, oldest_head, (bucket, message_happened))
+
+    pub oldest_stray : (notes : List Note) (size : ℕ) → IsStray (slice_get notes bucket) →
+        (process : ℕ) → IsReceipt process begun notes queue size taken.Wrong old
+    oldest_stray notes size strays = receipt_wrong queue notes size begun old oldest_seen
+        (stray stop.position.slot stop.position.lap bucket found.2.0.0 message_happened strays)
+
+-- the message at the head, as a load found it
+pub head_message : (word : Slot) (lap bucket at : ℕ) → word ≡ Message lap bucket → lap_said word ≡ at → word ≡ Message at bucket
+head_message word lap bucket at is same = is ∙ ap (λ l. Message l bucket) (sym (ap lap_said is) ∙ same)
