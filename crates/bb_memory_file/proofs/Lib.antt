@@ -14,6 +14,7 @@ pub mod FileNotes
 pub mod FileProcesses
 pub mod FileQueueDone
 pub mod FileQueueExample
+pub mod FileQueueHeads
 pub mod FileQueueLives
 pub mod FileQueueNotes
 pub mod FileQueueReceipts

@@ -149,7 +149,7 @@ pub record NoneSent (party : ℕ) (queue : FileQueue) (old new : List Event) : T
 
 -- the laps of two slots of a queue are never so far from each other
 abbrev pub IsFar : ℕ → ℕ → Type 0
-IsFar lap other = 2 ^ 29 ≤ (other + 2 ^ 28 + (2 ^ 30 - lap)) % 2 ^ 30
+IsFar lap other = 2 ^ 29 ≤ (other + 2 ^ 28 + (2 ^ 30 - lap)) % 2 ^ 30 + 1
 
 -- a message that a receiver finds in a slot is none in a bucket with this note
 abbrev pub IsStray : Option Note → Type 0

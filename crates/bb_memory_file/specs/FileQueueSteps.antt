@@ -3,8 +3,8 @@ use Rattle.bb_memory_file.specs.FileCalls.{unseen}
 use Rattle.bb_memory_file.specs.FileCode.{FileLog, LoadFlag, LoadSlot, known_of, told}
 use Rattle.bb_memory_file.specs.FileLog.{Event, IsLap, lap_in}
 use Rattle.bb_memory_file.specs.FileNames.{Empty, Message, SentTo, Slot}
-use Rattle.bb_memory_file.specs.FileQueueCalls.{Happens, IsOver, IsStray, IsWrong, Loses, Looks, Note, Passes, Taken, Unheld, noted_after}
-use Rattle.bb_memory_file.specs.FileQueueLooks.{CanPass, IsPosition, KnowsHead, KnowsTail, Look, Position, last_lap, position_after, position_on}
+use Rattle.bb_memory_file.specs.FileQueueCalls.{Happens, IsOver, IsStray, IsWrong, Loses, Looks, Note, Passes, Taken, Undone, Unheld, noted_after}
+use Rattle.bb_memory_file.specs.FileQueueLooks.{CanPass, IsPosition, KnowsHead, KnowsTail, Look, Position, ShowsUnsent, last_lap, position_after, position_on}
 pub use Rattle.bb_memory_file.specs.declared.queues.Looked.{Looked}
 pub use Rattle.bb_memory_file.specs.declared.queues.Looked.TheVariants as look
 pub use Rattle.bb_memory_file.specs.declared.queues.Oldest.{Oldest}
@@ -12,8 +12,8 @@ pub use Rattle.bb_memory_file.specs.declared.queues.Oldest.TheVariants as oldest
 pub use Rattle.bb_memory_file.specs.declared.queues.Stop.{Stop}
 pub use Rattle.bb_memory_file.specs.declared.queues.Walked.{Walked}
 pub use Rattle.bb_memory_file.specs.declared.queues.Walked.TheVariants as walked
-use Rattle.bb_memory_file_machine.specs.FileQueues.{FileQueue, IsFilled, IsSlotOf, lap_before, lap_said, slot_before}
-use Rattle.std.specs.Prelude.{List, None, Option, Some, slice_get, ℕ, ◌+◌, ◌<◌, ◌^◌, ◌≡◌, ◌≢◌, ◌≤◌, ◌⊎◌}
+use Rattle.bb_memory_file_machine.specs.FileQueues.{FileQueue, IsFilled, IsMoment, IsSlotOf, lap_before, lap_said, slot_before}
+use Rattle.std.specs.Prelude.{List, None, Option, Some, slice_get, ℕ, ◌+◌, ◌<◌, ◌^◌, ◌∷◌, ◌≡◌, ◌≢◌, ◌≤◌, ◌⊎◌}
 
 -- of each bucket the party knows what it knew, apart from looks at slots
 abbrev pub KnowsSame : FileLog → FileLog → Type 0
@@ -78,22 +78,30 @@ abbrev pub PassesOn : ℕ → FileQueue → Position → ℕ → List Event → 
 PassesOn party queue head count old new =
     (less : ℕ) → less < count → CanPass party new old (position_on queue head less).slot (position_on queue head less).lap
 
+-- The receiver may pass the message that a slot has or had at this lap, if these are its notes, as it has
+-- come to the moment.
+pub data Passed (notes : List Note) (events moment : List Event) (slot lap : ℕ) : Type 0 where
+  was_over : (word : Slot) → Look events slot word → IsOver lap word → Passed notes events moment slot lap
+  was_unsent : (bucket : ℕ) (look : Look events slot (Message lap bucket)) (event : Event) (before : List Event) →
+      IsMoment (look.event ∷ look.before) (event ∷ before) → IsMoment moment (event ∷ before) →
+      IsMoment (event ∷ before) events → ShowsUnsent bucket slot lap event → Passed notes events moment slot lap
+  was_held : (bucket : ℕ) → Look events slot (Message lap bucket) → slice_get notes bucket ≡ Some Undone →
+      Passed notes events moment slot lap
+
 -- what a look at a message has found
-abbrev pub LooksAt : ℕ → List Note → FileLog → Position → Slot → Looked → FileLog → Type 0
-LooksAt party notes old position word look.Unsent new =
-    CanPass party new.events old.events position.slot position.lap
-LooksAt party notes old position word (look.Sent bucket) new =
+abbrev pub LooksAt : List Note → FileLog → Position → Slot → Looked → FileLog → Type 0
+LooksAt notes old position word look.Unsent new = Passed notes new.events old.events position.slot position.lap
+LooksAt notes old position word (look.Sent bucket) new =
     (word ≡ Message position.lap bucket) × (slice_get notes bucket ≡ Some Unheld)
     × (new ≡ told old (LoadFlag bucket (SentTo position.slot position.lap)))
-LooksAt party notes old position word look.Empty new = word ≡ Empty position.lap
-LooksAt party notes old position word look.Wrong new =
+LooksAt notes old position word look.Empty new = word ≡ Empty position.lap
+LooksAt notes old position word look.Wrong new =
     (lap_said word ≢ position.lap) ⊎ ((bucket : ℕ) × (word ≡ Message position.lap bucket) × IsStray (slice_get notes bucket))
 
 -- what a walk over the messages of a queue has found
 abbrev pub Walks : ℕ → FileQueue → List Note → FileLog → Position → ℕ → Walked → FileLog → Type 0
 Walks party queue notes old head slots (walked.Sent position bucket passed) new =
-    (passed < slots) × (position ≡ position_on queue head passed) × PassesOn party queue head passed old.events new.events
-    × (slice_get notes bucket ≡ Some Unheld) × Look new.events position.slot (Message position.lap bucket)
+    (passed < slots) × (position ≡ position_on queue head passed) × (slice_get notes bucket ≡ Some Unheld) × Look new.events position.slot (Message position.lap bucket)
     × Happens old.events new.events (LoadFlag bucket (SentTo position.slot position.lap))
 Walks party queue notes old head slots walked.Passed new = PassesOn party queue head slots old.events new.events
 Walks party queue notes old head slots walked.End new =

@@ -12,7 +12,7 @@ ghost use Rattle.bb_memory_file.specs.FileQueueSteps.oldest.{At};
 ghost use Rattle.bb_memory_file.specs.FileNames.{Empty};
 ghost use Rattle.bb_memory_file_machine.specs.FileMachine.{FileScene};
 ghost use Rattle.bb_memory_file_machine.specs.FileQueues.{IsFilled, IsLater, IsWhole, lap_said};
-ghost use Rattle.std.specs.Prelude.{IfSome, IsTrue, MatchBool, MatchOption, true, ℕ, ◌*◌, ◌+◌, ◌/◌, ◌<◌, ◌^◌, ◌≡◌, ◌≢◌};
+ghost use Rattle.std.specs.Prelude.{IfSome, IsTrue, MatchBool, MatchOption, slice_get, true, ℕ, ◌*◌, ◌+◌, ◌/◌, ◌<◌, ◌^◌, ◌≡◌, ◌≢◌};
 
 use crate::calls;
 use crate::calls::Received;
@@ -368,7 +368,7 @@ fn receive_from<W: Words>(
     let Slot::Message { lap: _, bucket } = word else {
         return Taken::Empty;
     };
-    match notes.get(bucket as usize) {
+    match note_of(notes, bucket) {
         Some(Note::Unheld) => {
             match calls::receive(words, position.slot, position.lap, bucket, size) {
                 Received::NotSent => receive_later(words, notes, queue, position, size),
@@ -495,7 +495,7 @@ fn walk_on<W: Words>(
 fn look_at<W: Words>(words: &mut W, notes: &[Note], position: Position, word: Slot) -> Looked
     requires noted { AreNoted (W.log words.old) notes.now }
     requires look { Look (W.log words.old).events position.slot word }
-    ensures finds { LooksAt (W.log words.old).party notes.now (W.log words.old) position word result (W.log words.new) }
+    ensures finds { LooksAt notes.now (W.log words.old) position word result (W.log words.new) }
     ensures looks { Looks (W.log words.old) (W.log words.new) }
     ensures noted { AreNoted (W.log words.new) notes.now }
 {
@@ -506,7 +506,7 @@ fn look_at<W: Words>(words: &mut W, notes: &[Note], position: Position, word: Sl
     let Slot::Message { lap: _, bucket } = word else {
         return Looked::Empty;
     };
-    match notes.get(bucket as usize) {
+    match note_of(notes, bucket) {
         Some(Note::Unheld) => {
             if calls::is_same(words.load_flag(bucket), FileFlag::SentTo { slot, lap }) {
                 Looked::Sent { bucket }
@@ -517,6 +517,13 @@ fn look_at<W: Words>(words: &mut W, notes: &[Note], position: Position, word: Sl
         Some(Note::Undone) => Looked::Unsent,
         _ => Looked::Wrong,
     }
+}
+
+/// Returns the party's note of the bucket, or None if the file has no such bucket.
+fn note_of(notes: &[Note], bucket: u32) -> Option<Note>
+    ensures { result ≡ slice_get notes.now bucket }
+{
+    notes.get(bucket as usize).copied()
 }
 
 /// Finds the oldest message of the queue with which no party is done, or the empty slot whose turn it is,
@@ -619,13 +626,13 @@ fn is_later(lap: u32, other: u32) -> bool
     more > 0 && more < LAPS / 2
 }
 
-/// Returns whether the other lap is none of the half of all laps that is around this one.
+/// Returns whether the other lap is far from this one: a quarter of all laps before it or after it.
 fn is_far(lap: u32, other: u32) -> bool
     requires lap { IsLap lap }
     requires other { IsLap other }
     ensures { MatchBool result (IsFar lap other) (¬ IsFar lap other) }
 {
-    (other + LAPS / 4 + (LAPS - lap)) % LAPS >= LAPS / 2
+    (other + LAPS / 4 + (LAPS - lap)) % LAPS + 1 >= LAPS / 2
 }
 
 /// Returns whether a slot with this word was filled at this lap.
