@@ -399,5 +399,5 @@ module _ (queue : FileQueue) (old : FileLog) where
       looks_on old log (loses_look count log rest) new (passes_look IsOver queue log from (queue.depth + 1) new to passes)
   loses_look _ _ (beaten count log before slot lap bucket rest since its sent) =
       looks before _ (looks_on old log (loses_look count log rest) before since) tt
-  loses_look _ _ (older count log before head more less bucket other rest since fewer most sent) =
-      looks before _ (looks_on old log (loses_look count log rest) before since) tt
+  loses_look _ _ (older count log new middle head more less bucket other rest since fewer most sent also) =
+      looks_on old log (loses_look count log rest) new since

@@ -3,8 +3,8 @@ use Rattle.bb_memory_file.proofs.FileEnds.{keeps_done_with}
 use Rattle.bb_memory_file.proofs.FileNotes.{after_done_entered, after_done_in, after_done_nowhere, undone_held, within}
 use Rattle.bb_memory_file.proofs.joined.Joined.done_with.Goals as goal
 use Rattle.bb_memory_file.specs.FileCalls.whereabouts as whereabouts
-use Rattle.bb_memory_file.specs.FileNotes.{InUse, Undone}
-use Rattle.std.proofs.Common.{Some, inl, inr, refl, ◌≡◌}
+use Rattle.bb_memory_file.specs.FileNotes.{HasNoMessage, InUse, Undone}
+use Rattle.std.proofs.Common.{Some, inl, inr, refl, rules, ◌≡◌}
 use Rattle.std.specs.Prelude.{slice_get}
 
 pub done_with-requires-clause-held : goal.done_with-requires-clause-held
@@ -86,3 +86,7 @@ returns-in-Nowhere g c =
     let there : slice_get c.args.self.now.notes c.args.bucket ≡ Some Undone = cc in
     let was = rw (← c.self.view_is) at there in
     rw (← c.self.view_is) (was, inr (c.in-Nowhere.ensures.done, refl))
+
+pub returns-in_default : goal.returns-in_default
+returns-in_default g c =
+    let none : HasNoMessage (slice_get c.args.self.now.notes c.args.bucket) = search rules in (none, refl)
