@@ -17,6 +17,7 @@ pub mod FileQueueExample
 pub mod FileQueueHeads
 pub mod FileQueueLives
 pub mod FileQueueNotes
+pub mod FileQueueOldest
 pub mod FileQueueReceipts
 pub mod FileQueueRuns
 pub mod FileQueueSends

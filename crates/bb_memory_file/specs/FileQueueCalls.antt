@@ -13,7 +13,7 @@ use Rattle.bb_memory_file.specs.declared.joined.Taken.TheVariants as taken
 pub use Rattle.bb_memory_file.specs.declared.queues.Sending.{Sending}
 pub use Rattle.bb_memory_file.specs.declared.queues.Sending.TheVariants.{Full, Overtaken, Sent}
 use Rattle.bb_memory_file_machine.specs.FileQueues.{FileQueue, IsFilled, IsLater, IsMoment, IsSlotOf, lap_before, lap_said, slot_before}
-use Rattle.std.specs.Prelude.{List, Option, Some, [], slice_get, slice_set, suc, true, zero, ℕ, ◌%◌, ◌+◌, ◌-◌, ◌<◌, ◌^◌, ◌∷◌, ◌≡◌, ◌≢◌, ◌≤◌, ◌⊎◌}
+use Rattle.std.specs.Prelude.{List, Option, Some, [], slice_get, slice_set, true, ℕ, ◌%◌, ◌+◌, ◌-◌, ◌<◌, ◌^◌, ◌∷◌, ◌≡◌, ◌≢◌, ◌≤◌, ◌⊎◌}
 
 -- the party has done more since
 abbrev pub Grows : FileLog → FileLog → Type 0
@@ -126,12 +126,13 @@ pub data Loses (queue : FileQueue) (old : FileLog) : ℕ → FileLog → Type 0 
   beaten : (count : ℕ) (log before : FileLog) (slot lap bucket : ℕ) → Loses queue old count log → Looks log before →
       IsSlotOf queue slot → Happens log.events before.events (LoadFlag bucket (SentTo slot lap)) →
       Loses queue old (count + 1) (told before (MissFlag bucket (SentTo slot lap)))
-  older : (count : ℕ) (log before : FileLog) (head : Position) (more less bucket other : ℕ) → Loses queue old count log →
-      Looks log before → less < more → more < queue.depth →
-      Happens log.events before.events
+  older : (count : ℕ) (log new : FileLog) (middle : List Event) (head : Position) (more less bucket other : ℕ) →
+      Loses queue old count log → Looks log new → less < more → more < queue.depth →
+      Happens log.events middle
       (LoadFlag bucket (SentTo (position_on queue head more).slot (position_on queue head more).lap)) →
-      Loses queue old (count + 1)
-      (told before (LoadFlag other (SentTo (position_on queue head less).slot (position_on queue head less).lap)))
+      Happens middle new.events
+      (LoadFlag other (SentTo (position_on queue head less).slot (position_on queue head less).lap)) →
+      Loses queue old (count + 1) new
 
 -- From the oldest message on the receiver may pass each message that the queue holds, by what it has seen
 -- since. It has come to an empty slot, or has passed all slots.

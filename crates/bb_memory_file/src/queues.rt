@@ -4,12 +4,12 @@
 //! where it begins and ends: a party finds that by looks at the slots, and goes on from there the next
 //! time.
 ghost use Rattle.bb_memory_file.specs.FileLog.{FileLog, IsLap, LoadSlot, is_clear, known_of, lap_in, told};
+ghost use Rattle.bb_memory_file.specs.FileNames.{Empty};
 ghost use Rattle.bb_memory_file.specs.FileNotes.{AreNoted};
 ghost use Rattle.bb_memory_file.specs.FileQueueCalls.{AllObey, Grows, IsFar, IsOver, IsReceipt, IsSend, KnowsOthers, Looks, Loses, SendsBy, noted_after};
 ghost use Rattle.bb_memory_file.specs.FileQueueLooks.{IsPosition, KnowsHead, KnowsTail, Look, last_lap, position_after, queue_in};
 ghost use Rattle.bb_memory_file.specs.FileQueueSteps.{FindsHead, FindsOldest, FindsTurn, HasBegun, IsTurn, KnowsSame, LooksAt, SeesBefore, StopsAt, Walks, noted_if};
 ghost use Rattle.bb_memory_file.specs.FileQueueSteps.oldest.{At};
-ghost use Rattle.bb_memory_file.specs.FileNames.{Empty};
 ghost use Rattle.bb_memory_file_machine.specs.FileMachine.{FileScene};
 ghost use Rattle.bb_memory_file_machine.specs.FileQueues.{IsFilled, IsLater, IsWhole, lap_said};
 ghost use Rattle.std.specs.Prelude.{IfSome, IsTrue, MatchBool, MatchOption, slice_get, true, ℕ, ◌*◌, ◌+◌, ◌/◌, ◌<◌, ◌^◌, ◌≡◌, ◌≢◌};
@@ -363,6 +363,7 @@ fn receive_from<W: Words>(
     ensures receives { (begun : FileLog) → FindsOldest (queue_in (W.log words.old).scene queue) begun (At oldest) (W.log words.old) → (process : ℕ) → IsReceipt process begun notes.now (queue_in (W.log words.old).scene queue) size result (W.log words.new) }
     ensures obeys { AllObey queue.depth (W.log words.old) → AllObey queue.depth (W.log words.new) }
     ensures noted { AreNoted (W.log words.new) (noted_after notes.now result) }
+    ensures grows { Grows (W.log words.old) (W.log words.new) }
 {
     let Stop { position, word } = oldest;
     let Slot::Message { lap: _, bucket } = word else {
@@ -398,6 +399,7 @@ fn receive_later<W: Words>(
     ensures receives { (begun : FileLog) → HasBegun (queue_in (W.log words.old).scene queue) begun head (W.log words.old) → (process : ℕ) → IsReceipt process begun notes.now (queue_in (W.log words.old).scene queue) size result (W.log words.new) }
     ensures obeys { AllObey queue.depth (W.log words.old) → AllObey queue.depth (W.log words.new) }
     ensures noted { AreNoted (W.log words.new) (noted_after notes.now result) }
+    ensures grows { Grows (W.log words.old) (W.log words.new) }
 {
     for _attempt in 0..ATTEMPTS {
         if let Some(taken) = try_to_receive(words, notes, queue, head, size) {
@@ -422,9 +424,13 @@ fn try_to_receive<W: Words>(
     requires fits { queue.number * queue.depth + queue.depth < 2 ^ 32 }
     requires noted { AreNoted (W.log words.old) notes.now }
     requires head { KnowsHead (queue_in (W.log words.old).scene queue) (W.log words.old).events head }
-    ensures receives { (begun : FileLog) → HasBegun (queue_in (W.log words.old).scene queue) begun head (W.log words.old) → MatchOption result (Loses (queue_in (W.log words.old).scene queue) (W.log words.old) 1 (W.log words.new)) (λ taken. (process : ℕ) → IsReceipt process begun notes.now (queue_in (W.log words.old).scene queue) size taken (W.log words.new)) }
+    ensures receives { MatchOption result (Loses (queue_in (W.log words.old).scene queue) (W.log words.old) 1 (W.log words.new))
+        (λ taken. (begun : FileLog) → HasBegun (queue_in (W.log words.old).scene queue) begun head (W.log words.old)
+        → (process : ℕ)
+        → IsReceipt process begun notes.now (queue_in (W.log words.old).scene queue) size taken (W.log words.new)) }
     ensures obeys { AllObey queue.depth (W.log words.old) → AllObey queue.depth (W.log words.new) }
     ensures noted { AreNoted (W.log words.new) (noted_if notes.now result) }
+    ensures grows { Grows (W.log words.old) (W.log words.new) }
 {
     let (position, bucket, passed) = match walk_on(words, notes, queue, head, queue.depth) {
         Walked::Sent {
@@ -432,7 +438,8 @@ fn try_to_receive<W: Words>(
             bucket,
             passed,
         } => (position, bucket, passed),
-        Walked::Passed | Walked::End => return Some(Taken::NotSent),
+        Walked::Passed => return Some(Taken::NotSent),
+        Walked::End => return Some(Taken::NotSent),
         Walked::Wrong => return Some(Taken::Wrong),
     };
     match walk_on(words, notes, queue, head, passed) {
