@@ -6,7 +6,7 @@ use Rattle.bb_memory_file.specs.FileCalls.whereabouts as whereabouts
 use Rattle.bb_memory_file.specs.FileCode.{FileLog, HasNot, known_of}
 use Rattle.bb_memory_file.specs.FileLog.{is_clear}
 use Rattle.bb_memory_file.specs.FileNames.{In, Outside}
-use Rattle.bb_memory_file.specs.FileQueueCalls.{AllObey, IsDoneAt, IsSlotBelow, KnowsOthers}
+use Rattle.bb_memory_file.specs.FileQueueCalls.{AllObey, IsDoneAt, KnowsOthers}
 use Rattle.bb_memory_pool_machine.proofs.PoolSteps.{test_same}
 use Rattle.std.proofs.Common.{Some, refl, subst, sym, true, ℕ, ◌<◌, ◌∙◌, ◌≡◌}
 use Rattle.std.proofs.lemmas.Bool.{ne_eqb}
@@ -42,5 +42,10 @@ module _ (old : FileLog) (bucket : ℕ) where
 
     pub done_obeys : IsDone 0 one slot bucket lap new → (depth : ℕ) → AllObey depth old → AllObey depth new
     done_obeys done depth obey = subst (λ (log : FileLog). AllObey depth log) (sym done.1)
-        (λ number. (tt, ((bucket, lap, Some (In slot found.found.0), found.found.1, refl),
-        looked_obeys (whereabouts.In slot lap) one found depth obey number)))
+        (λ number. (
+          tt,
+          (
+            (bucket, lap, Some (In slot found.found.0), found.found.1, refl),
+            looked_obeys (whereabouts.In slot lap) one found depth obey number,
+          ),
+        ))

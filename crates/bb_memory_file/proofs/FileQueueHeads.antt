@@ -1,15 +1,14 @@
 -- The slot of a queue whose lap comes first.
-use Rattle.bb_memory_file.proofs.FileQueueSlots.{below_end, slot_in, slot_range}
-use Rattle.bb_memory_file.proofs.FileQueueWalks.{happens_now, happens_on, its_below, look_happened, look_later, looks_moment, looks_then, same_on, same_scene, same_slot}
+use Rattle.bb_memory_file.proofs.FileQueueSlots.{slot_in, slot_range}
+use Rattle.bb_memory_file.proofs.FileQueueWalks.{happens_now, happens_on, look_happened, look_later, looks_moment, looks_then, same_on, same_scene, same_slot}
 use Rattle.bb_memory_file.specs.FileCode.{Event, FileLog, LoadSlot, told}
 use Rattle.bb_memory_file.specs.FileNames.{Slot}
 use Rattle.bb_memory_file.specs.FileQueueCalls.{Happens, IsFar, IsWrong, Looks, Note, far, nothing}
-use Rattle.bb_memory_file.specs.FileQueueLooks.{KnowsHead, Look, Position, last_lap}
+use Rattle.bb_memory_file.specs.FileQueueLooks.{Look, Position, last_lap}
 use Rattle.bb_memory_file.specs.FileQueueSteps.{FindsHead, KnowsSame}
-use Rattle.bb_memory_file_machine.specs.FileMachine.{FileScene}
-use Rattle.bb_memory_file_machine.specs.FileQueues.{FileQueue, IsLater, IsMoment, IsSlotOf, IsWhole, earlier, lap_before, lap_said, now}
-use Rattle.std.proofs.Common.{Bool, List, None, Some, arith, false, refl, subst, sym, true, ℕ, ◌%◌, ◌*◌, ◌+◌, ◌-◌, ◌<◌, ◌∙◌, ◌∷◌, ◌≡◌, ◌≢◌, ◌≤◌}
-use Rattle.std.proofs.lemmas.Bool.{eqb-false, eqb-true, le-ltb, lt-ltb, ltb-false, ltb-true}
+use Rattle.bb_memory_file_machine.specs.FileQueues.{FileQueue, IsLater, IsMoment, earlier, lap_said, now}
+use Rattle.std.proofs.Common.{Bool, List, Some, arith, false, refl, subst, sym, true, ℕ, ◌%◌, ◌*◌, ◌+◌, ◌-◌, ◌<◌, ◌≡◌, ◌≤◌}
+use Rattle.std.proofs.lemmas.Bool.{eqb-false, eqb-true, ltb-false, ltb-true}
 use Rattle.std.specs.Prelude.{if◌then◌else◌, nat_lt, ◌==◌, ◌^◌}
 
 -- LAPS
@@ -262,11 +261,11 @@ module _ (queue : FileQueue) (old : FileLog) (lap slot : ℕ) (head : Position) 
         (
           (slot_in queue positive head.slot least (omega (arith, less, most)), heading.head_small),
           (λ other its.
-          let range = slot_range queue positive other its in
-          let above = range.0 in
-          let below = range.1 in
-          let known = heading.others other above (omega (arith, below, past)) in
-          (known.word, known.look, by_order other known (nat_lt other head.slot) refl)),
+              let range = slot_range queue positive other its in
+              let above = range.0 in
+              let below = range.1 in
+              let known = heading.others other above (omega (arith, below, past)) in
+              (known.word, known.look, by_order other known (nat_lt other head.slot) refl)),
         ),
         (heading.word, heading.seen, heading.word_is),
       )

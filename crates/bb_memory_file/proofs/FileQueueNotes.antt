@@ -5,10 +5,10 @@ use Rattle.bb_memory_file.specs.FileCalls.{IsReceive, unseen}
 use Rattle.bb_memory_file.specs.FileCalls.received as received
 use Rattle.bb_memory_file.specs.FileCode.{Event, FileLog, Holds, Known, LoadFlag, MissFlag, Unknown, known_of, told}
 use Rattle.bb_memory_file.specs.FileLog.{held_still, is_held}
-use Rattle.bb_memory_file.specs.FileNames.{DetachedBy, Empty, FileFlag, Free, HeldBy, In, Message, Nowhere, SentTo, Slot}
+use Rattle.bb_memory_file.specs.FileNames.{DetachedBy, Empty, FileFlag, Free, HeldBy, Message, SentTo, Slot}
 use Rattle.bb_memory_file.specs.FileNotes.{AreNoted, Cached, InUse, IsNoted, Note, Undone, Unheld}
-use Rattle.bb_memory_file.specs.FileQueueLooks.{CanPass, Look, held, over, unsent}
 use Rattle.bb_memory_file.specs.FileQueueCalls.{IsStray}
+use Rattle.bb_memory_file.specs.FileQueueLooks.{CanPass, Look, held, over, unsent}
 use Rattle.bb_memory_file.specs.FileQueueSteps.{KnowsSame, Passed, was_held, was_over, was_unsent}
 use Rattle.bb_memory_file_machine.specs.FileMachine.{same_flag}
 use Rattle.bb_memory_file_machine.specs.FileQueues.{IsMoment, earlier, lap_said, now}
@@ -86,36 +86,36 @@ module _ (old new : FileLog) (notes : List Note) (bucket : ℕ) (was : slice_get
           other_by other note apart (sym (slice_get-set_other notes bucket other Undone apart) ∙ is)
 
 module _ (old : FileLog) (notes : List Note) (bucket : ℕ) (was : slice_get notes bucket ≡ Some Unheld) (noted : AreNoted old notes)
-    where
-  apart_by : (other : ℕ) → other ≢ bucket → (bucket == other) ≡ false
-  apart_by other apart = ne_eqb bucket other (λ same. apart (sym same))
+  where
+    apart_by : (other : ℕ) → other ≢ bucket → (bucket == other) ≡ false
+    apart_by other apart = ne_eqb bucket other (λ same. apart (sym same))
 
-  -- a look at the bucket's flag
-  pub noted_flag : (new : FileLog) (found : FileFlag) → new ≡ told old (LoadFlag bucket found) → AreNoted new notes
-  noted_flag new found is = subst (λ log. AreNoted log notes) (sym is)
-      (noted_again old (told old (LoadFlag bucket found)) notes bucket was refl
-      (λ other apart. rw (apart_by other apart) refl) noted
-      (rw (test_same bucket bucket refl)
-      (unheld_still (known_of old bucket) (same_flag found (HeldBy old.party)) (noted.each bucket Unheld was))))
+    -- a look at the bucket's flag
+    pub noted_flag : (new : FileLog) (found : FileFlag) → new ≡ told old (LoadFlag bucket found) → AreNoted new notes
+    noted_flag new found is = subst (λ log. AreNoted log notes) (sym is)
+        (noted_again old (told old (LoadFlag bucket found)) notes bucket was refl
+        (λ other apart. rw (apart_by other apart) refl) noted
+        (rw (test_same bucket bucket refl)
+        (unheld_still (known_of old bucket) (same_flag found (HeldBy old.party)) (noted.each bucket Unheld was))))
 
-  module _ (slot lap size : ℕ) (new : FileLog) where
-    pub noted_missed : IsReceive 0 old slot lap bucket size received.NotSent new → AreNoted new notes
-    noted_missed did = subst (λ log. AreNoted log notes) (sym did.1)
-        (noted_same old (told old (MissFlag bucket (SentTo slot lap))) notes refl (λ other. refl) noted)
+    module _ (slot lap size : ℕ) (new : FileLog) where
+      pub noted_missed : IsReceive 0 old slot lap bucket size received.NotSent new → AreNoted new notes
+      noted_missed did = subst (λ log. AreNoted log notes) (sym did.1)
+          (noted_same old (told old (MissFlag bucket (SentTo slot lap))) notes refl (λ other. refl) noted)
 
-    pub noted_wrong : IsReceive 0 old slot lap bucket size received.Wrong new → AreNoted new notes
-    noted_wrong did = noted_again old new notes bucket was (ap (λ (log : FileLog). log.scene) did.3)
-        (λ other apart. subst (λ log. unseen (known_of log other) ≡ unseen (known_of old other)) (sym did.3)
-        (rw (apart_by other apart) refl)) noted
-        (subst (λ log. IsNoted (known_of log bucket) Unheld) (sym did.3) (rw (test_same bucket bucket refl) tt))
+      pub noted_wrong : IsReceive 0 old slot lap bucket size received.Wrong new → AreNoted new notes
+      noted_wrong did = noted_again old new notes bucket was (ap (λ (log : FileLog). log.scene) did.3)
+          (λ other apart. subst (λ log. unseen (known_of log other) ≡ unseen (known_of old other)) (sym did.3)
+          (rw (apart_by other apart) refl)) noted
+          (subst (λ log. IsNoted (known_of log bucket) Unheld) (sym did.3) (rw (test_same bucket bucket refl) tt))
 
-    pub noted_message : (length : ℕ) → IsReceive 0 old slot lap bucket size (received.Message length) new →
-        AreNoted new (slice_set notes bucket Undone)
-    noted_message length did = noted_undone old new notes bucket was (ap (λ (log : FileLog). log.scene) did.2)
-        (λ other apart. subst (λ log. unseen (known_of log other) ≡ unseen (known_of old other)) (sym did.2)
-        (rw (apart_by other apart) refl)) noted
-        (subst (λ log. IsNoted (known_of log bucket) Undone) (sym did.2)
-        (rw (test_same bucket bucket refl, test_same old.party old.party refl) tt))
+      pub noted_message : (length : ℕ) → IsReceive 0 old slot lap bucket size (received.Message length) new →
+          AreNoted new (slice_set notes bucket Undone)
+      noted_message length did = noted_undone old new notes bucket was (ap (λ (log : FileLog). log.scene) did.2)
+          (λ other apart. subst (λ log. unseen (known_of log other) ≡ unseen (known_of old other)) (sym did.2)
+          (rw (apart_by other apart) refl)) noted
+          (subst (λ log. IsNoted (known_of log bucket) Undone) (sym did.2)
+          (rw (test_same bucket bucket refl, test_same old.party old.party refl) tt))
 
 -- MESSAGES THAT A RECEIVER PASSES
 

@@ -1,14 +1,14 @@
 -- Where a receiver finds that a queue begins.
-use Rattle.bb_memory_file.proofs.FileQueueWalks.{happens_now, happens_since, loses_look, looks_moment, looks_on, looks_then, moment_gets, moment_trans, passes_head, passes_look, passes_same, passes_to, same_on, same_scene, same_slot, stops_look, stops_same}
-use Rattle.bb_memory_file.specs.FileCode.{Event, FileLog, LoadFlag, LoadSlot, MissFlag, told}
+use Rattle.bb_memory_file.proofs.FileQueueWalks.{happens_now, happens_since, looks_moment, looks_on, loses_look, passes_head, passes_look, passes_to, same_scene, stops_look}
+use Rattle.bb_memory_file.specs.FileCode.{Event, FileLog, LoadSlot, MissFlag, told}
 use Rattle.bb_memory_file.specs.FileNames.{Message, SentTo, Slot}
 use Rattle.bb_memory_file.specs.FileQueueCalls.{Happens, IsOver, IsWrong, Looks, Loses, Note, Passes, back, beaten, far, moves_on, older, overtaken, searched, stray, unbeaten}
-use Rattle.bb_memory_file.specs.FileQueueLooks.{KnowsHead, Position, Queue, position_after, position_on, queue_in}
-use Rattle.bb_memory_file.specs.FileQueueSteps.{FindsHead, FindsOldest, KnowsSame, Oldest, Stop, StopsAt}
+use Rattle.bb_memory_file.specs.FileQueueLooks.{KnowsHead, Position, Queue, position_after, queue_in}
+use Rattle.bb_memory_file.specs.FileQueueSteps.{FindsHead, FindsOldest, Oldest, Stop, StopsAt}
 use Rattle.bb_memory_file.specs.FileQueueSteps.oldest as oldest
 use Rattle.bb_memory_file_machine.specs.FileMachine.{FileScene}
-use Rattle.bb_memory_file_machine.specs.FileQueues.{FileQueue, IsMoment, earlier, lap_said, now}
-use Rattle.std.proofs.Common.{List, None, Option, Some, ap, arith, inl, inr, refl, subst, sym, ℕ, ◌+◌, ◌<◌, ◌∙◌, ◌∷◌, ◌≡◌, ◌≢◌, ◌≤◌}
+use Rattle.bb_memory_file_machine.specs.FileQueues.{FileQueue, IsMoment, lap_said}
+use Rattle.std.proofs.Common.{List, None, Option, Some, arith, inl, inr, subst, sym, ℕ, ◌+◌, ◌<◌, ◌≡◌, ◌≢◌}
 use Rattle.std.specs.Prelude.{◌^◌}
 
 -- SINCE AN EARLIER MOMENT
@@ -44,9 +44,10 @@ pub oldest_since : (queue : FileQueue) (old one : FileLog) (found : Oldest) (new
     FindsOldest queue one found new → FindsOldest queue old found new
 oldest_since queue old one (oldest.At stop) new seen (before, since, knows, is, lap) =
     (before, looks_on old one seen before since, knows, is, lap)
-oldest_since queue old one oldest.Wrong new seen (since, wrong) =
-    (looks_on old one seen new since,
-    (λ notes. wrong_since notes queue old.events one.events new.events (looks_moment old one seen) (wrong notes)))
+oldest_since queue old one oldest.Wrong new seen (since, wrong) = (
+  looks_on old one seen new since,
+  (λ notes. wrong_since notes queue old.events one.events new.events (looks_moment old one seen) (wrong notes)),
+)
 oldest_since queue old one oldest.Overtaken new seen lost =
     let all : 2 ^ 16 + 0 ≡ 2 ^ 16 = omega arith in
     subst (λ (n : ℕ). Loses queue old n new) all (loses_on queue old one 0 (searched 0 old one unbeaten seen) (2 ^ 16) new lost)
@@ -98,9 +99,9 @@ module _ (queue : FileQueue) (positive : 0 < queue.depth) (old : FileLog) (head 
     | inl not ↦ absurd (not over)
     | inr all ↦
         overtaken count old head new (position_after queue stop.position) lost knows
-            (subst (λ n. Passes IsOver queue old head (n + 1) new (position_after queue stop.position)) all
-            (subst (λ log. Passes IsOver queue old head (stops.0 + 1) log (position_after queue stop.position)) (sym stops.4)
-            (moves_on stops.0 stops.1 stop.position stop.word stops.3 over)))
+        (subst (λ n. Passes IsOver queue old head (n + 1) new (position_after queue stop.position)) all
+        (subst (λ log. Passes IsOver queue old head (stops.0 + 1) log (position_after queue stop.position)) (sym stops.4)
+        (moves_on stops.0 stops.1 stop.position stop.word stops.3 over)))
   ]
 
 -- ANEW
@@ -117,7 +118,7 @@ module _ (queue : FileQueue) (old middle : FileLog) (count : ℕ) (lost : Loses 
   anew_far wrong = (
     anew_seen,
     (λ notes. wrong_since notes queue old.events middle.events one.events
-    (looks_moment old middle (loses_look queue old count middle lost)) (wrong notes)),
+        (looks_moment old middle (loses_look queue old count middle lost)) (wrong notes)),
   )
 
   module _ (positive : 0 < queue.depth) (head : Position) (found : FindsHead queue middle (Some head) one) (stop : Stop)

@@ -4,20 +4,20 @@ use Rattle.bb_memory_file.proofs.FileQueueSlots.{after_its, lap_after, lap_still
 use Rattle.bb_memory_file.proofs.FileQueueWalks.{happens_now, happens_on, happens_since, head_later, its_below, look_happened, look_later, look_now, looks_gets, looks_make, looks_moment, looks_on, looks_then, loses_look, moment_trans, same_party, same_scene, same_slot}
 use Rattle.bb_memory_file.specs.FileCalls.{IsReceive, Received}
 use Rattle.bb_memory_file.specs.FileCalls.received as received
-use Rattle.bb_memory_file.specs.FileCode.{Event, ExchangeFlag, FileLog, LoadEntry, LoadFlag, LoadSlot, MissFlag, StoreFlag, told}
+use Rattle.bb_memory_file.specs.FileCode.{ExchangeFlag, FileLog, LoadEntry, LoadFlag, LoadSlot, MissFlag, StoreFlag, told}
 use Rattle.bb_memory_file.specs.FileLog.{IsLap}
 use Rattle.bb_memory_file.specs.FileNames.{Empty, HeldBy, In, Message, SentTo, Slot}
 use Rattle.bb_memory_file.specs.FileNotes.{AreNoted}
 use Rattle.bb_memory_file.specs.FileNotes.taken as taken
-use Rattle.bb_memory_file.specs.FileQueueCalls.{AllObey, Grows, Happens, IsOver, IsReceipt, IsStray, IsWrong, Looks, Loses, NoneSent, Note, Taken, Unheld, back, beaten, looks, nothing, older, stray, unbeaten}
+use Rattle.bb_memory_file.specs.FileQueueCalls.{AllObey, Grows, Happens, IsOver, IsReceipt, IsStray, IsWrong, Looks, Loses, NoneSent, Note, Taken, Unheld, back, beaten, nothing, older, stray, unbeaten}
 use Rattle.bb_memory_file.specs.FileQueueLooks.{CanPass, CanTake, IsPosition, KnowsHead, Look, Position, Queue, over, position_after, position_on, queue_in}
-use Rattle.bb_memory_file.specs.FileQueueSteps.{FindsOldest, HasBegun, LooksAt, Passed, PassesOn, Stop, Walked, Walks, was_over}
+use Rattle.bb_memory_file.specs.FileQueueSteps.{FindsOldest, HasBegun, LooksAt, Passed, PassesOn, Stop, Walks, was_over}
 use Rattle.bb_memory_file.specs.FileQueueSteps.look as look
 use Rattle.bb_memory_file.specs.FileQueueSteps.oldest as oldest
 use Rattle.bb_memory_file.specs.FileQueueSteps.walked as walked
 use Rattle.bb_memory_file_machine.specs.FileMachine.{FileScene}
 use Rattle.bb_memory_file_machine.specs.FileQueues.{FileQueue, IsLater, IsMoment, IsSlotOf, IsWhole, earlier, lap_before, lap_said, now}
-use Rattle.std.proofs.Common.{Bool, List, None, Some, [], ap, arith, false, inl, inr, refl, subst, sym, true, ℕ, ◌+◌, ◌/◌, ◌<◌, ◌∙◌, ◌∷◌, ◌≡◌, ◌≢◌, ◌≤◌, ◌⊎◌}
+use Rattle.std.proofs.Common.{Bool, List, Some, [], ap, arith, false, inl, inr, refl, subst, sym, true, ℕ, ◌+◌, ◌/◌, ◌<◌, ◌∙◌, ◌∷◌, ◌≡◌, ◌≢◌, ◌≤◌, ◌⊎◌}
 use Rattle.std.proofs.lemmas.Bool.{eqb-false, eqb-true}
 use Rattle.std.specs.Prelude.{slice_get, suc, zero, ◌==◌, ◌^◌}
 
@@ -203,9 +203,10 @@ module _ (queue : FileQueue) (one : FileLog) (scene : queue.scene ≡ one.scene)
 pub receive_grows : (one : FileLog) (slot lap bucket size : ℕ) (answer : Received) (new : FileLog) →
     IsReceive 0 one slot lap bucket size answer new → Grows one new
 receive_grows one slot lap bucket size received.NotSent new did = (MissFlag bucket (SentTo slot lap) ∷ [], did.1)
-receive_grows one slot lap bucket size received.Wrong new did =
-    (StoreFlag bucket (SentTo slot lap) ∷ LoadEntry bucket did.0 ∷ ExchangeFlag bucket (SentTo slot lap) (HeldBy one.party) ∷ [],
-    did.3)
+receive_grows one slot lap bucket size received.Wrong new did = (
+  StoreFlag bucket (SentTo slot lap) ∷ LoadEntry bucket did.0 ∷ ExchangeFlag bucket (SentTo slot lap) (HeldBy one.party) ∷ [],
+  did.3,
+)
 receive_grows one slot lap bucket size (received.Message length) new did =
     (LoadEntry bucket (In slot length) ∷ ExchangeFlag bucket (SentTo slot lap) (HeldBy one.party) ∷ [], did.2)
 
@@ -321,13 +322,13 @@ module _ (queue : FileQueue) (notes : List Note) (begun : FileLog) (head : Posit
         elim why [
           | inl gone ↦
               back head count (Message head.lap has.2.0) word new.events (omega (arith, less, most)) begun_on.1 begun_on.2.1 refl
-                  last_after seen gone.0 gone.1
+              last_after seen gone.0 gone.1
           | inr (bucket, message, is) ↦
               stray (position_on queue head count).slot (position_on queue head count).lap bucket
-                  (positions_its queue positive head has.1.0 count).0
-                  (subst (λ w. Happens begun.events last.events (LoadSlot (position_on queue head count).slot w)) message
-                  (happens_since begun.events new.events last.events (LoadSlot (position_on queue head count).slot word)
-                  (looks_moment begun new begun_seen) seen)) is
+              (positions_its queue positive head has.1.0 count).0
+              (subst (λ w. Happens begun.events last.events (LoadSlot (position_on queue head count).slot w)) message
+              (happens_since begun.events new.events last.events (LoadSlot (position_on queue head count).slot word)
+              (looks_moment begun new begun_seen) seen)) is
         ],
       )
 
@@ -411,17 +412,17 @@ module _ (queue : FileQueue) (positive : 0 < queue.depth) (notes : List Note) (o
         (λ at. apart (at ∙ sym (ap (λ (p : Position). p.slot) sent.1)))) [
           | inl (less, below, at, lap) ↦
               subst (λ l. CanPass two.party two.events (sent.3.event ∷ sent.3.before) other l)
-                  (sym (ap (λ (p : Position). lap_before p.lap p.slot other) sent.1 ∙ lap))
-                  (subst (λ s. CanPass two.party two.events (sent.3.event ∷ sent.3.before) s (position_on queue head less).lap) at
-                  (subst (λ (p : ℕ). CanPass p two.events (sent.3.event ∷ sent.3.before) (position_on queue head less).slot
-                  (position_on queue head less).lap) (sym (same_party one two second))
-                  (can_since one.party two.events (sent.3.event ∷ sent.3.before) one.events (position_on queue head less).slot
-                  (position_on queue head less).lap sent.3.past (passes less below))))
+              (sym (ap (λ (p : Position). lap_before p.lap p.slot other) sent.1 ∙ lap))
+              (subst (λ s. CanPass two.party two.events (sent.3.event ∷ sent.3.before) s (position_on queue head less).lap) at
+              (subst (λ (p : ℕ). CanPass p two.events (sent.3.event ∷ sent.3.before) (position_on queue head less).slot
+              (position_on queue head less).lap) (sym (same_party one two second))
+              (can_since one.party two.events (sent.3.event ∷ sent.3.before) one.events (position_on queue head less).slot
+              (position_on queue head less).lap sent.3.past (passes less below))))
           | inr lap ↦
               let known = knows.1 other its in
               over known.0 (look_later old.events two.events other known.0 (looks_moment old two two_seen) known.1)
-                  (subst (λ l. IsLater l (lap_said known.0))
-                  (sym (ap (λ (p : Position). lap_before p.lap p.slot other) sent.1 ∙ lap)) known.2)
+              (subst (λ l. IsLater l (lap_said known.0))
+              (sym (ap (λ (p : Position). lap_before p.lap p.slot other) sent.1 ∙ lap)) known.2)
         ];
   }
 

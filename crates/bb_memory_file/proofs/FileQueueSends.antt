@@ -1,21 +1,20 @@
 -- Senders: what one try is, and many of them.
-use Rattle.bb_memory_file.proofs.FileLooks.{moment_on}
-use Rattle.bb_memory_file.proofs.FileMessages.{seen_away}
-use Rattle.bb_memory_file.proofs.FileQueueSlots.{after_its, last_apart, last_not_later, never_later}
-use Rattle.bb_memory_file.proofs.FileQueueWalks.{after_filled, happens_since, its_below, looks_gets, looks_make, looks_moment, looks_obey, looks_on, looks_then, moment_gets, moment_trans, same_party, same_scene, tail_later}
 use Rattle.bb_memory_file.proofs.FileEvents.{append_assoc, gets_on}
+use Rattle.bb_memory_file.proofs.FileMessages.{seen_away}
+use Rattle.bb_memory_file.proofs.FileQueueSlots.{last_apart, last_not_later, never_later}
+use Rattle.bb_memory_file.proofs.FileQueueWalks.{after_filled, happens_since, its_below, looks_gets, looks_make, looks_obey, looks_then, moment_gets, same_party, same_scene, tail_later}
 use Rattle.bb_memory_file.proofs.FileWalks.{walk_on}
-use Rattle.bb_memory_file.specs.FileCalls.{Gets, IsFill, Makes, unseen}
-use Rattle.bb_memory_file.specs.FileCode.{Event, ExchangeSlot, FileLog, Has, Holds, IsWalk, Known, LoadSlot, MissSlot, StoreEntry, StoreFlag, Unknown, known_of, told}
-use Rattle.bb_memory_file.specs.FileLog.{is_clear, with_entry, with_seen}
+use Rattle.bb_memory_file.specs.FileCalls.{IsFill, Makes, unseen}
+use Rattle.bb_memory_file.specs.FileCode.{Event, ExchangeSlot, FileLog, Holds, Known, LoadSlot, MissSlot, StoreEntry, StoreFlag, Unknown, known_of, told}
+use Rattle.bb_memory_file.specs.FileLog.{is_clear, with_entry}
 use Rattle.bb_memory_file.specs.FileNames.{Empty, FileStep, Fill, In, Message, Next, Nowhere, Outside, Post, SentTo, Slot}
 use Rattle.bb_memory_file.specs.FileQueueCalls.{AllObey, Attempts, Full, Grows, IsFull, KnowsOthers, Looks, Overtaken, Sending, SendsBy, Sent, attempts, missed, passed, sought, untried}
 use Rattle.bb_memory_file.specs.FileQueueLooks.{CanFill, KnowsTail, Look, Position, Queue, last_lap, position_after, queue_in}
 use Rattle.bb_memory_file.specs.FileQueueSteps.{FindsTurn, IsTurn, KnowsSame, Stop}
 use Rattle.bb_memory_file_machine.specs.FileMachine.{FileScene}
-use Rattle.bb_memory_file_machine.specs.FileQueues.{FileQueue, IsFilled, IsMoment, IsSlotOf, IsWhole, earlier, now, slot_before}
+use Rattle.bb_memory_file_machine.specs.FileQueues.{FileQueue, IsFilled, IsMoment, IsWhole, earlier, now, slot_before}
 use Rattle.bb_memory_pool_machine.proofs.PoolSteps.{test_same}
-use Rattle.std.proofs.Common.{List, None, Option, Some, [], ap, arith, false, inl, inr, refl, subst, sym, true, ℕ, ◌++◌, ◌+◌, ◌/◌, ◌<◌, ◌∙◌, ◌∷◌, ◌≡◌, ◌≢◌, ◌≤◌}
+use Rattle.std.proofs.Common.{List, None, Some, [], ap, arith, false, inl, inr, refl, subst, sym, true, ℕ, ◌++◌, ◌+◌, ◌/◌, ◌<◌, ◌∙◌, ◌∷◌, ◌≡◌, ◌≢◌}
 use Rattle.std.proofs.lemmas.Bool.{ne_eqb}
 use Rattle.std.specs.Prelude.{◌^◌}
 
@@ -288,8 +287,11 @@ module _ (queue : FileQueue) (bucket size : ℕ) (old middle new : FileLog) (gro
   full_since last position word (inr (unfilled, nonempty, seen)) = inr (
     unfilled,
     nonempty,
-    (seen.0, happens_since old.events middle.events last.events (LoadSlot (slot_before queue position.slot) seen.0) since seen.1,
-    seen.2),
+    (
+      seen.0,
+      happens_since old.events middle.events last.events (LoadSlot (slot_before queue position.slot) seen.0) since seen.1,
+      seen.2,
+    ),
   )
 
   -- a try after so many
@@ -329,8 +331,8 @@ module _ (queue : FileQueue) (bucket size : ℕ) (old middle new : FileLog) (gro
   again_on (tried, seen, made, still) = (
     tried ++ before.0,
     (let one : 1 + count ≡ count + 1 = omega arith in
-    subst (λ (n : ℕ). Attempts queue bucket size old (tried ++ before.0) n new) one
-    (attempts_on queue bucket size old middle before.0 count before.1 tried 1 new seen)),
+        subst (λ (n : ℕ). Attempts queue bucket size old (tried ++ before.0) n new) one
+        (attempts_on queue bucket size old middle before.0 count before.1 tried 1 new seen)),
     makes_on tried (λ p. []) made,
     still,
   )

@@ -1,13 +1,11 @@
 -- The slots of a queue, the positions in it, and their laps, as numbers.
-use Rattle.bb_memory_file.specs.FileLog.{IsLap}
-use Rattle.bb_memory_file.specs.FileQueueCalls.{IsFar}
 use Rattle.bb_memory_file.specs.FileQueueLooks.{IsPosition, Position, last_lap, position_after}
 use Rattle.bb_memory_file_machine.specs.FileQueues.{FileQueue, IsLater, IsSlotOf, lap_before, next_lap, slot_before}
-use Rattle.std.proofs.Common.{Bool, ap, arith, false, inl, inr, refl, subst, sym, true, ℕ, ◌%◌, ◌*◌, ◌+◌, ◌-◌, ◌/◌, ◌<◌, ◌∙◌, ◌≡◌, ◌≢◌, ◌≤◌}
+use Rattle.std.proofs.Common.{Bool, ap, arith, false, refl, subst, true, ℕ, ◌%◌, ◌*◌, ◌+◌, ◌-◌, ◌/◌, ◌<◌, ◌∙◌, ◌≡◌, ◌≢◌, ◌≤◌}
 use Rattle.std.proofs.Math.Nat.{div-mul-le_self, lt-div-mul-add}
-use Rattle.std.proofs.lemmas.Bool.{eqb-false, eqb-true, le-ltb, lt-ltb, ltb-false, ltb-true, ne_eqb}
+use Rattle.std.proofs.lemmas.Bool.{le-ltb, lt-ltb, ltb-false, ltb-true, ne_eqb}
 use Rattle.std.proofs.lemmas.Nat.{div-mul-add, mod-mul-add}
-use Rattle.std.specs.Prelude.{MatchBool, if◌then◌else◌, nat_lt, ◌==◌, ◌^◌, ◌⊎◌}
+use Rattle.std.specs.Prelude.{MatchBool, if◌then◌else◌, nat_lt, ◌^◌}
 
 -- LAPS
 
@@ -137,7 +135,7 @@ module _ (queue : FileQueue) (positive : 0 < queue.depth) where
         ends_or_not (λ p. lap_before p.lap p.slot other ≡ lap_before position.lap position.slot other)
         (λ within. by_order (nat_lt other position.slot) refl)
         (λ ends. rw (le-ltb other (queue.number * queue.depth) least, lt-ltb other position.slot (omega (arith, less, ends, apart)))
-            (last_next position.lap its.1))
+        (last_next position.lap its.1))
       where
         by_order : (test : Bool) → nat_lt other position.slot ≡ test →
             lap_before position.lap (position.slot + 1) other ≡ lap_before position.lap position.slot other

@@ -1,10 +1,9 @@
 -- Walks over the slots of a queue: which events they are, and what the party knows then.
-use Rattle.bb_memory_file.proofs.FileLooks.{look_on, moment_on}
+use Rattle.bb_memory_file.proofs.FileLooks.{moment_on}
 use Rattle.bb_memory_file.proofs.FileMessages.{seen_away}
 use Rattle.bb_memory_file.proofs.FileQueueSlots.{after_its, before_after, first_its, lap_after, lap_still, slot_range}
 use Rattle.bb_memory_file.specs.FileCalls.{Gets, Makes, unseen}
-use Rattle.bb_memory_file.specs.FileCode.{ChangesNone, EmptySlot, Event, ExchangeFlag, ExchangeSlot, FileLog, LoadEntry, LoadFlag, LoadLife, LoadSlot, MissFlag, MissSlot, StoreEntry, StoreFlag, StoreLife, begins, known_of, told}
-use Rattle.bb_memory_file.specs.FileCode.{looks as path_looks}
+use Rattle.bb_memory_file.specs.FileCode.{ChangesNone, EmptySlot, Event, ExchangeFlag, ExchangeSlot, FileLog, LoadEntry, LoadFlag, LoadLife, LoadSlot, MissFlag, MissSlot, StoreEntry, StoreFlag, StoreLife, begins, known_of, looks as path_looks, told}
 use Rattle.bb_memory_file.specs.FileLog.{IsLap, lap_in, seen_in}
 use Rattle.bb_memory_file.specs.FileNames.{Outside, Slot}
 use Rattle.bb_memory_file.specs.FileQueueCalls.{AllObey, Grows, Happens, IsOver, Looks, Loses, Passes, beaten, looks, moves_on, nothing, older, overtaken, searched, stays, unbeaten}
@@ -12,9 +11,9 @@ use Rattle.bb_memory_file.specs.FileQueueLooks.{EventObeys, IsPosition, KnowsHea
 use Rattle.bb_memory_file.specs.FileQueueSteps.{FindsTurn, IsTurn, KnowsSame, SeesBefore, Stop, StopsAt}
 use Rattle.bb_memory_file_machine.specs.FileMachine.{FileScene}
 use Rattle.bb_memory_file_machine.specs.FileQueues.{FileQueue, IsFilled, IsLater, IsMoment, IsSlotOf, IsWhole, earlier, lap_before, lap_said, now, slot_before}
-use Rattle.std.proofs.Common.{Bool, List, [], ap, arith, false, inl, inr, refl, subst, sym, true, ℕ, ◌*◌, ◌++◌, ◌+◌, ◌<◌, ◌∙◌, ◌∷◌, ◌≡◌, ◌≤◌}
+use Rattle.std.proofs.Common.{Bool, List, [], ap, arith, false, inl, inr, refl, subst, sym, true, ℕ, ◌*◌, ◌+◌, ◌<◌, ◌∙◌, ◌∷◌, ◌≡◌, ◌≤◌}
 use Rattle.std.proofs.lemmas.Bool.{eqb-false, eqb-true}
-use Rattle.std.specs.Prelude.{suc, zero, ◌==◌, ◌⊎◌}
+use Rattle.std.specs.Prelude.{suc, ◌==◌, ◌⊎◌}
 
 -- MOMENTS
 
@@ -125,9 +124,10 @@ module _ (old : FileLog) where
 
   pub looks_obey : (depth : ℕ) (new : FileLog) → Looks old new → AllObey depth old → AllObey depth new
   looks_obey depth _ nothing obey number = obey number
-  looks_obey depth _ (looks log event rest quiet) obey number =
-      (quiet_obeys log.party (record { scene = log.scene; number = number; depth = depth }) log.events event quiet,
-      looks_obey depth log rest obey number)
+  looks_obey depth _ (looks log event rest quiet) obey number = (
+    quiet_obeys log.party (record { scene = log.scene; number = number; depth = depth }) log.events event quiet,
+    looks_obey depth log rest obey number,
+  )
 
   pub looks_look : (new : FileLog) (event : Event) → ChangesNone event → new ≡ told old event → Looks old new
   looks_look new event quiet is = subst (λ log. Looks old log) (sym is) (looks old event nothing quiet)

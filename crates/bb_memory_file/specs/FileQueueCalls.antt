@@ -13,7 +13,7 @@ use Rattle.bb_memory_file.specs.declared.joined.Taken.TheVariants as taken
 pub use Rattle.bb_memory_file.specs.declared.queues.Sending.{Sending}
 pub use Rattle.bb_memory_file.specs.declared.queues.Sending.TheVariants.{Full, Overtaken, Sent}
 use Rattle.bb_memory_file_machine.specs.FileQueues.{FileQueue, IsFilled, IsLater, IsMoment, IsSlotOf, lap_before, lap_said, slot_before}
-use Rattle.std.specs.Prelude.{List, Option, Some, [], slice_get, slice_set, suc, true, zero, ℕ, ◌%◌, ◌+◌, ◌-◌, ◌<◌, ◌^◌, ◌∷◌, ◌≡◌, ◌≢◌, ◌≤◌, ◌⊎◌}
+use Rattle.std.specs.Prelude.{List, Option, Some, [], slice_get, slice_set, true, ℕ, ◌%◌, ◌+◌, ◌-◌, ◌<◌, ◌^◌, ◌∷◌, ◌≡◌, ◌≢◌, ◌≤◌, ◌⊎◌}
 
 -- the party has done more since
 abbrev pub Grows : FileLog → FileLog → Type 0

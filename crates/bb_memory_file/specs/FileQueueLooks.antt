@@ -2,13 +2,13 @@
 -- may make by that.
 --
 -- A party obeys the rules of a queue by what it has seen itself, and needs no word of the file for that.
-use Rattle.bb_memory_file.specs.FileLog.{EmptySlot, Event, ExchangeFlag, ExchangeSlot, FileLog, Has, Holds, IsLap, LoadFlag, LoadSlot, MissFlag, is_held, known_by}
-use Rattle.bb_memory_file.specs.FileNames.{Empty, Entry, FileFlag, HeldBy, Message, SentTo, Slot}
+use Rattle.bb_memory_file.specs.FileLog.{EmptySlot, Event, ExchangeFlag, ExchangeSlot, Has, Holds, IsLap, LoadFlag, LoadSlot, MissFlag, is_held, known_by}
+use Rattle.bb_memory_file.specs.FileNames.{Empty, Entry, HeldBy, Message, SentTo, Slot}
 pub use Rattle.bb_memory_file.specs.declared.queues.Position.{Position}
 pub use Rattle.bb_memory_file.specs.declared.queues.Queue.{Queue}
 use Rattle.bb_memory_file_machine.specs.FileMachine.{FileScene}
-use Rattle.bb_memory_file_machine.specs.FileQueues.{FileQueue, IsFilled, IsLater, IsMoment, IsSlotOf, IsWhole, lap_before, lap_said, next_lap, slot_before}
-use Rattle.std.specs.Prelude.{List, Option, Some, [], if◌then◌else◌, nat_lt, suc, true, zero, ℕ, ◌%◌, ◌*◌, ◌+◌, ◌-◌, ◌<◌, ◌^◌, ◌∷◌, ◌≡◌, ◌≢◌}
+use Rattle.bb_memory_file_machine.specs.FileQueues.{FileQueue, IsFilled, IsLater, IsMoment, IsSlotOf, lap_before, lap_said, next_lap, slot_before}
+use Rattle.std.specs.Prelude.{List, Option, [], if◌then◌else◌, nat_lt, suc, true, zero, ℕ, ◌%◌, ◌*◌, ◌+◌, ◌-◌, ◌^◌, ◌∷◌, ◌≡◌, ◌≢◌}
 
 -- LOOKS
 

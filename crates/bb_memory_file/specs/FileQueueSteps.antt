@@ -3,8 +3,8 @@ use Rattle.bb_memory_file.specs.FileCalls.{unseen}
 use Rattle.bb_memory_file.specs.FileCode.{FileLog, LoadFlag, LoadSlot, known_of, told}
 use Rattle.bb_memory_file.specs.FileLog.{Event, IsLap, lap_in}
 use Rattle.bb_memory_file.specs.FileNames.{Empty, Message, SentTo, Slot}
-use Rattle.bb_memory_file.specs.FileQueueCalls.{Happens, IsOver, IsStray, IsWrong, Loses, Looks, Note, Passes, Taken, Undone, Unheld, noted_after}
-use Rattle.bb_memory_file.specs.FileQueueLooks.{CanPass, IsPosition, KnowsHead, KnowsTail, Look, Position, ShowsUnsent, last_lap, position_after, position_on}
+use Rattle.bb_memory_file.specs.FileQueueCalls.{Happens, IsOver, IsStray, IsWrong, Looks, Loses, Note, Passes, Taken, Undone, Unheld, noted_after}
+use Rattle.bb_memory_file.specs.FileQueueLooks.{CanPass, KnowsHead, KnowsTail, Look, Position, ShowsUnsent, last_lap, position_after, position_on}
 pub use Rattle.bb_memory_file.specs.declared.queues.Looked.{Looked}
 pub use Rattle.bb_memory_file.specs.declared.queues.Looked.TheVariants as look
 pub use Rattle.bb_memory_file.specs.declared.queues.Oldest.{Oldest}
@@ -12,7 +12,7 @@ pub use Rattle.bb_memory_file.specs.declared.queues.Oldest.TheVariants as oldest
 pub use Rattle.bb_memory_file.specs.declared.queues.Stop.{Stop}
 pub use Rattle.bb_memory_file.specs.declared.queues.Walked.{Walked}
 pub use Rattle.bb_memory_file.specs.declared.queues.Walked.TheVariants as walked
-use Rattle.bb_memory_file_machine.specs.FileQueues.{FileQueue, IsFilled, IsMoment, IsSlotOf, lap_before, lap_said, slot_before}
+use Rattle.bb_memory_file_machine.specs.FileQueues.{FileQueue, IsFilled, IsMoment, lap_before, lap_said, slot_before}
 use Rattle.std.specs.Prelude.{List, None, Option, Some, slice_get, ℕ, ◌+◌, ◌<◌, ◌^◌, ◌∷◌, ◌≡◌, ◌≢◌, ◌≤◌, ◌⊎◌}
 
 -- of each bucket the party knows what it knew, apart from looks at slots

@@ -4,12 +4,12 @@
 //! where it begins and ends: a party finds that by looks at the slots, and goes on from there the next
 //! time.
 ghost use Rattle.bb_memory_file.specs.FileLog.{FileLog, IsLap, LoadSlot, is_clear, known_of, lap_in, told};
+ghost use Rattle.bb_memory_file.specs.FileNames.{Empty};
 ghost use Rattle.bb_memory_file.specs.FileNotes.{AreNoted};
 ghost use Rattle.bb_memory_file.specs.FileQueueCalls.{AllObey, Grows, IsFar, IsOver, IsReceipt, IsSend, KnowsOthers, Looks, Loses, SendsBy, noted_after};
 ghost use Rattle.bb_memory_file.specs.FileQueueLooks.{IsPosition, KnowsHead, KnowsTail, Look, last_lap, position_after, queue_in};
 ghost use Rattle.bb_memory_file.specs.FileQueueSteps.{FindsHead, FindsOldest, FindsTurn, HasBegun, IsTurn, KnowsSame, LooksAt, SeesBefore, StopsAt, Walks, noted_if};
 ghost use Rattle.bb_memory_file.specs.FileQueueSteps.oldest.{At};
-ghost use Rattle.bb_memory_file.specs.FileNames.{Empty};
 ghost use Rattle.bb_memory_file_machine.specs.FileMachine.{FileScene};
 ghost use Rattle.bb_memory_file_machine.specs.FileQueues.{IsFilled, IsLater, IsWhole, lap_said};
 ghost use Rattle.std.specs.Prelude.{IfSome, IsTrue, MatchBool, MatchOption, slice_get, true, ℕ, ◌*◌, ◌+◌, ◌/◌, ◌<◌, ◌^◌, ◌≡◌, ◌≢◌};

@@ -2,7 +2,7 @@ use Rattle.bb_memory_file.proofs.FileMessages.{full, post_by, still_clear}
 use Rattle.bb_memory_file.proofs.calls.post.Goals as goal
 use Rattle.bb_memory_file.specs.FileCode.{FileLog, HasNot, known_of}
 use Rattle.bb_memory_file.specs.FileLog.{is_clear}
-use Rattle.std.proofs.Common.{ap, subst, sym, true, ◌<◌, ◌≡◌}
+use Rattle.std.proofs.Common.{subst, sym, true, ◌<◌, ◌≡◌}
 
 pub returns-in_default : goal.returns-in_default
 returns-in_default g c process =

@@ -13,17 +13,17 @@ returns-then-not-is_same g c process =
 pub returns-in-In : goal.returns-in-In
 returns-in-In g c process =
     sent_back process (g.W.Words.log c.args.words.now) c.args.bucket c.requires _ _ c.load_flag.result c.load_flag.ensures _
-    c.in-In.slot c.in-In.lap c.in-In.ensures c.store_flag.ensures
+    c.in-In.slot c.in-In.lap c.in-In.ensures.found c.store_flag.ensures
 
 pub returns : goal.returns
 returns g c process =
     let old = g.W.Words.log c.args.words.now in
     elim c.match-find.branch [
       | in-Entered w ↦ cleared process old c.args.bucket c.requires _ _ c.load_flag.result c.load_flag.ensures _ _
-          w.in-Entered.ensures
+          w.in-Entered.ensures.found
           w.store_entry.ensures
           (c.store_flag-2.ensures ∙ ap (λ words. told (g.W.Words.log words) (StoreFlag c.args.bucket Free)) w.words-is)
       | in-Nowhere w ↦ given_back process old c.args.bucket c.requires _ _ c.load_flag.result c.load_flag.ensures _
-          w.in-Nowhere.ensures
+          w.in-Nowhere.ensures.found
           (c.store_flag-2.ensures ∙ ap (λ words. told (g.W.Words.log words) (StoreFlag c.args.bucket Free)) w.words-is)
     ]

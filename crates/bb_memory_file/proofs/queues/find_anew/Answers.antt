@@ -5,7 +5,7 @@ use Rattle.bb_memory_file.specs.FileQueueCalls.{IsOver, Loses, unbeaten}
 use Rattle.bb_memory_file.specs.FileQueueLooks.{queue_in}
 use Rattle.bb_memory_file_machine.specs.FileMachine.{FileScene}
 use Rattle.bb_memory_file_machine.specs.FileQueues.{IsWhole}
-use Rattle.std.proofs.Common.{None, arith, refl, subst, sym, ℕ, ◌≡◌, ◌∙◌}
+use Rattle.std.proofs.Common.{None, arith, refl, subst, sym, ℕ, ◌∙◌, ◌≡◌}
 use Rattle.std.specs.Prelude.{◌^◌}
 
 pub loop-attempt-init : goal.loop-attempt-init
@@ -24,8 +24,8 @@ returns-in_default g c =
     let middle = g.W.Words.log c.loop-attempt.words in
     record {
       oldest = anew_far (queue_in (g.W.Words.log c.args.words.now).scene c.args.queue) (g.W.Words.log c.args.words.now)
-      (g.W.Words.log c.loop-attempt.words) c.loop-attempt._attempt c.loop-attempt.invariant.lost (g.W.Words.log c.find_head.new.words)
-      c.find_head.ensures.looks
+          (g.W.Words.log c.loop-attempt.words) c.loop-attempt._attempt c.loop-attempt.invariant.lost (g.W.Words.log c.find_head.new.words)
+          c.find_head.ensures.looks
           (found_head_as middle.scene old.scene c.args.queue middle None (g.W.Words.log c.find_head.new.words)
           (same_scene old middle (loses_look (queue_in old.scene c.args.queue) old c.loop-attempt._attempt middle
           c.loop-attempt.invariant.lost)) c.in_default.ensures.head);
@@ -35,8 +35,8 @@ returns-in_default g c =
 pub pass_over-stop-requires-clause-whole : goal.pass_over-stop-requires-clause-whole
 pass_over-stop-requires-clause-whole g c =
     subst (λ (scene : FileScene). IsWhole (queue_in scene c.args.queue)) (sym (anew_scene (queue_in (g.W.Words.log c.args.words.now).scene c.args.queue) (g.W.Words.log c.args.words.now)
-      (g.W.Words.log c.loop-attempt.words) c.loop-attempt._attempt c.loop-attempt.invariant.lost (g.W.Words.log c.find_head.new.words)
-      c.in-Some.ensures.looks)) c.requires.whole
+    (g.W.Words.log c.loop-attempt.words) c.loop-attempt._attempt c.loop-attempt.invariant.lost (g.W.Words.log c.find_head.new.words)
+    c.in-Some.ensures.looks)) c.requires.whole
 
 pub returns-then-lap_said-stop : goal.returns-then-lap_said-stop
 returns-then-lap_said-stop g c = record {

@@ -23,7 +23,7 @@ load_slot-requires-in-loop-slot g c =
     let less = c.loop-slot-test.true in
     let whole = c.requires.whole in
     subst (λ (s : FileScene). c.loop-slot.slot < s.slots) (sym (heading_scene (queue_in (g.W.Words.log c.args.words.now).scene c.args.queue) (g.W.Words.log c.args.words.now)
-      c.lap_said-lap.result c.loop-slot.slot c.loop-slot.head (g.W.Words.log c.loop-slot.words) c.loop-slot.invariant.heading))
+    c.lap_said-lap.result c.loop-slot.slot c.loop-slot.head (g.W.Words.log c.loop-slot.words) c.loop-slot.invariant.heading))
     (omega (arith, end, less, whole))
 
 pub returns-then-is_far : goal.returns-then-is_far
@@ -52,22 +52,22 @@ loop-slot-preserved g c = record {
   heading = elim c.if-is_later.branch [
     | then-is_later w ↦
         subst (λ (p : Position). Heading (queue_in (g.W.Words.log c.args.words.now).scene c.args.queue)
-            (g.W.Words.log c.args.words.now) c.lap_said-lap.result (c.loop-slot.slot + 1) p
-            (g.W.Words.log c.load_slot-in-loop-slot.new.self)) (sym w.head-is)
-            (heading_moves (queue_in (g.W.Words.log c.args.words.now).scene c.args.queue) (g.W.Words.log c.args.words.now)
-      c.lap_said-lap.result c.loop-slot.slot c.loop-slot.head (g.W.Words.log c.loop-slot.words) c.loop-slot.invariant.heading
-            (g.W.Words.log c.load_slot-in-loop-slot.new.self) c.load_slot-in-loop-slot.result c.lap_said-found.result
-      c.load_slot-in-loop-slot.ensures.told c.lap_said-found.ensures.said
-      (rw c.lap_said-found.ensures.lap c.load_slot-in-loop-slot.ensures.lap) c.if-is_far.ensures w.if-is_later.ensures)
+        (g.W.Words.log c.args.words.now) c.lap_said-lap.result (c.loop-slot.slot + 1) p
+        (g.W.Words.log c.load_slot-in-loop-slot.new.self)) (sym w.head-is)
+        (heading_moves (queue_in (g.W.Words.log c.args.words.now).scene c.args.queue) (g.W.Words.log c.args.words.now)
+        c.lap_said-lap.result c.loop-slot.slot c.loop-slot.head (g.W.Words.log c.loop-slot.words) c.loop-slot.invariant.heading
+        (g.W.Words.log c.load_slot-in-loop-slot.new.self) c.load_slot-in-loop-slot.result c.lap_said-found.result
+        c.load_slot-in-loop-slot.ensures.told c.lap_said-found.ensures.said
+        (rw c.lap_said-found.ensures.lap c.load_slot-in-loop-slot.ensures.lap) c.if-is_far.ensures w.if-is_later.ensures)
     | else-is_later w ↦
         subst (λ (p : Position). Heading (queue_in (g.W.Words.log c.args.words.now).scene c.args.queue)
-            (g.W.Words.log c.args.words.now) c.lap_said-lap.result (c.loop-slot.slot + 1) p
-            (g.W.Words.log c.load_slot-in-loop-slot.new.self)) (sym w.head-is)
-            (heading_stays (queue_in (g.W.Words.log c.args.words.now).scene c.args.queue) (g.W.Words.log c.args.words.now)
-      c.lap_said-lap.result c.loop-slot.slot c.loop-slot.head (g.W.Words.log c.loop-slot.words) c.loop-slot.invariant.heading
-            (g.W.Words.log c.load_slot-in-loop-slot.new.self) c.load_slot-in-loop-slot.result c.lap_said-found.result
-      c.load_slot-in-loop-slot.ensures.told c.lap_said-found.ensures.said
-      (rw c.lap_said-found.ensures.lap c.load_slot-in-loop-slot.ensures.lap) c.if-is_far.ensures w.if-is_later.ensures)
+        (g.W.Words.log c.args.words.now) c.lap_said-lap.result (c.loop-slot.slot + 1) p
+        (g.W.Words.log c.load_slot-in-loop-slot.new.self)) (sym w.head-is)
+        (heading_stays (queue_in (g.W.Words.log c.args.words.now).scene c.args.queue) (g.W.Words.log c.args.words.now)
+        c.lap_said-lap.result c.loop-slot.slot c.loop-slot.head (g.W.Words.log c.loop-slot.words) c.loop-slot.invariant.heading
+        (g.W.Words.log c.load_slot-in-loop-slot.new.self) c.load_slot-in-loop-slot.result c.lap_said-found.result
+        c.load_slot-in-loop-slot.ensures.told c.lap_said-found.ensures.said
+        (rw c.lap_said-found.ensures.lap c.load_slot-in-loop-slot.ensures.lap) c.if-is_far.ensures w.if-is_later.ensures)
   ];
   end = c.loop-slot.invariant.end;
   most = (let end = c.loop-slot.invariant.end in

@@ -2,7 +2,6 @@ use Rattle.bb_memory_file.proofs.FileQueueOldest.{found_oldest_as, head_at, olde
 use Rattle.bb_memory_file.proofs.FileQueueWalks.{same_on, same_scene, stops_look, stops_same}
 use Rattle.bb_memory_file.proofs.queues.find_oldest.Goals.{in-Some+else-lap_said-stop, in_default}
 use Rattle.bb_memory_file.proofs.queues.find_oldest.Goals as goal
-use Rattle.bb_memory_file.specs.FileCode.{FileLog}
 use Rattle.bb_memory_file.specs.FileQueueCalls.{IsOver, Looks, nothing}
 use Rattle.bb_memory_file.specs.FileQueueLooks.{KnowsHead, Position, queue_in}
 use Rattle.bb_memory_file.specs.FileQueueSteps.{KnowsSame}
@@ -31,8 +30,8 @@ find_anew-requires-clause-whole g c =
     let seen : Looks old (g.W.Words.log c.match-head.words) = elim c.match-head.branch [
       | in-Some+else-lap_said-stop w ↦
           subst (λ (words : g.row.W.Denot). Looks old (g.W.Words.log words)) (sym w.words-is)
-              (stops_look IsOver queue old w.in-Some.head w.pass_over-stop.result (g.W.Words.log w.pass_over-stop.new.words)
-              w.pass_over-stop.ensures)
+          (stops_look IsOver queue old w.in-Some.head w.pass_over-stop.result (g.W.Words.log w.pass_over-stop.new.words)
+          w.pass_over-stop.ensures)
       | in_default w ↦ subst (λ (words : g.row.W.Denot). Looks old (g.W.Words.log words)) (sym w.words-is) nothing
     ] in
     subst (λ (scene : FileScene). IsWhole (queue_in scene c.args.queue))
@@ -47,15 +46,15 @@ returns g c =
     let seen : Looks old middle = elim c.match-head.branch [
       | in-Some+else-lap_said-stop w ↦
           subst (λ (words : g.row.W.Denot). Looks old (g.W.Words.log words)) (sym w.words-is)
-              (stops_look IsOver queue old w.in-Some.head w.pass_over-stop.result (g.W.Words.log w.pass_over-stop.new.words)
-              w.pass_over-stop.ensures)
+          (stops_look IsOver queue old w.in-Some.head w.pass_over-stop.result (g.W.Words.log w.pass_over-stop.new.words)
+          w.pass_over-stop.ensures)
       | in_default w ↦ subst (λ (words : g.row.W.Denot). Looks old (g.W.Words.log words)) (sym w.words-is) nothing
     ] in
     let same : KnowsSame old middle = elim c.match-head.branch [
       | in-Some+else-lap_said-stop w ↦
           subst (λ (words : g.row.W.Denot). KnowsSame old (g.W.Words.log words)) (sym w.words-is)
-              (stops_same IsOver queue old w.in-Some.head w.pass_over-stop.result (g.W.Words.log w.pass_over-stop.new.words)
-              w.pass_over-stop.ensures)
+          (stops_same IsOver queue old w.in-Some.head w.pass_over-stop.result (g.W.Words.log w.pass_over-stop.new.words)
+          w.pass_over-stop.ensures)
       | in_default w ↦
           subst (λ (words : g.row.W.Denot). KnowsSame old (g.W.Words.log words)) (sym w.words-is) (λ bucket. refl)
     ] in

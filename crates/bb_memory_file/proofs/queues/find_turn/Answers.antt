@@ -1,7 +1,5 @@
 use Rattle.bb_memory_file.proofs.FileQueueWalks.{finds_anew, finds_turn, looks_moment, looks_on, same_on, same_scene, sees_since, stops_as, stops_its, stops_look, stops_same}
 use Rattle.bb_memory_file.proofs.queues.find_turn.Goals as goal
-use Rattle.bb_memory_file.specs.FileCode.{FileLog}
-use Rattle.bb_memory_file.specs.FileQueueCalls.{Looks}
 use Rattle.bb_memory_file.specs.FileQueueLooks.{queue_in}
 use Rattle.bb_memory_file_machine.specs.FileQueues.{IsFilled, IsWhole}
 use Rattle.std.proofs.Common.{refl, subst, sym}

@@ -1,8 +1,8 @@
 use Rattle.bb_memory_file.proofs.FileQueueNotes.{message_at, noted_flag, passed_unsent, sent_flag}
 use Rattle.bb_memory_file.proofs.FileQueueWalks.{looks_look}
 use Rattle.bb_memory_file.proofs.queues.look_at.Goals as goal
-use Rattle.bb_memory_file.specs.FileCode.{FileLog, LoadFlag, told}
-use Rattle.bb_memory_file.specs.FileNames.{Message, Slot}
+use Rattle.bb_memory_file.specs.FileCode.{LoadFlag, told}
+use Rattle.bb_memory_file.specs.FileNames.{Slot}
 use Rattle.bb_memory_file.specs.FileNotes.{Undone, Unheld}
 use Rattle.bb_memory_file.specs.FileQueueCalls.{nothing}
 use Rattle.bb_memory_file.specs.FileQueueLooks.{Look}

@@ -1,5 +1,5 @@
 use Rattle.bb_memory_file.proofs.FileNotes.{within}
-use Rattle.bb_memory_file.proofs.FileQueueNotes.{noted_message, noted_missed, noted_wrong, stray_by}
+use Rattle.bb_memory_file.proofs.FileQueueNotes.{noted_message, noted_missed, noted_wrong}
 use Rattle.bb_memory_file.proofs.FileQueueReceipts.{begun_on, head_can_take, head_message, oldest_begun, oldest_stray, receipt_as, receipt_empty, receipt_message, receipt_unfit, receive_grows, seen_oldest, take_obeys}
 use Rattle.bb_memory_file.proofs.FileQueueSends.{grows_on}
 use Rattle.bb_memory_file.proofs.FileQueueWalks.{head_later, looks_look, looks_moment, same_scene}
@@ -68,14 +68,14 @@ returns-in-Wrong g c =
       receives = λ begun found. receipt_unfit (queue_in (g.W.Words.log c.args.words.now).scene c.args.queue) c.args.notes.now c.args.size begun (g.W.Words.log c.args.words.now) c.args.oldest.position.slot c.args.oldest.position.lap c.in-Message.bucket
           (g.W.Words.log c.receive.new.words) (seen_oldest (queue_in (g.W.Words.log c.args.words.now).scene c.args.queue) begun c.args.oldest (g.W.Words.log c.args.words.now) found) c.requires.head.0.0 c.in-Wrong.ensures;
       obeys = take_obeys (queue_in (g.W.Words.log c.args.words.now).scene c.args.queue) (g.W.Words.log c.args.words.now) refl c.args.oldest.position.slot c.args.oldest.position.lap c.in-Message.bucket
-      c.args.size c.requires.head.0.0 (head_can_take (queue_in (g.W.Words.log c.args.words.now).scene c.args.queue) (g.W.Words.log c.args.words.now) c.args.oldest.position c.in-Message.bucket c.requires.head
-      (subst (λ word. Look (g.W.Words.log c.args.words.now).events c.args.oldest.position.slot word)
-      (head_message c.args.oldest.word c.in-Message.lap c.in-Message.bucket c.args.oldest.position.lap c.in-Message.is c.requires.lap)
-      c.requires.look)) received.Wrong (g.W.Words.log c.receive.new.words) (c.in-Wrong.ensures 0);
+          c.args.size c.requires.head.0.0 (head_can_take (queue_in (g.W.Words.log c.args.words.now).scene c.args.queue) (g.W.Words.log c.args.words.now) c.args.oldest.position c.in-Message.bucket c.requires.head
+          (subst (λ word. Look (g.W.Words.log c.args.words.now).events c.args.oldest.position.slot word)
+          (head_message c.args.oldest.word c.in-Message.lap c.in-Message.bucket c.args.oldest.position.lap c.in-Message.is c.requires.lap)
+          c.requires.look)) received.Wrong (g.W.Words.log c.receive.new.words) (c.in-Wrong.ensures 0);
       noted = noted_wrong (g.W.Words.log c.args.words.now) c.args.notes.now c.in-Message.bucket was c.requires.noted c.args.oldest.position.slot c.args.oldest.position.lap c.args.size (g.W.Words.log c.receive.new.words)
           (c.in-Wrong.ensures 0);
       grows = (receive_grows (g.W.Words.log c.args.words.now) c.args.oldest.position.slot c.args.oldest.position.lap c.in-Message.bucket
-      c.args.size received.Wrong (g.W.Words.log c.receive.new.words) (c.in-Wrong.ensures 0));
+          c.args.size received.Wrong (g.W.Words.log c.receive.new.words) (c.in-Wrong.ensures 0));
     }
 
 pub returns-in-Message-receive : goal.returns-in-Message-receive
@@ -84,19 +84,19 @@ returns-in-Message-receive g c =
     record {
       receives = λ begun found. receipt_message (queue_in (g.W.Words.log c.args.words.now).scene c.args.queue) c.args.notes.now c.args.size begun (g.W.Words.log c.args.words.now) c.args.oldest.position.slot c.args.oldest.position.lap c.in-Message.bucket
           c.in-Message-receive.length (g.W.Words.log c.receive.new.words) (seen_oldest (queue_in (g.W.Words.log c.args.words.now).scene c.args.queue) begun c.args.oldest (g.W.Words.log c.args.words.now) found) c.requires.head.0.0 was (head_can_take (queue_in (g.W.Words.log c.args.words.now).scene c.args.queue) (g.W.Words.log c.args.words.now) c.args.oldest.position c.in-Message.bucket c.requires.head
-      (subst (λ word. Look (g.W.Words.log c.args.words.now).events c.args.oldest.position.slot word)
-      (head_message c.args.oldest.word c.in-Message.lap c.in-Message.bucket c.args.oldest.position.lap c.in-Message.is c.requires.lap)
-      c.requires.look))
+          (subst (λ word. Look (g.W.Words.log c.args.words.now).events c.args.oldest.position.slot word)
+          (head_message c.args.oldest.word c.in-Message.lap c.in-Message.bucket c.args.oldest.position.lap c.in-Message.is c.requires.lap)
+          c.requires.look))
           c.in-Message-receive.ensures;
       obeys = take_obeys (queue_in (g.W.Words.log c.args.words.now).scene c.args.queue) (g.W.Words.log c.args.words.now) refl c.args.oldest.position.slot c.args.oldest.position.lap c.in-Message.bucket
-      c.args.size c.requires.head.0.0 (head_can_take (queue_in (g.W.Words.log c.args.words.now).scene c.args.queue) (g.W.Words.log c.args.words.now) c.args.oldest.position c.in-Message.bucket c.requires.head
-      (subst (λ word. Look (g.W.Words.log c.args.words.now).events c.args.oldest.position.slot word)
-      (head_message c.args.oldest.word c.in-Message.lap c.in-Message.bucket c.args.oldest.position.lap c.in-Message.is c.requires.lap)
-      c.requires.look)) (received.Message c.in-Message-receive.length) (g.W.Words.log c.receive.new.words) (c.in-Message-receive.ensures 0);
+          c.args.size c.requires.head.0.0 (head_can_take (queue_in (g.W.Words.log c.args.words.now).scene c.args.queue) (g.W.Words.log c.args.words.now) c.args.oldest.position c.in-Message.bucket c.requires.head
+          (subst (λ word. Look (g.W.Words.log c.args.words.now).events c.args.oldest.position.slot word)
+          (head_message c.args.oldest.word c.in-Message.lap c.in-Message.bucket c.args.oldest.position.lap c.in-Message.is c.requires.lap)
+          c.requires.look)) (received.Message c.in-Message-receive.length) (g.W.Words.log c.receive.new.words) (c.in-Message-receive.ensures 0);
       noted = noted_message (g.W.Words.log c.args.words.now) c.args.notes.now c.in-Message.bucket was c.requires.noted c.args.oldest.position.slot c.args.oldest.position.lap c.args.size (g.W.Words.log c.receive.new.words)
           c.in-Message-receive.length (c.in-Message-receive.ensures 0);
       grows = (receive_grows (g.W.Words.log c.args.words.now) c.args.oldest.position.slot c.args.oldest.position.lap c.in-Message.bucket
-      c.args.size (received.Message c.in-Message-receive.length) (g.W.Words.log c.receive.new.words) (c.in-Message-receive.ensures 0));
+          c.args.size (received.Message c.in-Message-receive.length) (g.W.Words.log c.receive.new.words) (c.in-Message-receive.ensures 0));
     }
 
 pub returns-in-Some-Undone : goal.returns-in-Some-Undone

@@ -7,7 +7,7 @@ use Rattle.bb_memory_file.specs.FileQueueCalls.{Loses, searched, unbeaten}
 use Rattle.bb_memory_file.specs.FileQueueLooks.{queue_in}
 use Rattle.bb_memory_file_machine.specs.FileMachine.{FileScene}
 use Rattle.bb_memory_file_machine.specs.FileQueues.{IsWhole}
-use Rattle.std.proofs.Common.{arith, refl, subst, sym, ℕ, ◌+◌, ◌≡◌}
+use Rattle.std.proofs.Common.{arith, subst, sym, ℕ, ◌+◌, ◌≡◌}
 use Rattle.std.specs.Prelude.{◌^◌}
 
 pub loop-attempt-init : goal.loop-attempt-init
@@ -50,7 +50,7 @@ loop-attempt-preserved g c =
       lost = subst (λ (n : ℕ). Loses queue (g.W.Words.log c.args.words.now) n (g.W.Words.log c.try_to_receive.new.words)) one
           (loses_on queue (g.W.Words.log c.args.words.now) (g.W.Words.log c.loop-attempt.words) c.loop-attempt._attempt c.loop-attempt.invariant.lost 1 (g.W.Words.log c.try_to_receive.new.words)
           (loses_as (g.W.Words.log c.loop-attempt.words).scene (g.W.Words.log c.args.words.now).scene c.args.queue (g.W.Words.log c.loop-attempt.words) 1 (g.W.Words.log c.try_to_receive.new.words) (same_scene (g.W.Words.log c.args.words.now) (g.W.Words.log c.loop-attempt.words) (loses_look (queue_in (g.W.Words.log c.args.words.now).scene c.args.queue) (g.W.Words.log c.args.words.now)
-      c.loop-attempt._attempt (g.W.Words.log c.loop-attempt.words) c.loop-attempt.invariant.lost)) c.in_default.ensures.receives));
+          c.loop-attempt._attempt (g.W.Words.log c.loop-attempt.words) c.loop-attempt.invariant.lost)) c.in_default.ensures.receives));
       noted = c.in_default.ensures.noted;
       most = (let less = c.loop-attempt-test.true in omega (arith, less));
     }
@@ -69,8 +69,8 @@ returns g c =
           (g.W.Words.log c.loop-attempt.words) (subst (λ (n : ℕ). Loses queue (g.W.Words.log c.args.words.now) n (g.W.Words.log c.loop-attempt.words)) all
           c.loop-attempt.invariant.lost)));
       obeys = looks_obey (g.W.Words.log c.args.words.now) c.args.queue.depth (g.W.Words.log c.loop-attempt.words) (loses_look (queue_in (g.W.Words.log c.args.words.now).scene c.args.queue) (g.W.Words.log c.args.words.now)
-      c.loop-attempt._attempt (g.W.Words.log c.loop-attempt.words) c.loop-attempt.invariant.lost);
+          c.loop-attempt._attempt (g.W.Words.log c.loop-attempt.words) c.loop-attempt.invariant.lost);
       noted = c.loop-attempt.invariant.noted;
       grows = looks_gets (g.W.Words.log c.args.words.now) (g.W.Words.log c.loop-attempt.words) (loses_look (queue_in (g.W.Words.log c.args.words.now).scene c.args.queue) (g.W.Words.log c.args.words.now)
-      c.loop-attempt._attempt (g.W.Words.log c.loop-attempt.words) c.loop-attempt.invariant.lost);
+          c.loop-attempt._attempt (g.W.Words.log c.loop-attempt.words) c.loop-attempt.invariant.lost);
     }

@@ -17,20 +17,20 @@ loop-attempt-init g c =
       tried = elim c.match-tail.branch [
         | in-Some w ↦
             subst (λ (p : Position). Tried queue c.args.bucket c.args.length old 0 p (g.W.Words.log c.match-tail.words)) (sym w.tail-is)
-                (subst (λ (words : g.row.W.Denot). Tried queue c.args.bucket c.args.length old 0 w.in-Some.tail (g.W.Words.log words))
-                (sym w.words-is)
-                (tried_begins queue c.args.bucket c.args.length old old w.in-Some.tail c.requires.clear nothing (λ bucket. refl)
-                (subst (λ (tail : Option Position). IfSome tail (λ position. KnowsTail queue old.events position)) w.in-Some.is
-                c.requires.tail)))
+            (subst (λ (words : g.row.W.Denot). Tried queue c.args.bucket c.args.length old 0 w.in-Some.tail (g.W.Words.log words))
+            (sym w.words-is)
+            (tried_begins queue c.args.bucket c.args.length old old w.in-Some.tail c.requires.clear nothing (λ bucket. refl)
+            (subst (λ (tail : Option Position). IfSome tail (λ position. KnowsTail queue old.events position)) w.in-Some.is
+            c.requires.tail)))
         | in-None w ↦
             let one = g.W.Words.log w.find_tail-tail.new.words in
             subst (λ (p : Position). Tried queue c.args.bucket c.args.length old 0 p (g.W.Words.log c.match-tail.words)) (sym w.tail-is)
-                (subst (λ (words : g.row.W.Denot). Tried queue c.args.bucket c.args.length old 0 w.find_tail-tail.result
-                (g.W.Words.log words)) (sym w.words-is)
-                (tried_begins queue c.args.bucket c.args.length old one w.find_tail-tail.result c.requires.clear
-                w.find_tail-tail.ensures.looks w.find_tail-tail.ensures.same
-                (sees_tail queue c.requires.depth old.events one.events w.find_tail-tail.result w.find_tail-tail.ensures.position
-                w.find_tail-tail.ensures.before)))
+            (subst (λ (words : g.row.W.Denot). Tried queue c.args.bucket c.args.length old 0 w.find_tail-tail.result
+            (g.W.Words.log words)) (sym w.words-is)
+            (tried_begins queue c.args.bucket c.args.length old one w.find_tail-tail.result c.requires.clear
+            w.find_tail-tail.ensures.looks w.find_tail-tail.ensures.same
+            (sees_tail queue c.requires.depth old.events one.events w.find_tail-tail.result w.find_tail-tail.ensures.position
+            w.find_tail-tail.ensures.before)))
       ];
       most = omega arith;
     }
@@ -38,7 +38,7 @@ loop-attempt-init g c =
 pub try_to_send-sender-requires : goal.try_to_send-sender-requires
 try_to_send-sender-requires g c =
     let same = sym (tried_scene (g.W.Words.log c.args.words.now).scene c.args.queue c.args.bucket c.args.length (g.W.Words.log c.args.words.now)
-      (g.W.Words.log c.loop-attempt.words) c.loop-attempt._attempt c.loop-attempt.tail refl c.loop-attempt.invariant.tried) in
+    (g.W.Words.log c.loop-attempt.words) c.loop-attempt._attempt c.loop-attempt.tail refl c.loop-attempt.invariant.tried) in
     record {
       whole = subst (λ (s : FileScene). IsWhole (queue_in s c.args.queue)) same c.requires.whole;
       depth = c.requires.depth;
@@ -47,7 +47,7 @@ try_to_send-sender-requires g c =
           c.loop-attempt.tail) same c.loop-attempt.invariant.tried.tail_known;
       below = subst (λ (s : FileScene). c.args.bucket < s.buckets) same c.requires.below;
       clear = tried_clear (g.W.Words.log c.args.words.now).scene c.args.queue c.args.bucket c.args.length (g.W.Words.log c.args.words.now)
-      (g.W.Words.log c.loop-attempt.words) c.loop-attempt._attempt c.loop-attempt.tail refl c.loop-attempt.invariant.tried;
+          (g.W.Words.log c.loop-attempt.words) c.loop-attempt._attempt c.loop-attempt.tail refl c.loop-attempt.invariant.tried;
     }
 
 pub returns-in_default : goal.returns-in_default

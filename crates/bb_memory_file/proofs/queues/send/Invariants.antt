@@ -1,7 +1,7 @@
 use Rattle.bb_memory_file.proofs.FileQueueSends.{Tried}
 use Rattle.bb_memory_file.proofs.queues.send.Given as goal
 use Rattle.bb_memory_file.specs.FileQueueLooks.{queue_in}
-use Rattle.std.proofs.Common.{◌≤◌, ◌^◌}
+use Rattle.std.proofs.Common.{◌^◌, ◌≤◌}
 
 -- others were faster so often
 abbrev pub invariant-loop-attempt : goal.invariant-loop-attempt

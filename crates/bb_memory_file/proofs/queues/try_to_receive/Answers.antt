@@ -1,6 +1,6 @@
 use Rattle.bb_memory_file.proofs.FileNotes.{within}
 use Rattle.bb_memory_file.proofs.FileQueueNotes.{noted_message, noted_missed, noted_wrong}
-use Rattle.bb_memory_file.proofs.FileQueueReceipts.{begun_on, begun_seen, receive_grows, receipt_message, receipt_unfit, sent_beaten, sent_can, sent_its, sent_lap, sent_older, sent_seen, take_obeys, walked_end, walked_none, walked_wrong}
+use Rattle.bb_memory_file.proofs.FileQueueReceipts.{begun_seen, receipt_message, receipt_unfit, receive_grows, sent_beaten, sent_can, sent_its, sent_lap, sent_older, sent_seen, take_obeys, walked_end, walked_none, walked_wrong}
 use Rattle.bb_memory_file.proofs.FileQueueSends.{grows_on}
 use Rattle.bb_memory_file.proofs.FileQueueWalks.{looks_gets, looks_obey, looks_on, same_scene}
 use Rattle.bb_memory_file.proofs.queues.try_to_receive.Goals as goal
@@ -10,7 +10,7 @@ use Rattle.bb_memory_file.specs.FileQueueCalls.{nothing}
 use Rattle.bb_memory_file.specs.FileQueueLooks.{queue_in}
 use Rattle.bb_memory_file_machine.specs.FileMachine.{FileScene}
 use Rattle.bb_memory_file_machine.specs.FileQueues.{IsWhole}
-use Rattle.std.proofs.Common.{arith, refl, subst, sym}
+use Rattle.std.proofs.Common.{arith, subst, sym}
 
 pub walk_on-requires-2 : goal.walk_on-requires-2
 walk_on-requires-2 g c = record {

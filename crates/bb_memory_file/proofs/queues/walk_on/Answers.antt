@@ -1,10 +1,8 @@
 use Rattle.bb_memory_file.proofs.FileQueueReceipts.{Walking, one_look, one_noted, passed_look, passed_over, seen_new, walk_empty, walk_sent, walk_wrong, walking_begins, walking_below, walking_ends, walking_on}
 use Rattle.bb_memory_file.proofs.queues.walk_on.Goals.{else-not-is_over, then-not-is_over+in-Unsent}
 use Rattle.bb_memory_file.proofs.queues.walk_on.Goals as goal
-use Rattle.bb_memory_file.specs.FileCode.{FileLog}
 use Rattle.bb_memory_file.specs.FileQueueCalls.{nothing}
 use Rattle.bb_memory_file.specs.FileQueueLooks.{queue_in}
-use Rattle.bb_memory_file.specs.FileQueueSteps.{LooksAt, Looked}
 use Rattle.std.proofs.Common.{arith, refl, subst, sym, ◌+◌}
 
 pub loop-passed-init : goal.loop-passed-init
@@ -16,22 +14,22 @@ loop-passed-init g c = record {
 pub load_slot-word-requires : goal.load_slot-word-requires
 load_slot-word-requires g c =
     walking_below (queue_in (g.W.Words.log c.args.words.now).scene c.args.queue) c.args.notes.now
-      (g.W.Words.log c.args.words.now) c.args.head c.loop-passed.passed c.loop-passed.position (g.W.Words.log c.loop-passed.words)
-      c.loop-passed.invariant.walking c.requires.whole
+    (g.W.Words.log c.args.words.now) c.args.head c.loop-passed.passed c.loop-passed.position (g.W.Words.log c.loop-passed.words)
+    c.loop-passed.invariant.walking c.requires.whole
     c.requires.depth refl
 
 pub look_at-requires-clause-noted : goal.look_at-requires-clause-noted
 look_at-requires-clause-noted g c =
     one_noted (queue_in (g.W.Words.log c.args.words.now).scene c.args.queue) c.args.notes.now
-      (g.W.Words.log c.args.words.now) c.args.head c.loop-passed.passed c.loop-passed.position (g.W.Words.log c.loop-passed.words)
-      c.loop-passed.invariant.walking
+    (g.W.Words.log c.args.words.now) c.args.head c.loop-passed.passed c.loop-passed.position (g.W.Words.log c.loop-passed.words)
+    c.loop-passed.invariant.walking
     (g.W.Words.log c.load_slot-word.new.self) c.load_slot-word.result c.load_slot-word.ensures.told
 
 pub look_at-requires-clause-look : goal.look_at-requires-clause-look
 look_at-requires-clause-look g c =
     one_look (queue_in (g.W.Words.log c.args.words.now).scene c.args.queue) c.args.notes.now
-      (g.W.Words.log c.args.words.now) c.args.head c.loop-passed.passed c.loop-passed.position (g.W.Words.log c.loop-passed.words)
-      c.loop-passed.invariant.walking
+    (g.W.Words.log c.args.words.now) c.args.head c.loop-passed.passed c.loop-passed.position (g.W.Words.log c.loop-passed.words)
+    c.loop-passed.invariant.walking
     (g.W.Words.log c.load_slot-word.new.self) c.load_slot-word.result c.load_slot-word.ensures.told
 
 pub returns-in-Sent : goal.returns-in-Sent
@@ -87,41 +85,41 @@ loop-passed-preserved g c = record {
   walking = elim c.if-not-is_over.branch [
     | then-not-is_over+in-Unsent w ↦
         subst (λ (words : g.row.W.Denot). Walking (queue_in (g.W.Words.log c.args.words.now).scene c.args.queue) c.args.notes.now
-            (g.W.Words.log c.args.words.now) c.args.head (c.loop-passed.passed + 1) c.after-position.result (g.W.Words.log words))
-            (sym w.words-is)
-            (walking_on (queue_in (g.W.Words.log c.args.words.now).scene c.args.queue) c.args.notes.now
-      (g.W.Words.log c.args.words.now) c.args.head c.loop-passed.passed c.loop-passed.position (g.W.Words.log c.loop-passed.words)
-      c.loop-passed.invariant.walking
-            (g.W.Words.log c.load_slot-word.new.self) c.load_slot-word.result c.load_slot-word.ensures.told
-            (g.W.Words.log w.look_at.new.words) w.look_at.ensures.looks w.look_at.ensures.noted
-            c.requires.depth c.after-position.result (c.after-position.ensures (g.W.Words.log c.args.words.now).scene)
-            (passed_look (queue_in (g.W.Words.log c.args.words.now).scene c.args.queue) c.args.notes.now
-      (g.W.Words.log c.args.words.now) c.args.head c.loop-passed.passed c.loop-passed.position (g.W.Words.log c.loop-passed.words)
-      c.loop-passed.invariant.walking
-            (g.W.Words.log c.load_slot-word.new.self) c.load_slot-word.result c.load_slot-word.ensures.told
-            (g.W.Words.log w.look_at.new.words) w.look_at.ensures.looks w.look_at.ensures.noted w.in-Unsent.ensures.finds))
+        (g.W.Words.log c.args.words.now) c.args.head (c.loop-passed.passed + 1) c.after-position.result (g.W.Words.log words))
+        (sym w.words-is)
+        (walking_on (queue_in (g.W.Words.log c.args.words.now).scene c.args.queue) c.args.notes.now
+        (g.W.Words.log c.args.words.now) c.args.head c.loop-passed.passed c.loop-passed.position (g.W.Words.log c.loop-passed.words)
+        c.loop-passed.invariant.walking
+        (g.W.Words.log c.load_slot-word.new.self) c.load_slot-word.result c.load_slot-word.ensures.told
+        (g.W.Words.log w.look_at.new.words) w.look_at.ensures.looks w.look_at.ensures.noted
+        c.requires.depth c.after-position.result (c.after-position.ensures (g.W.Words.log c.args.words.now).scene)
+        (passed_look (queue_in (g.W.Words.log c.args.words.now).scene c.args.queue) c.args.notes.now
+        (g.W.Words.log c.args.words.now) c.args.head c.loop-passed.passed c.loop-passed.position (g.W.Words.log c.loop-passed.words)
+        c.loop-passed.invariant.walking
+        (g.W.Words.log c.load_slot-word.new.self) c.load_slot-word.result c.load_slot-word.ensures.told
+        (g.W.Words.log w.look_at.new.words) w.look_at.ensures.looks w.look_at.ensures.noted w.in-Unsent.ensures.finds))
     | else-not-is_over w ↦
         subst (λ (words : g.row.W.Denot). Walking (queue_in (g.W.Words.log c.args.words.now).scene c.args.queue) c.args.notes.now
-            (g.W.Words.log c.args.words.now) c.args.head (c.loop-passed.passed + 1) c.after-position.result (g.W.Words.log words))
-            (sym w.words-is)
-            (walking_on (queue_in (g.W.Words.log c.args.words.now).scene c.args.queue) c.args.notes.now
-      (g.W.Words.log c.args.words.now) c.args.head c.loop-passed.passed c.loop-passed.position (g.W.Words.log c.loop-passed.words)
-      c.loop-passed.invariant.walking
-            (g.W.Words.log c.load_slot-word.new.self) c.load_slot-word.result c.load_slot-word.ensures.told
-            (g.W.Words.log c.load_slot-word.new.self) nothing
-            (one_noted (queue_in (g.W.Words.log c.args.words.now).scene c.args.queue) c.args.notes.now
-      (g.W.Words.log c.args.words.now) c.args.head c.loop-passed.passed c.loop-passed.position (g.W.Words.log c.loop-passed.words)
-      c.loop-passed.invariant.walking
-            (g.W.Words.log c.load_slot-word.new.self) c.load_slot-word.result c.load_slot-word.ensures.told)
-            c.requires.depth c.after-position.result (c.after-position.ensures (g.W.Words.log c.args.words.now).scene)
-            (passed_over (queue_in (g.W.Words.log c.args.words.now).scene c.args.queue) c.args.notes.now
-      (g.W.Words.log c.args.words.now) c.args.head c.loop-passed.passed c.loop-passed.position (g.W.Words.log c.loop-passed.words)
-      c.loop-passed.invariant.walking
-            (g.W.Words.log c.load_slot-word.new.self) c.load_slot-word.result c.load_slot-word.ensures.told (g.W.Words.log c.load_slot-word.new.self) nothing
-            (one_noted (queue_in (g.W.Words.log c.args.words.now).scene c.args.queue) c.args.notes.now
-      (g.W.Words.log c.args.words.now) c.args.head c.loop-passed.passed c.loop-passed.position (g.W.Words.log c.loop-passed.words)
-      c.loop-passed.invariant.walking
-            (g.W.Words.log c.load_slot-word.new.self) c.load_slot-word.result c.load_slot-word.ensures.told) w.if-not-is_over.ensures))
+        (g.W.Words.log c.args.words.now) c.args.head (c.loop-passed.passed + 1) c.after-position.result (g.W.Words.log words))
+        (sym w.words-is)
+        (walking_on (queue_in (g.W.Words.log c.args.words.now).scene c.args.queue) c.args.notes.now
+        (g.W.Words.log c.args.words.now) c.args.head c.loop-passed.passed c.loop-passed.position (g.W.Words.log c.loop-passed.words)
+        c.loop-passed.invariant.walking
+        (g.W.Words.log c.load_slot-word.new.self) c.load_slot-word.result c.load_slot-word.ensures.told
+        (g.W.Words.log c.load_slot-word.new.self) nothing
+        (one_noted (queue_in (g.W.Words.log c.args.words.now).scene c.args.queue) c.args.notes.now
+        (g.W.Words.log c.args.words.now) c.args.head c.loop-passed.passed c.loop-passed.position (g.W.Words.log c.loop-passed.words)
+        c.loop-passed.invariant.walking
+        (g.W.Words.log c.load_slot-word.new.self) c.load_slot-word.result c.load_slot-word.ensures.told)
+        c.requires.depth c.after-position.result (c.after-position.ensures (g.W.Words.log c.args.words.now).scene)
+        (passed_over (queue_in (g.W.Words.log c.args.words.now).scene c.args.queue) c.args.notes.now
+        (g.W.Words.log c.args.words.now) c.args.head c.loop-passed.passed c.loop-passed.position (g.W.Words.log c.loop-passed.words)
+        c.loop-passed.invariant.walking
+        (g.W.Words.log c.load_slot-word.new.self) c.load_slot-word.result c.load_slot-word.ensures.told (g.W.Words.log c.load_slot-word.new.self) nothing
+        (one_noted (queue_in (g.W.Words.log c.args.words.now).scene c.args.queue) c.args.notes.now
+        (g.W.Words.log c.args.words.now) c.args.head c.loop-passed.passed c.loop-passed.position (g.W.Words.log c.loop-passed.words)
+        c.loop-passed.invariant.walking
+        (g.W.Words.log c.load_slot-word.new.self) c.load_slot-word.result c.load_slot-word.ensures.told) w.if-not-is_over.ensures))
   ];
 }
 
