@@ -219,6 +219,7 @@ PLACES = (
             BUMP + "/request": {"loop": 1},
             FILE + "calls": {"for": 2, "..": 2},
             FILE + "joined": {"for": 1, "while": 1, "..": 1},
+            FILE + "queues": {"for": 7, "..": 7},
             C + "detached": {"for": 2, "iter_mut": 1},
             C + "file_party": {"..": 1},
             C + "shared_pool": {"for": 3, "..": 5, "|": 1},

@@ -344,7 +344,7 @@ fn a_reap_frees_what_a_party_held(rt: HostRuntime) {
     );
     same(rt, reap(party(rt, &table, 0), false, false).ok(), Some(1));
     same(rt, party(rt, &table, 0).load_life(), 5);
-    let joined = Joined::join(party(rt, &table, 1), rt.alloc(), Hint::first(3, 1, 8, 0));
+    let joined = Joined::join(party(rt, &table, 1), rt.alloc(), Hint::first(3, 1, 8, 0), 1);
     check(rt, matches!(joined, Ok(Ok(_))));
     let mut other = party(rt, &table, 1);
     same(rt, other.load_life(), 3);
