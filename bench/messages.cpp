@@ -1,6 +1,6 @@
-// Times messages from process to process: through a slot of a pool in a file, and through peers. Then
-// times streams through a file, whose receiver keeps the last messages and frees the oldest one,
-// over pools of several sizes. Each process is kept on a processor of its own.
+// Times messages from process to process: through a slot of a pool in a file, and through peers.
+// Then times streams through a file, whose receiver keeps the last messages and frees the oldest
+// one, over pools of several sizes. Each process is kept on a processor of its own.
 //
 // Arguments: the number of rounds, and the number of messages of 64 bytes in a round, of which
 // there are fewer if they are longer. Prints a line for each figure, which `report` reads: the
