@@ -1,6 +1,6 @@
 // Times queues between processes, from one to one and from four to four: a slot of a pool in a
 // file, and its peers, by the messages for which they have room. A process that finds a queue full
-// or empty sleeps until that changes. Each process is kept on a processor: eight of them share four.
+// or empty sleeps until that changes. Each process is kept on a processor: on each one in turn.
 //
 // Arguments: the number of rounds, and five times the number of messages of 48 bytes in a round, of
 // which there are fewer if they are longer. Prints lines for each queue, which `report` reads: the
