@@ -1,8 +1,9 @@
 #!/usr/bin/env python3
-"""goals.py FIGURES LANDED: says which goals a benchmark run met, and fails if one isn't met.
+"""goals.py FIGURES LANDED [BEGIN]: says which goals a run met, and fails if one isn't met.
 
 FIGURES is what `measure` wrote. LANDED is the CSV file of an earlier page: no row may be 10% slower
-than there by its ratio to the peers that both runs have, since machines differ.
+than there by its ratio to the peers that both runs have, since machines differ. With BEGIN, only
+the goals of calls whose names begin so are judged.
 """
 import statistics
 import sys
@@ -54,6 +55,26 @@ PROCESS_RATIOS = [
         1.05,
     ),
 ]
+
+
+def queue_ratios() -> Iterator[Ratio]:
+    """Yields the ratios of a queue's processor time, in a file, to that of its peers.
+
+    Each user may make a POSIX queue of depth 8, but perhaps none that is deeper.
+    """
+    peers = ("boost::interprocess", "POSIX")
+    for size in ("48", "4096"):
+        for processes, who in ((2, "one to one"), (8, "four to four")):
+            for depth in ("8", "64", "1024"):
+                label = f"processor time of {size} bytes in a queue, {who}, depth {depth}"
+                key = Key(f"queue processor time of {size}", processes, depth, "", "C file")
+                if depth == "8":
+                    yield from (Ratio(label, key, (peer,), 1.0) for peer in peers)
+                else:
+                    yield Ratio(label, key, peers, 1.0)
+
+
+QUEUE_RATIOS = list(queue_ratios())
 LIMITS = [
     Limit("opening a file of 1,000,000 buckets", Key("open", 1, "1000000", "", "C file"), 3_000_000)
 ]
@@ -64,10 +85,12 @@ COMPARED = ("plain C", "malloc and free", "mimalloc", "DPDK")
 OURS = ("Rattle", "C")
 
 
-def missed(rounds: Rounds) -> list[str]:
+def missed(rounds: Rounds, begin: str) -> list[str]:
     """Returns a line for each ratio that is too great, or wasn't measured. Prints all of them."""
     found = []
-    for each in [*RATIOS, *PROCESS_RATIOS]:
+    for each in [*RATIOS, *PROCESS_RATIOS, *QUEUE_RATIOS]:
+        if not each.key.call.startswith(begin):
+            continue
         value = ratio(rounds, each.key, each.peers)
         what = f"{each.label}, beside {' or '.join(each.peers)}"
         if value is None:
@@ -79,10 +102,12 @@ def missed(rounds: Rounds) -> list[str]:
     return found
 
 
-def too_long(medians: Mapping[Key, float]) -> list[str]:
+def too_long(medians: Mapping[Key, float], begin: str) -> list[str]:
     """Returns a line for each time that is too long, or wasn't measured. Prints all of them."""
     found = []
     for each in LIMITS:
+        if not each.key.call.startswith(begin):
+            continue
         if each.key not in medians:
             found.append(f"not measured: {each.label}")
             continue
@@ -99,11 +124,13 @@ def by_peers(medians: Mapping[Key, float], key: Key, peers: list[str]) -> float:
     return medians[key] / theirs
 
 
-def slower(now: Mapping[Key, float], landed: Mapping[Key, float]) -> list[str]:
+def slower(now: Mapping[Key, float], landed: Mapping[Key, float], begin: str) -> list[str]:
     """Returns a line for each row that is slower than in the earlier run."""
     found = []
     compared = 0
     for key in now:
+        if not key.call.startswith(begin):
+            continue
         if key.by.split()[0] not in OURS or key not in landed:
             continue
         both = [by for by in COMPARED if key._replace(by=by) in now]
@@ -119,11 +146,17 @@ def slower(now: Mapping[Key, float], landed: Mapping[Key, float]) -> list[str]:
 
 
 def main(words: list[str]) -> None:
-    """Runs `goals.py FIGURES LANDED`."""
-    figures, landed = map(Path, words)
+    """Runs `goals.py FIGURES LANDED [BEGIN]`."""
+    figures, landed = map(Path, words[:2])
+    begin = words[2] if len(words) > 2 else ""
     rounds = read_rounds(figures)
     medians = {key: times.median for key, times in times_of(rounds).items()}
-    lines = [*missed(rounds), *too_long(medians), *slower(medians, read_medians(landed))]
+    earlier = read_medians(landed)
+    lines = [
+        *missed(rounds, begin),
+        *too_long(medians, begin),
+        *slower(medians, earlier, begin),
+    ]
     print(*lines, sep="\n")
     if lines:
         sys.exit(1)

@@ -11,6 +11,7 @@
 #include <cstdint>
 #include <cstdio>
 #include <cstdlib>
+#include <ctime>
 #include <functional>
 #include <immintrin.h>
 #include <mqueue.h>
@@ -24,9 +25,9 @@ extern "C" {
 #include "pin.h"
 }
 
-constexpr unsigned most_processes = 4;
+constexpr unsigned most_processes = 8;
 constexpr std::uint32_t buckets = 64;
-constexpr std::uint32_t parties = most_processes;
+constexpr std::uint32_t parties = 4;
 // The most messages that are on their way at one time.
 constexpr std::uint32_t room = 32;
 // The milliseconds after which a wait starts again.
@@ -44,6 +45,8 @@ struct shared {
     std::atomic<unsigned> waiting;
     std::atomic<unsigned> received;
     double nanoseconds[most_processes];
+    // The processor time of each process, in nanoseconds.
+    double processor_time[most_processes];
 };
 
 inline shared *common;
@@ -79,6 +82,13 @@ inline int begin(int argc, char **argv) {
 // Prepares the process with this number, and returns the function to time.
 using preparation = std::function<std::function<void()>(unsigned)>;
 
+// Returns the processor time that this process has taken so far, in nanoseconds.
+inline double processor_time() {
+    timespec time;
+    must(clock_gettime(CLOCK_PROCESS_CPUTIME_ID, &time) == 0, "clock_gettime");
+    return static_cast<double>(time.tv_sec) * 1e9 + static_cast<double>(time.tv_nsec);
+}
+
 // Runs the calls of one process, after all processes have come.
 inline void run_one(unsigned number, unsigned processes, const preparation &prepare) {
     keep_on_a_processor(number);
@@ -86,10 +96,12 @@ inline void run_one(unsigned number, unsigned processes, const preparation &prep
     common->came++;
     while (common->came < processes)
         _mm_pause();
+    const double processor_start = processor_time();
     const auto start = std::chrono::steady_clock::now();
     timed();
     const std::chrono::duration<double, std::nano> time = std::chrono::steady_clock::now() - start;
     common->nanoseconds[number] = time.count();
+    common->processor_time[number] = processor_time() - processor_start;
 }
 
 // Starts processes, waits for them, and returns the mean of their nanoseconds.
@@ -114,6 +126,14 @@ inline double nanoseconds_of(unsigned processes, const preparation &prepare) {
     for (unsigned number = 0; number < processes; number++)
         sum += common->nanoseconds[number];
     return sum / processes;
+}
+
+// Returns the sum of the processor times of the processes that `nanoseconds_of` started last.
+inline double processor_time_of(unsigned processes) {
+    double sum = 0;
+    for (unsigned number = 0; number < processes; number++)
+        sum += common->processor_time[number];
+    return sum;
 }
 
 inline void print(const char *call, unsigned processes, const char *size, const char *by,
