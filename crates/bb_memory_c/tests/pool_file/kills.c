@@ -1,14 +1,15 @@
 // Kills processes that share a pool in a file, each at an address of its own, and checks that no
-// byte is wrong, no bucket is lost, no message is missing, and that messages come in order. Only the
-// processes clean up, when they join and reap.
+// byte is wrong, no bucket is lost, no message is missing, and that messages come in order. Only
+// the processes clean up, when they join and reap.
 //
 //     kills run FOLDER KILLS CACHED THREADS DEPTH
-//         Workers are killed at random moments. Each has that many threads, 1 or 2, with a party each.
+//         Workers are killed at random moments. Each has that many threads, 1 or 2, with a party
+//         each.
 //     kills make FOLDER KILLS
 //         Makers of the file are killed at random moments.
 //     kills step FOLDER STRIDE DEPTH
-//         A process is killed after each instruction of each call, or after each STRIDE-th of the long
-//         calls.
+//         A process is killed after each instruction of each call, or after each STRIDE-th of the
+//         long calls.
 //     kills pause FOLDER STRIDE DEPTH
 //         A process is stopped there, another party interferes, and the call goes on.
 //
@@ -67,8 +68,8 @@ struct sent {
     uint32_t posted;
 };
 
-// A message: when its post began and ended, as the clock counts, or 0 if it hasn't ended. A late one
-// may come after younger ones: it was put back, or its receiver or its sender was killed.
+// A message: when its post began and ended, as the clock counts, or 0 if it hasn't ended. A late
+// one may come after younger ones: it was put back, or its receiver or its sender was killed.
 struct message {
     uint32_t begun;
     uint32_t ended;
@@ -77,10 +78,10 @@ struct message {
     uint8_t seen;
 };
 
-// What is known of the order of a slot's messages. Of those that were taken, `latest` is the greatest
-// moment at which the post of one began. `unknown` is how many messages may be late that aren't noted
-// as late, since a receiver was killed while it took one. If the slot has one receiver, `put_back` is
-// the message that it has put back, which comes before younger ones.
+// What is known of the order of a slot's messages. Of those that were taken, `latest` is the
+// greatest moment at which the post of one began. `unknown` is how many messages may be late that
+// aren't noted as late, since a receiver was killed while it took one. If the slot has one
+// receiver, `put_back` is the message that it has put back, which comes before younger ones.
 struct order {
     uint32_t latest;
     uint32_t unknown;
@@ -101,7 +102,8 @@ struct counts {
     // How many messages came after one that was posted later.
     uint64_t passed;
     uint64_t ordered;
-    // How many receivers were killed that may have been done with a message before they worked on it.
+    // How many receivers were killed that may have been done with a message before they worked on
+    // it.
     uint64_t unworked;
     // Odd while the driver kills a worker and notes what that had.
     uint64_t kills;
@@ -304,10 +306,10 @@ static bool had_ended(const struct message *message, uint32_t moment) {
     return ended != 0 && ended < moment;
 }
 
-// Checks that a message that was taken isn't late, unless that is noted: its post hadn't ended before
-// the post of another one began that was taken before this take began, when `latest` was noted. If
-// the receiver of the slot has put back another message, the post of that one hadn't ended before
-// this one began.
+// Checks that a message that was taken isn't late, unless that is noted: its post hadn't ended
+// before the post of another one began that was taken before this take began, when `latest` was
+// noted. If the receiver of the slot has put back another message, the post of that one hadn't
+// ended before this one began.
 static void check_order(uint64_t id, uint32_t latest) {
     struct order *order = &counts->orders[slot_in(id)];
     const struct message *message = message_of(id);
@@ -387,8 +389,8 @@ static void be_done(bb_message got) {
     EXPECT(bb_file_party_done(mine, got.place) == BB_NOT_HELD);
 }
 
-// Works on a message, and is done with it. If it is done afterwards, the message comes at least once,
-// and again only after a kill. If it is done before that, the message comes at most once.
+// Works on a message, and is done with it. If it is done afterwards, the message comes at least
+// once, and again only after a kill. If it is done before that, the message comes at most once.
 static void process(bb_message got, uint32_t at) {
     const uint64_t id = id_in(got.place);
     const bool is_once = slot_in(id) >= ONCE;
@@ -811,9 +813,9 @@ enum {
     CLOSES,
     OPERATIONS,
     // For `pause` only: a take whose code is noted, and the message's length, a look that notes the
-    // message's length, or 0 if there is none, a reap of detached buckets, an open that notes how many
-    // buckets it finds held, a post of two messages, and a `done` and a detach of a message that was
-    // taken before.
+    // message's length, or 0 if there is none, a reap of detached buckets, an open that notes how
+    // many buckets it finds held, a post of two messages, and a `done` and a detach of a message
+    // that was taken before.
     NOTES_TAKE,
     NOTES_LOOK,
     REAPS_DETACHED,
@@ -1112,8 +1114,8 @@ static void check_number(bb_pool_file *ours, int what, uint32_t detached, struct
 }
 
 // Kills a process that many steps into the operation, and looks at what it leaves: each bucket is
-// free, but for those of messages, and each message was sent or not. The other messages of the slots
-// come in order, and the slots have as much room as is left.
+// free, but for those of messages, and each message was sent or not. The other messages of the
+// slots come in order, and the slots have as much room as is left.
 static bool step_once(int what, uint32_t steps, struct outcome *outcome) {
     bb_pool_file *ours;
     bb_file_party *party;
@@ -1331,8 +1333,8 @@ static bool pause_posted(bb_pool_file *ours, bb_file_party *party, uint32_t step
 
 // While a look is stopped, a party takes the message, is done with it, and posts its bucket with
 // another length: to the same slot, to another one, or to both. Or it posts another bucket to the
-// slot. The look finds a message that the slot had, with its length, or that the slot is empty. In a
-// slot of a greater depth, a later message is in another cell, so the slot may be found empty.
+// slot. The look finds a message that the slot had, with its length, or that the slot is empty. In
+// a slot of a greater depth, a later message is in another cell, so the slot may be found empty.
 static bool pause_look(bb_pool_file *ours, bb_file_party *party, uint32_t steps) {
     enum {
         TO_THE_SAME,
@@ -1434,9 +1436,9 @@ static bool is_sent(bb_pool_file *ours, uint32_t number) {
     return flag.state == BB_SENT;
 }
 
-// While a post is stopped, another party posts two messages, and takes one. The stopped message comes
-// last if it wasn't in the slot then. If it was there and wasn't sent yet, it is passed, and comes
-// next once it is sent.
+// While a post is stopped, another party posts two messages, and takes one. The stopped message
+// comes last if it wasn't in the slot then. If it was there and wasn't sent yet, it is passed, and
+// comes next once it is sent.
 static bool pause_passed(bb_pool_file *ours, bb_file_party *party, uint32_t steps) {
     static const uint64_t orders[3][3] = {{21, 22, 25}, {21, 25, 22}, {25, 21, 22}};
     turn(ours, party, 2, steps % options.depth);
@@ -1483,8 +1485,8 @@ static bool pause_take_again(bb_pool_file *ours, bb_file_party *party, uint32_t 
     return ended;
 }
 
-// While a take is stopped, another party takes the message, is done with it, and posts its bucket to
-// the same slot, and a message behind that. The take gets the message in that bucket, or none.
+// While a take is stopped, another party takes the message, is done with it, and posts its bucket
+// to the same slot, and a message behind that. The take gets the message in that bucket, or none.
 static bool pause_posted_behind(bb_pool_file *ours, bb_file_party *party, uint32_t steps) {
     turn(ours, party, 0, steps % options.depth);
     const struct stopped_take take = stop_take(ours, party, steps);
@@ -1537,8 +1539,8 @@ static bool pause_done(bb_pool_file *ours, bb_file_party *party, uint32_t steps)
     return ended;
 }
 
-// While a party is stopped that puts back the older of two messages, another one takes the older one
-// if it is back already, otherwise the younger one.
+// While a party is stopped that puts back the older of two messages, another one takes the older
+// one if it is back already, otherwise the younger one.
 static bool pause_put_back(bb_pool_file *ours, bb_file_party *party, uint32_t steps) {
     turn(ours, party, 0, steps % options.depth);
     post_id(ours, party, 0, 21);

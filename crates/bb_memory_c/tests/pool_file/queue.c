@@ -1,5 +1,5 @@
-// `queue FOLDER` tests slots that have room for several messages: their order, between processes and
-// in one, and the codes of the calls. It makes its files in FOLDER, and leaves none there.
+// `queue FOLDER` tests slots that have room for several messages: their order, between processes
+// and in one, and the codes of the calls. It makes its files in FOLDER, and leaves none there.
 #define _GNU_SOURCE
 #include <errno.h>
 #include <pthread.h>
@@ -219,8 +219,8 @@ static void finish_one(struct at_work *at_work, uint32_t which) {
     at_work->messages[which] = at_work->messages[at_work->taken];
 }
 
-// The receiver has several messages at work, and is done with them in any order. But it doesn't wait
-// for a message that has no room until it is done with another one.
+// The receiver has several messages at work, and is done with them in any order. But it doesn't
+// wait for a message that has no room until it is done with another one.
 static void several_at_work(uint32_t depth) {
     uint32_t seed = 1;
     bb_pool_file *file = open_it(depth);
@@ -548,8 +548,8 @@ static void *send_one(void *context) {
 }
 
 // Two senders wait, and room for both comes at one time, since a party was done with the younger
-// message first. The first sender wakes the second one: otherwise that sleeps for up to a tenth of a
-// second.
+// message first. The first sender wakes the second one: otherwise that sleeps for up to a tenth of
+// a second.
 static void both_are_woken(void) {
     enum {
         ROUNDS = 20

@@ -1,23 +1,23 @@
 // Writes a trace of processes that share a pool in a file. It has one process at a time go on by
 // single instructions. After each instruction it looks at each flag, entry, slot, life and lock in
-// the file, and writes a line for each change. The program `file_replay` reads the trace, and has the
-// proved machine take the same steps.
+// the file, and writes a line for each change. The program `file_replay` reads the trace, and has
+// the proved machine take the same steps.
 //
 //     trace random FOLDER SEED CALLS CACHED DEPTH
-//         Processes make calls that are chosen at random, each party caches up to CACHED buckets, and
-//         turns have random lengths. So calls interrupt each other anywhere, and some processes are
-//         killed anywhere.
+//         Processes make calls that are chosen at random, each party caches up to CACHED buckets,
+//         and turns have random lengths. So calls interrupt each other anywhere, and some processes
+//         are killed anywhere.
 //     trace duels FOLDER STRIDE DEPTH
 //         A post is stopped after each instruction, and another process takes the message, or posts
-//         to the slot. A process is killed after each instruction from the first change in a post or
-//         a `done` on, and reaped. A take of a message, and a reap with detached buckets, are
-//         stopped after each STRIDE-th instruction, and another process takes the bucket and sends it
-//         elsewhere.
+//         to the slot. A process is killed after each instruction from the first change in a post
+//         or a `done` on, and reaped. A take of a message, and a reap with detached buckets, are
+//         stopped after each STRIDE-th instruction, and another process takes the bucket and sends
+//         it elsewhere.
 //
-// The file's slots have this depth. The machine calls each cell of a slot a slot, and so do the lines:
-// a line that a call begins with names the cell that the call changes, or the first cell of the slot
-// if it changes none. A post that finds its cell filled clears the bucket's entry, and tries the next
-// cell: in the trace each try is a post.
+// The file's slots have this depth. The machine calls each cell of a slot a slot, and so do the
+// lines: a line that a call begins with names the cell that the call changes, or the first cell of
+// the slot if it changes none. A post that finds its cell filled clears the bucket's entry, and
+// tries the next cell: in the trace each try is a post.
 //
 // The lines, in which P is a process, K a party's number, B a bucket, S a slot and L a length:
 //
@@ -247,8 +247,8 @@ static void choose_call(void) {
     } else if (what < 113) {
         mine->call = GIVE_ALL_BACK;
     }
-    // Some calls are refused: those with a bucket that the party doesn't have, or that is still in a
-    // slot.
+    // Some calls are refused: those with a bucket that the party doesn't have, or that is still in
+    // a slot.
     const bool is_bad = next(&seed) % 16 == 0;
     if (mine->call == DEALLOCATE || mine->call == POST) {
         if (message < BUCKETS && is_bad)
@@ -582,8 +582,8 @@ static uint32_t cell_in(uint64_t entry) {
     return (uint32_t)entry - 1;
 }
 
-// Adds the event that a call begins, with the first cell of its slot. A `done` is of the cell that has
-// the message; if there is none, the call changes nothing.
+// Adds the event that a call begins, with the first cell of its slot. A `done` is of the cell that
+// has the message; if there is none, the call changes nothing.
 static void begin(uint32_t process) {
     begun[process] = count;
     tried[process] = false;
@@ -753,8 +753,8 @@ static void end_killed(struct process *of) {
     of->pid = 0;
 }
 
-// Returns a turn: a few instructions, part of a call, up to a change and a little more, or most of a
-// call.
+// Returns a turn: a few instructions, part of a call, up to a change and a little more, or most of
+// a call.
 static struct turn choose_turn(uint32_t *random) {
     struct turn turn = {LONGEST_TURN, LONGEST_TURN};
     switch (next(random) % 6) {
