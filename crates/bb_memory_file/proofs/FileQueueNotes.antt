@@ -179,18 +179,8 @@ passed_unsent notes old new slot lap bucket found look is other =
     (earlier (LoadFlag bucket found) old.events look.past) (earlier (LoadFlag bucket found) old.events now) now
     (refl, (λ same. absurd (cc (sym (test_flag slot lap) ∙ ap (λ flag. same_flag flag (SentTo slot lap)) (sym same) ∙ other)))))
 
-pub stray_by : (note : Option Note) → note ≢ Some Unheld → note ≢ Some Undone → IsStray note
-stray_by None one two = tt
-stray_by (Some Unheld) one two = absurd (one refl)
-stray_by (Some Cached) one two = tt
-stray_by (Some InUse) one two = tt
-stray_by (Some Undone) one two = absurd (two refl)
-
 -- the word is a message of this lap
 pub message_at : (word : Slot) (lap bucket found at : ℕ) → word ≡ Message lap bucket → found ≡ lap_said word → found ≡ at →
     word ≡ Message at bucket
 message_at word lap bucket found at is said same =
     is ∙ ap (λ l. Message l bucket) (sym (ap lap_said is) ∙ sym said ∙ same)
-
-pub empty_at : (word : Slot) (lap found at : ℕ) → word ≡ Empty lap → found ≡ lap_said word → found ≡ at → word ≡ Empty at
-empty_at word lap found at is said same = is ∙ ap (λ l. Empty l) (sym (ap lap_said is) ∙ sym said ∙ same)
