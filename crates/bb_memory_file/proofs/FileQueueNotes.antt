@@ -5,16 +5,15 @@ use Rattle.bb_memory_file.specs.FileCalls.{IsReceive, unseen}
 use Rattle.bb_memory_file.specs.FileCalls.received as received
 use Rattle.bb_memory_file.specs.FileCode.{Event, FileLog, Holds, Known, LoadFlag, MissFlag, Unknown, known_of, told}
 use Rattle.bb_memory_file.specs.FileLog.{held_still, is_held}
-use Rattle.bb_memory_file.specs.FileNames.{DetachedBy, Empty, FileFlag, Free, HeldBy, Message, SentTo, Slot}
-use Rattle.bb_memory_file.specs.FileNotes.{AreNoted, Cached, InUse, IsNoted, Note, Undone, Unheld}
-use Rattle.bb_memory_file.specs.FileQueueCalls.{IsStray}
+use Rattle.bb_memory_file.specs.FileNames.{DetachedBy, FileFlag, Free, HeldBy, Message, SentTo, Slot}
+use Rattle.bb_memory_file.specs.FileNotes.{AreNoted, IsNoted, Note, Undone, Unheld}
 use Rattle.bb_memory_file.specs.FileQueueLooks.{CanPass, Look, held, over, unsent}
 use Rattle.bb_memory_file.specs.FileQueueSteps.{KnowsSame, Passed, was_held, was_over, was_unsent}
 use Rattle.bb_memory_file_machine.specs.FileMachine.{same_flag}
 use Rattle.bb_memory_file_machine.specs.FileQueues.{IsMoment, earlier, lap_said, now}
 use Rattle.bb_memory_lists.proofs.SliceGets.{length-set_at, slice_get-set_other, slice_get-set_same}
 use Rattle.bb_memory_pool_machine.proofs.PoolSteps.{test_same}
-use Rattle.std.proofs.Common.{Bool, List, None, Option, Some, ap, false, length, refl, subst, sym, true, ℕ, ◌∙◌, ◌∷◌, ◌≡◌, ◌≢◌}
+use Rattle.std.proofs.Common.{Bool, List, Some, ap, false, length, refl, subst, sym, true, ℕ, ◌∙◌, ◌∷◌, ◌≡◌, ◌≢◌}
 use Rattle.std.proofs.lemmas.Bool.{eqb-false, eqb-true, ne_eqb}
 use Rattle.std.specs.Prelude.{if◌then◌else◌, slice_get, slice_set, ◌==◌}
 
@@ -179,18 +178,8 @@ passed_unsent notes old new slot lap bucket found look is other =
     (earlier (LoadFlag bucket found) old.events look.past) (earlier (LoadFlag bucket found) old.events now) now
     (refl, (λ same. absurd (cc (sym (test_flag slot lap) ∙ ap (λ flag. same_flag flag (SentTo slot lap)) (sym same) ∙ other)))))
 
-pub stray_by : (note : Option Note) → note ≢ Some Unheld → note ≢ Some Undone → IsStray note
-stray_by None one two = tt
-stray_by (Some Unheld) one two = absurd (one refl)
-stray_by (Some Cached) one two = tt
-stray_by (Some InUse) one two = tt
-stray_by (Some Undone) one two = absurd (two refl)
-
 -- the word is a message of this lap
 pub message_at : (word : Slot) (lap bucket found at : ℕ) → word ≡ Message lap bucket → found ≡ lap_said word → found ≡ at →
     word ≡ Message at bucket
 message_at word lap bucket found at is said same =
     is ∙ ap (λ l. Message l bucket) (sym (ap lap_said is) ∙ sym said ∙ same)
-
-pub empty_at : (word : Slot) (lap found at : ℕ) → word ≡ Empty lap → found ≡ lap_said word → found ≡ at → word ≡ Empty at
-empty_at word lap found at is said same = is ∙ ap (λ l. Empty l) (sym (ap lap_said is) ∙ sym said ∙ same)

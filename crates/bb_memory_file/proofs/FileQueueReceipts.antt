@@ -255,9 +255,6 @@ module _ (queue : FileQueue) (notes : List Note) (size : ℕ) (begun : FileLog) 
 -- a receiver that has come to the oldest message, and has looked further
 module _ (queue : FileQueue) (notes : List Note) (begun : FileLog) (head : Position) (old : FileLog)
     (has : HasBegun queue begun head old) where
-  begun_past : IsMoment begun.events old.events
-  begun_past = looks_moment begun old has.0
-
   module _ (new : FileLog) (since : Looks old new) where
     pub begun_seen : Looks begun new
     begun_seen = looks_on begun old has.0 new since

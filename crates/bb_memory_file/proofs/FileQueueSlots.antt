@@ -35,10 +35,6 @@ last_apart lap small is = absurd (omega (arith, small, is))
 pub last_not_later : (lap : ℕ) → lap < 2 ^ 30 → ¬ IsLater lap (last_lap lap)
 last_not_later lap small (more, positive, half, is) = absurd (omega (arith, small, positive, half, is))
 
--- the lap before an empty slot's lap was filled
-pub last_filled : (lap : ℕ) → lap < 2 ^ 30 → IsLater (last_lap lap) lap
-last_filled lap small = (1, omega arith, omega arith, omega arith)
-
 pub last_next : (lap : ℕ) → lap < 2 ^ 30 → last_lap (next_lap lap) ≡ lap
 last_next lap small = omega arith
 

@@ -43,7 +43,7 @@ pub struct Position {
     pub lap: u32,
 }
 
-/// What a sender has done.
+/// The answer of a sender.
 #[derive(Debug, Clone, Copy, PartialEq, Eq)]
 pub enum Sending {
     /// It has posted the message into this slot.
@@ -75,7 +75,7 @@ struct Stop {
     word: Slot,
 }
 
-/// What a receiver has found where a queue begins.
+/// The answer of a search for the oldest message of a queue.
 #[derive(Debug, Clone, Copy, PartialEq, Eq)]
 enum Oldest {
     /// The oldest message with which no party is done, or the empty slot whose turn it is.
@@ -86,7 +86,7 @@ enum Oldest {
     Overtaken,
 }
 
-/// What a walk over the messages of a queue has found.
+/// The answer of a walk over the messages of a queue.
 #[derive(Debug, Clone, Copy, PartialEq, Eq)]
 enum Walked {
     /// A message that is sent, at this position, which is this many slots after the walk's beginning.
@@ -103,7 +103,7 @@ enum Walked {
     Wrong,
 }
 
-/// What a look at a message of a queue has found.
+/// The answer of a look at a message of a queue.
 #[derive(Debug, Clone, Copy, PartialEq, Eq)]
 enum Looked {
     /// A message in this bucket, which is sent.
