@@ -208,7 +208,6 @@ impl JoinedFile {
     }
 
     /// Posts a bucket that the party has in use in a queue.
-    #[inline(never)]
     fn send(&mut self, queue: u32, number: u32, length: u32) -> PostedMessage
         requires queued { self.old.party.depth ≢ 1 }
         requires queue { queue < slots_of self.old }

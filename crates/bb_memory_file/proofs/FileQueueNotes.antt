@@ -5,16 +5,15 @@ use Rattle.bb_memory_file.specs.FileCalls.{IsReceive, unseen}
 use Rattle.bb_memory_file.specs.FileCalls.received as received
 use Rattle.bb_memory_file.specs.FileCode.{Event, FileLog, Holds, Known, LoadFlag, MissFlag, Unknown, known_of, told}
 use Rattle.bb_memory_file.specs.FileLog.{held_still, is_held}
-use Rattle.bb_memory_file.specs.FileNames.{DetachedBy, Empty, FileFlag, Free, HeldBy, Message, SentTo, Slot}
-use Rattle.bb_memory_file.specs.FileNotes.{AreNoted, Cached, InUse, IsNoted, Note, Undone, Unheld}
-use Rattle.bb_memory_file.specs.FileQueueCalls.{IsStray}
+use Rattle.bb_memory_file.specs.FileNames.{DetachedBy, FileFlag, Free, HeldBy, Message, SentTo, Slot}
+use Rattle.bb_memory_file.specs.FileNotes.{AreNoted, IsNoted, Note, Undone, Unheld}
 use Rattle.bb_memory_file.specs.FileQueueLooks.{CanPass, Look, held, over, unsent}
 use Rattle.bb_memory_file.specs.FileQueueSteps.{KnowsSame, Passed, was_held, was_over, was_unsent}
 use Rattle.bb_memory_file_machine.specs.FileMachine.{same_flag}
 use Rattle.bb_memory_file_machine.specs.FileQueues.{IsMoment, earlier, lap_said, now}
 use Rattle.bb_memory_lists.proofs.SliceGets.{length-set_at, slice_get-set_other, slice_get-set_same}
 use Rattle.bb_memory_pool_machine.proofs.PoolSteps.{test_same}
-use Rattle.std.proofs.Common.{Bool, List, None, Option, Some, ap, false, length, refl, subst, sym, true, ℕ, ◌∙◌, ◌∷◌, ◌≡◌, ◌≢◌}
+use Rattle.std.proofs.Common.{Bool, List, Some, ap, false, length, refl, subst, sym, true, ℕ, ◌∙◌, ◌∷◌, ◌≡◌, ◌≢◌}
 use Rattle.std.proofs.lemmas.Bool.{eqb-false, eqb-true, ne_eqb}
 use Rattle.std.specs.Prelude.{if◌then◌else◌, slice_get, slice_set, ◌==◌}
 

@@ -29,8 +29,8 @@ StopsAt test queue old from stop new =
 
 -- SENDERS
 
--- the slot's turn has come at this lap: by its word it is empty at the lap, or has the message of the lap
--- before
+-- A sender has its turn at the lap: the slot with this word is empty at the lap, or has the message of the
+-- lap before.
 abbrev pub IsTurn : ℕ → Slot → Type 0
 IsTurn lap word = (word ≡ Empty lap) ⊎ ((bucket : ℕ) × (word ≡ Message (last_lap lap) bucket))
 

@@ -484,7 +484,6 @@ impl<W: Words + Drop> Joined<W> {
 
     /// Takes the oldest message of a queue that is sent. `size` is the size of a bucket in bytes. A message
     /// that another party has taken is left out, and one whose sender hasn't finished.
-    #[inline(never)]
     pub fn receive(&mut self, queue: u32, size: u32) -> Taken
         requires { queue < queues_of (W.log self.old.words).scene.slots self.old.depth }
         ensures { Receives W.log self.old queue size result self.new }
