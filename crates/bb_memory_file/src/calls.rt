@@ -128,7 +128,6 @@ pub fn post<W: Words>(words: &mut W, slot: u32, bucket: u32, length: u32) -> boo
 
 /// Posts a message of `length` bytes in a bucket that the party holds, and that is in no slot, into a slot
 /// that was empty at this lap. Returns whether it still was.
-#[inline(always)]
 pub fn fill<W: Words>(words: &mut W, slot: u32, lap: u32, bucket: u32, length: u32) -> bool
     requires slot { slot < (W.log words.old).scene.slots }
     requires lap { IsLap lap }
