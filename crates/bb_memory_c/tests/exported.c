@@ -19,6 +19,7 @@ typedef struct {
     uint32_t buckets;
     uint32_t parties;
     uint32_t slots;
+    uint32_t depth;
     uint32_t mode;
     size_t user_bytes;
 } file_options;
@@ -66,7 +67,7 @@ static void expect_at(int line, bool holds) {
 
 // Allocates all buckets of a pool in a file, and frees one of them.
 static void get_from_file(const char *path) {
-    const file_options options = {64, 8, 2, 1, 0, 0, 0};
+    const file_options options = {64, 8, 2, 1, 0, 0, 0, 0};
     void *file;
     void *party;
     EXPECT(bb_pool_file_open(&file, path, &options) == OK);
