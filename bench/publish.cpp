@@ -3,8 +3,8 @@
 // message, and each subscriber reads a byte of each line. No message is lost.
 //
 // Arguments: the number of rounds, and five times the number of messages of 64 bytes in a round, of
-// which there are fewer if they are longer. Prints a line for each figure, which `report` reads: the
-// nanoseconds from one message to the next.
+// which there are fewer if they are longer. Prints a line for each figure, which `report` reads:
+// the nanoseconds from one message to the next.
 #include "iceoryx.hpp"
 #include "messages.hpp"
 

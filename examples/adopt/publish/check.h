@@ -7,8 +7,8 @@
 
 #include "topic.h"
 
-// The file of the topic under test. It is removed at the end of the process that made it, also after
-// a failure.
+// The file of the topic under test. It is removed at the end of the process that made it, also
+// after a failure.
 extern char check_path[128];
 
 // Ends the process, and the one that made the file, if something isn't so, and says where.

@@ -3,11 +3,12 @@
 // bucket is lost.
 //
 //     kills run FOLDER KILLS
-//         Processes are killed at random moments, and started again. Then the same with a topic that
-//         drops messages.
+//         Processes are killed at random moments, and started again. Then the same with a topic
+//         that drops messages.
 //     kills step FOLDER KILLS
-//         A process is killed after some instruction of a call: of each call that many times, spread
-//         over its instructions. Calls that also open the topic are killed an eighth as often.
+//         A process is killed after some instruction of a call: of each call that many times,
+//         spread over its instructions. Calls that also open the topic are killed an eighth as
+//         often.
 //     kills reap FOLDER STOPS
 //         A process is stopped that many times while it reaps, and a subscriber goes on.
 #define _GNU_SOURCE
@@ -240,8 +241,8 @@ static void run(unsigned long kills) {
 
 // STEP BY STEP
 
-// What a child does before the call, and the call. With `is_first`, no message was published before,
-// so the publisher begins the subscriptions.
+// What a child does before the call, and the call. With `is_first`, no message was published
+// before, so the publisher begins the subscriptions.
 struct test_case {
     const char *name;
     bool is_first;
@@ -384,8 +385,8 @@ static uint64_t publish_one(void) {
     return number;
 }
 
-// Kills a process in a call. If `half` isn't 0, a publisher was killed before, after that many steps.
-// Then others go on. Returns how many steps the call has taken.
+// Kills a process in a call. If `half` isn't 0, a publisher was killed before, after that many
+// steps. Then others go on. Returns how many steps the call has taken.
 static unsigned long kill_and_go_on(const struct test_case *of, unsigned long steps,
                                     unsigned long half) {
     begin_anew();

@@ -9,8 +9,8 @@
 // - A subscriber's `finished` is the number of the last message that it has finished. A place is
 //   free once all its receivers have finished its message.
 // - A place's `number` is stored when its message is complete: from then on it is published. If the
-//   publisher is killed before it has posted all notes, the next one posts them. So a subscriber may
-//   get a note twice, and skips those up to `finished`.
+//   publisher is killed before it has posted all notes, the next one posts them. So a subscriber
+//   may get a note twice, and skips those up to `finished`.
 // - A note says which message was sent to its subscriber before. If that one isn't finished, a dead
 //   process had taken it, and a reap brings it back first.
 #define _POSIX_C_SOURCE 200809L
@@ -327,8 +327,8 @@ static uint64_t admit(topic *publisher) {
     return receivers;
 }
 
-// Waits until a queue has room, or until its subscription has ended. Only the publisher fills it, so
-// the room stays.
+// Waits until a queue has room, or until its subscription has ended. Only the publisher fills it,
+// so the room stays.
 static uint32_t wait_for_room(topic *publisher, uint32_t number, uint64_t deadline) {
     uint32_t code = BB_FILE_TIMED_OUT;
     while (code == BB_FILE_TIMED_OUT && is_subscribed(publisher, number)) {

@@ -62,8 +62,8 @@ BB_MUST_USE uint32_t topic_open_publisher(topic **opened, const char *path,
 
 // Opens the topic for the subscriber with this number, as `topic_open_publisher` does, and
 // subscribes, unless an earlier process has done so. The subscription lasts until
-// `topic_unsubscribe`. It begins with the next message that is published. While the subscriber isn't
-// running, its queue fills.
+// `topic_unsubscribe`. It begins with the next message that is published. While the subscriber
+// isn't running, its queue fills.
 //
 // Codes: as for `topic_open_publisher`, of this subscriber; BB_INVALID_ARGUMENT if there is no such
 // subscriber.
@@ -75,17 +75,17 @@ BB_MUST_USE uint32_t topic_open_subscriber(topic **opened, const char *path,
 // Codes: those of `bb_pool_file_close`.
 uint32_t topic_close(topic *opened);
 
-// Returns where the publisher writes its next message, at a multiple of 128. The place stays the same
-// until this message is published. Only in a file that somebody else has damaged may there be none:
-// then the call returns NULL.
+// Returns where the publisher writes its next message, at a multiple of 128. The place stays the
+// same until this message is published. Only in a file that somebody else has damaged may there be
+// none: then the call returns NULL.
 void *topic_loan(topic *publisher);
 
 // Returns the number of the message that is published next. If the last publisher was killed, its
 // messages before this one were published, and no others.
 uint64_t topic_next(const topic *publisher);
 
-// Publishes the message at `topic_loan`, which has `len` bytes. Waits at most this many milliseconds
-// while a subscriber's queue is full, if the topic doesn't drop messages.
+// Publishes the message at `topic_loan`, which has `len` bytes. Waits at most this many
+// milliseconds while a subscriber's queue is full, if the topic doesn't drop messages.
 //
 // Codes: BB_SIZE_TOO_LARGE if `len` is greater than the topic's size; BB_OUT_OF_MEMORY if
 // `topic_loan` returns NULL; BB_FILE_TIMED_OUT if the wait timed out: the message isn't published
