@@ -330,17 +330,19 @@ static uint64_t admit(topic *publisher) {
 // Waits until a queue has room, or until its subscription has ended. Only the publisher fills it,
 // so the room stays.
 static uint32_t wait_for_room(topic *publisher, uint32_t number, uint64_t deadline) {
-    uint32_t code = BB_FILE_TIMED_OUT;
-    while (code == BB_FILE_TIMED_OUT && is_subscribed(publisher, number)) {
+    uint32_t code = bb_pool_file_wait_empty(publisher->file, number, 0);
+    while (code == BB_FILE_TIMED_OUT) {
         const uint32_t time = time_until(deadline);
+        if (!is_subscribed(publisher, number))
+            return BB_OK;
+        if (time == 0)
+            return BB_FILE_TIMED_OUT;
         code = bb_pool_file_wait_empty(publisher->file, number, time);
-        if (code != BB_FILE_TIMED_OUT || time == 0)
-            return code;
-        const uint32_t reaped = reap(publisher);
+        const uint32_t reaped = code == BB_FILE_TIMED_OUT ? reap(publisher) : BB_OK;
         if (reaped != BB_OK)
             return reaped;
     }
-    return BB_OK;
+    return code;
 }
 
 // Waits for room in the queue of each receiver, or takes out those whose queue has none.

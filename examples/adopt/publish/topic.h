@@ -104,7 +104,8 @@ BB_MUST_USE uint32_t topic_receive(topic *subscriber, topic_message *message,
 // Codes: BB_NOT_HELD if there is no such message.
 uint32_t topic_finish(topic *subscriber);
 
-// Returns how many messages were dropped for this subscriber.
+// Returns how many messages were dropped for this subscriber. If a publisher was killed, that may
+// be one too many or one too few.
 uint64_t topic_dropped(const topic *subscriber);
 
 // Ends the subscription: the publisher no longer waits for this subscriber. A message that isn't
