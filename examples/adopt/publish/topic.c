@@ -274,18 +274,6 @@ static uint32_t place_begun(const topic *publisher) {
     return NOWHERE;
 }
 
-uint32_t topic_open_publisher(topic **opened, const char *path, const topic_options *options) {
-    topic *made;
-    uint32_t code = open_topic(&made, path, options);
-    if (code == BB_OK)
-        code = claim_or_close(made, &made->shared->publisher.owner);
-    if (code != BB_OK)
-        return code;
-    made->begun = place_begun(made);
-    *opened = made;
-    return BB_OK;
-}
-
 // Returns whether all receivers have finished the message at a place.
 static bool is_free(const topic *publisher, uint32_t at) {
     const struct place *place = &publisher->shared->places[at];
@@ -456,6 +444,25 @@ uint32_t topic_publish(topic *publisher, size_t len, uint32_t milliseconds) {
         return code;
     begin(publisher, receivers, len);
     return complete(publisher, UINT64_MAX);
+}
+
+// The notes that the last publisher hadn't posted are posted here, or by the next `topic_publish`
+// if a queue is full now.
+uint32_t topic_open_publisher(topic **opened, const char *path, const topic_options *options) {
+    topic *made;
+    uint32_t code = open_topic(&made, path, options);
+    if (code == BB_OK)
+        code = claim_or_close(made, &made->shared->publisher.owner);
+    if (code != BB_OK)
+        return code;
+    made->begun = place_begun(made);
+    code = complete(made, 0);
+    if (code != BB_OK && code != BB_FILE_TIMED_OUT) {
+        topic_close(made);
+        return code;
+    }
+    *opened = made;
+    return BB_OK;
 }
 
 // SUBSCRIBING

@@ -53,7 +53,8 @@ typedef struct topic_message {
     size_t len;
 } topic_message;
 
-// Opens the topic in the file at `path` for its publisher, and makes it if there is no file.
+// Opens the topic in the file at `path` for its publisher, and makes it if there is no file. Only
+// processes of one user can share it.
 //
 // Codes: BB_INVALID_ARGUMENT if no topic can have such options; BB_NO_PARTY if a living process is
 // the publisher, or for a moment after one was killed; those of `bb_pool_file_open`.
