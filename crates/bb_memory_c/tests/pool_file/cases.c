@@ -1135,26 +1135,18 @@ static size_t page_faults(void) {
     return (size_t)usage.ru_minflt;
 }
 
-// Returns whether the system maps many pages at once. Linux before 5.14 doesn't.
-static bool maps_at_once(void) {
-    void *page = mmap(NULL, PAGE, PROT_READ, MAP_PRIVATE | MAP_ANONYMOUS, -1, 0);
-    EXPECT(page != MAP_FAILED);
-    const bool maps = madvise(page, PAGE, 22) == 0;  // MADV_POPULATE_READ
-    EXPECT(munmap(page, PAGE) == 0);
-    return maps;
-}
-
 // Many buckets: opening a file again changes no flag, and requests as much memory as if there were
 // few. It has fewer page faults than half of the flags' pages, if the system makes a file in
-// memory.
+// memory, and if its pages are so small that it maps many of them at once. The words of 16352 and
+// of 16608 buckets fill their last page.
 static void many(bool again) {
-    const uint32_t numbers[] = {1000, 16352, 16353, 100000, 2200000};
+    const uint32_t numbers[] = {1000, 16352, 16353, 16608, 100000, 2200000};
     size_t few = 0;
     memfd_error = again ? 0 : EMFILE;
     bb_use_memory(allocate, release, &blocks);
-    for (int at = 0; at < 5; at++) {
+    for (int at = 0; at < 6; at++) {
         const bb_pool_file_options options = {
-            .bucket_size = 1, .bucket_align = 1, .buckets = numbers[at], .parties = 3, .slots = 1};
+            .bucket_size = 1, .bucket_align = 1, .buckets = numbers[at], .parties = 3, .slots = 2};
         bb_pool_file *one;
         bb_pool_file *two;
         requested = 0;
@@ -1165,8 +1157,8 @@ static void many(bool again) {
         memory_size = 0;
         const size_t faults = page_faults();
         EXPECT(bb_pool_file_open(&two, path, &options) == BB_OK);
-        if (at == 4 && again && maps_at_once())
-            EXPECT(page_faults() - faults < numbers[at] * sizeof(uint64_t) / system_page() / 2);
+        if (at == 5 && again && system_page() == PAGE)
+            EXPECT(page_faults() - faults < numbers[at] * sizeof(uint64_t) / PAGE / 2);
         if (at == 0)
             few = memory_size;
         EXPECT(memory_size == few);
