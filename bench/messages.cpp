@@ -6,20 +6,10 @@
 // there are fewer if they are longer. Prints a line for each figure, which `report` reads: the
 // nanoseconds of a message.
 #include "messages.hpp"
-#include <array>
-#include <fstream>
+#include "iceoryx.hpp"
 
 #ifdef WITH_ZMQ
 #include <zmq.h>
-#endif
-
-// ROUDI is the path of iceoryx's daemon.
-#ifdef ROUDI
-#include <iceoryx_hoofs/log/logmanager.hpp>
-#include <iceoryx_posh/popo/untyped_publisher.hpp>
-#include <iceoryx_posh/popo/untyped_subscriber.hpp>
-#include <iceoryx_posh/popo/wait_set.hpp>
-#include <iceoryx_posh/runtime/posh_runtime.hpp>
 #endif
 
 namespace {
@@ -134,95 +124,23 @@ void time_zmq(const traffic &of, const char *call) {
 void time_zmq(const traffic &, const char *) {}
 #endif
 
-constexpr std::array<std::size_t, 3> message_sizes = {64, 4096, 1 << 20};
-
 #ifdef ROUDI
-// iceoryx's daemon, whose shared memory has as many chunks of each size as a file has buckets.
-class roudi {
-    std::string config = path + ".toml";
-    pid_t daemon;
-
-public:
-    roudi() {
-        std::ofstream file(config);
-        file << "[general]\nversion = 1\n\n[[segment]]\n";
-        for (const std::size_t size : message_sizes)
-            file << "\n[[segment.mempool]]\nsize = " << size << "\ncount = " << buckets << "\n";
-        file.close();
-        std::fflush(stdout);
-        daemon = fork();
-        must(daemon >= 0, "fork");
-        if (daemon > 0)
-            return;
-        prctl(PR_SET_PDEATHSIG, SIGTERM);
-        const int nowhere = open("/dev/null", O_WRONLY);
-        dup2(nowhere, STDOUT_FILENO);
-        dup2(nowhere, STDERR_FILENO);
-        execl(ROUDI, ROUDI, "-c", config.c_str(), "-m", "off", "-l", "error", nullptr);
-        std::_Exit(127);
-    }
-
-    roudi(const roudi &) = delete;
-    roudi &operator=(const roudi &) = delete;
-
-    ~roudi() {
-        kill(daemon, SIGTERM);
-        waitpid(daemon, nullptr, 0);
-        unlink(config.c_str());
-    }
-};
-
-iox::capro::ServiceDescription service_of(const traffic &of) {
-    const std::string event = name + std::to_string(of.size);
-    return {"bench", "messages", iox::capro::IdString_t(iox::cxx::TruncateToCapacity, event)};
-}
-
-void register_process(unsigned number) {
-    const std::string process =
-        name.substr(1) + "-" + std::to_string(number) + "-" + std::to_string(getpid());
-    iox::log::LogManager::GetLogManager().SetDefaultLogLevel(
-        iox::log::LogLevel::kOff, iox::log::LogLevelOutput::kHideLogLevel);
-    iox::runtime::PoshRuntime::initRuntime(
-        iox::RuntimeName_t(iox::cxx::TruncateToCapacity, process));
-}
-
 std::function<void()> send_by_iceoryx(const traffic &of) {
-    iox::popo::PublisherOptions options;
-    options.subscriberTooSlowPolicy = iox::popo::ConsumerTooSlowPolicy::WAIT_FOR_CONSUMER;
-    auto own = std::make_shared<iox::popo::UntypedPublisher>(service_of(of), options);
+    auto own = open_iceoryx_publisher(of);
     while (!own->hasSubscribers())
         usleep(1000);
     return [own, of] {
-        for (std::size_t at = 0; at < of.count; at++) {
-            auto loan = own->loan(static_cast<std::uint32_t>(of.size));
-            must(!loan.has_error(), "loan");
-            write_message(loan.value(), of, at);
-            own->publish(loan.value());
-        }
+        for (std::size_t at = 0; at < of.count; at++)
+            publish_by_iceoryx(*own, of, at);
         wait_for_receiver();
     };
 }
 
 std::function<void()> receive_by_iceoryx(const traffic &of) {
-    iox::popo::SubscriberOptions options;
-    options.queueCapacity = room;
-    options.queueFullPolicy = iox::popo::QueueFullPolicy::BLOCK_PRODUCER;
-    auto own = std::make_shared<iox::popo::UntypedSubscriber>(service_of(of), options);
-    auto waiting = std::make_shared<iox::popo::WaitSet<>>();
-    must(!waiting->attachState(*own, iox::popo::SubscriberState::HAS_DATA).has_error(),
-         "attachState");
-    while (own->getSubscriptionState() != iox::SubscribeState::SUBSCRIBED)
-        usleep(1000);
-    return [own, waiting, of] {
-        for (std::size_t at = 0; at < of.count; at++) {
-            auto taken = own->take();
-            while (taken.has_error()) {
-                waiting->wait();
-                taken = own->take();
-            }
-            read_message(taken.value(), of, at);
-            own->release(taken.value());
-        }
+    auto own = std::make_shared<iceoryx_subscriber>(of, room);
+    return [own, of] {
+        for (std::size_t at = 0; at < of.count; at++)
+            own->receive(of, at);
         end_waiting();
     };
 }
@@ -240,8 +158,6 @@ void time_iceoryx(const traffic &of, const char *call) {
     print(call, 2, "", "iceoryx", time / messages_of(of));
 }
 #else
-struct roudi {};
-
 void time_iceoryx(const traffic &, const char *) {}
 #endif
 

@@ -44,6 +44,8 @@ struct shared {
     // How many processes wait for messages, and how many messages they have received.
     std::atomic<unsigned> waiting;
     std::atomic<unsigned> received;
+    // How many messages each process has received.
+    std::atomic<std::size_t> progress[most_processes];
     double nanoseconds[most_processes];
     // The processor time of each process, in nanoseconds.
     double processor_time[most_processes];

@@ -1,4 +1,4 @@
-"""Runs programs of other people over the library: each folder of `examples/adopt`, for `.ci/run-c`.
+"""Runs what the library does in other systems: each folder of `examples/adopt`, for `.ci/run-c`.
 
 A folder needs Debian packages. If one isn't installed, the folder is skipped, and a line says so.
 `.ci/run --anew`, as for a release, installs them first.
@@ -20,7 +20,8 @@ FOLDER = "examples/adopt"
 class Program:
     """A folder, the Debian package that it needs, and how to see that it is installed.
 
-    That is a name that `pkg-config` knows, and the tools that the tests run.
+    That is a name that `pkg-config` knows, and the tools that the tests run. The name is empty if
+    the package is `pkg-config` itself, by which each folder finds the library.
     """
 
     folder: str
@@ -31,6 +32,7 @@ class Program:
 
 PROGRAMS = (
     Program("dpdk", "dpdk-dev", "libdpdk", ("dpdk-test",)),
+    Program("publish", "pkg-config", "", ()),
     Program("sqlite", "libsqlite3-dev", "sqlite3", ()),
 )
 
@@ -41,6 +43,8 @@ def is_installed(program: Program, environment: Mapping[str, str] | None = None)
     tools = ("pkg-config", *program.tools)
     if any(shutil.which(tool, path=path) is None for tool in tools):
         return False
+    if program.module == "":
+        return True
     return process.run(["pkg-config", "--exists", program.module], TOP, environment).is_ok
 
 

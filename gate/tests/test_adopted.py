@@ -53,6 +53,7 @@ class AdoptedTest(CheckoutTest):
             self.assertEqual(self.check(), "")
         wanted = [
             "-s -C examples/adopt/dpdk check PREFIX=/prefix WORK=/work/dpdk",
+            "-s -C examples/adopt/publish check PREFIX=/prefix WORK=/work/publish",
             "-s -C examples/adopt/sqlite check PREFIX=/prefix WORK=/work/sqlite",
         ]
         self.assertEqual(self.made(), wanted)
@@ -62,7 +63,7 @@ class AdoptedTest(CheckoutTest):
         with self.machine(HAS_SQLITE, "dpdk-test"):
             self.assertEqual(adopted.missing_packages(), ["dpdk-dev"])
             self.assertEqual(self.check(), skipped)
-        self.assertEqual(len(self.made()), 1)
+        self.assertEqual(len(self.made()), 2)
 
     def test_a_tool_is_missing(self) -> None:
         """The headers of DPDK are in a package without its tests."""
@@ -71,12 +72,13 @@ class AdoptedTest(CheckoutTest):
 
     def test_without_pkg_config(self) -> None:
         with patch.dict(os.environ, {"PATH": "/nowhere"}):
-            self.assertEqual(adopted.missing_packages(), ["dpdk-dev", "libsqlite3-dev"])
-            self.assertEqual(len(self.check().splitlines()), 2)
+            missing = ["dpdk-dev", "pkg-config", "libsqlite3-dev"]
+            self.assertEqual(adopted.missing_packages(), missing)
+            self.assertEqual(len(self.check().splitlines()), 3)
 
     def test_a_test_that_fails(self) -> None:
         with self.machine(HAS_SQLITE), self.tool("make", "#!/bin/sh\nexit 2\n"):
-            with self.assertRaisesRegex(Failed, "status 2: make .*sqlite"):
+            with self.assertRaisesRegex(Failed, "status 2: make .*publish"):
                 self.check()
 
 
