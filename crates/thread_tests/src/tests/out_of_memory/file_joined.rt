@@ -2,7 +2,7 @@
 //! `join` and `cache` allocate memory.
 ghost use Rattle.std.specs.Prelude.{◌≡◌};
 
-use crate::tests::checks::{check, refused, same};
+use crate::tests::checks::{refused, same};
 use crate::tests::file_joined::{DEEP, receive, send};
 use bb_memory_file::joined::{Joined, Taken};
 use bb_memory_file::party::FileParty;
@@ -63,4 +63,25 @@ fn a_party_with_queues_joins_or_is_refused(rt: HostRuntime) {
     };
     same(rt, life(&mut table), 3);
     goes_on(rt, &mut party);
+}
+
+#[test]
+fn a_party_caches_or_is_refused(rt: HostRuntime) {
+    let rt = &rt;
+    let Ok(table) = FileTable::new(rt.alloc(), &[0; 74], DEEP) else {
+        return refused(rt);
+    };
+    let Some(mut party) = joined(rt, &table) else {
+        return;
+    };
+    let cached = match party.cache(rt.alloc(), 2) {
+        Ok(()) => 1,
+        Err(_) => {
+            refused(rt);
+            0
+        }
+    };
+    same(rt, party.allocate(), Some(0));
+    same(rt, party.deallocate(0), Ok(()));
+    same(rt, party.number_of_cached(), cached);
 }
