@@ -1046,6 +1046,43 @@ static void refused_memory(void) {
     remove_it();
 }
 
+// Joins a new file with these options while each of the join's requests for memory fails in turn. A
+// join that fails leaks no block and keeps no lock. Returns how many requests the join made that
+// succeeded.
+static size_t requests_of_join(const bb_pool_file_options *options) {
+    bb_pool_file *file;
+    bb_file_party *party = NULL;
+    uint32_t code = BB_MALLOC_REFUSED;
+    EXPECT(bb_pool_file_open(&file, path, options) == BB_OK);
+    const size_t opened = blocks;
+    for (to_refuse = 1; code != BB_OK; to_refuse++) {
+        memory_requests = 0;
+        code = bb_pool_file_join(file, &party);
+        EXPECT(code == BB_OK || (code == BB_MALLOC_REFUSED && blocks == opened));
+        EXPECT(info_of(file).alive == (code == BB_OK ? 1u : 0u));
+    }
+    to_refuse = 0;
+    const size_t requests = memory_requests;
+    const bb_place place = take_one(party);
+    EXPECT(bb_pool_file_post(file, party, 3, place, 5) == BB_OK);
+    EXPECT(bb_pool_file_take(file, party, 3).place == place);
+    close_it(file);
+    EXPECT(blocks == 0);
+    remove_it();
+    return requests;
+}
+
+// If a slot has room for more than one message, a join makes one more request: for where the party
+// goes on at each slot.
+static void refused_ends(void) {
+    bb_pool_file_options deep = OPTIONS;
+    deep.depth = 3;
+    bb_use_memory(allocate, release, &blocks);
+    const size_t requests = requests_of_join(&OPTIONS);
+    EXPECT(requests_of_join(&deep) == requests + 1);
+    bb_use_memory(allocate_plainly, release_plainly, NULL);
+}
+
 // Returns how many pages of addresses this process has.
 static size_t mapped_pages(void) {
     char text[64] = "";
@@ -3687,6 +3724,7 @@ int main(int argc, char **argv) {
         layouts();
         lengths();
         refused_memory();
+        refused_ends();
         many(true);
         many(false);
         addresses();
