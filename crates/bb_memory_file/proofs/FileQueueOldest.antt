@@ -28,17 +28,18 @@ module _ (queue : FileQueue) (old middle : FileLog) (count : ℕ) (before : Lose
   pub loses_on : (more : ℕ) (new : FileLog) → Loses queue middle more new → Loses queue old (more + count) new
   loses_on _ _ unbeaten = let none : count ≡ 0 + count = omega arith in subst (λ (n : ℕ). Loses queue old n middle) none before
   loses_on _ _ (searched more log new rest since) = searched (more + count) log new (loses_on more log rest) since
-  loses_on _ _ (overtaken more log from new to rest knows passes) =
+  loses_on _ _ (overtaken more log begun head first new to rest since knows seen is passes) =
       let one : (more + count) + 1 ≡ (more + 1) + count = omega arith in
-      subst (λ (n : ℕ). Loses queue old n new) one (overtaken (more + count) log from new to (loses_on more log rest) knows passes)
+      subst (λ (n : ℕ). Loses queue old n new) one
+      (overtaken (more + count) log begun head first new to (loses_on more log rest) since knows seen is passes)
   loses_on _ _ (beaten more log last slot lap bucket rest since its sent) =
       let one : (more + count) + 1 ≡ (more + 1) + count = omega arith in
       subst (λ (n : ℕ). Loses queue old n (told last (MissFlag bucket (SentTo slot lap)))) one
       (beaten (more + count) log last slot lap bucket (loses_on more log rest) since its sent)
-  loses_on _ _ (older more log new between head high low bucket other rest since fewer most sent also) =
+  loses_on _ _ (older more log new between head high low bucket other rest since fewer most pass sent also) =
       let one : (more + count) + 1 ≡ (more + 1) + count = omega arith in
       subst (λ (n : ℕ). Loses queue old n new) one
-      (older (more + count) log new between head high low bucket other (loses_on more log rest) since fewer most sent also)
+      (older (more + count) log new between head high low bucket other (loses_on more log rest) since fewer most pass sent also)
 
 pub oldest_since : (queue : FileQueue) (old one : FileLog) (found : Oldest) (new : FileLog) → Looks old one →
     FindsOldest queue one found new → FindsOldest queue old found new
@@ -92,13 +93,14 @@ module _ (queue : FileQueue) (positive : 0 < queue.depth) (old : FileLog) (head 
       (happens_now old.events stops.1.events (LoadSlot stop.position.slot stop.word) (looks_moment old stops.1 walked))))
       (subst (λ p. lap_said stop.word ≢ p.lap) at apart) (subst (λ p. ¬ IsOver p.lap stop.word) at not)
 
-  -- each message was over
-  pub head_round : (begun : FileLog) (count : ℕ) → Loses queue begun count old → IsOver stop.position.lap stop.word →
-      Loses queue begun (count + 1) new
-  head_round begun count lost over = elim stops.6 [
+  -- each message was over, though one of them was the oldest just before
+  pub head_round : (begun : FileLog) (count : ℕ) (middle : FileLog) (first : Slot) → Loses queue begun count middle →
+      Looks middle old → Happens middle.events old.events (LoadSlot head.slot first) → lap_said first ≡ head.lap →
+      IsOver stop.position.lap stop.word → Loses queue begun (count + 1) new
+  head_round begun count middle first lost since seen is over = elim stops.6 [
     | inl not ↦ absurd (not over)
     | inr all ↦
-        overtaken count old head new (position_after queue stop.position) lost knows
+        overtaken count middle old head first new (position_after queue stop.position) lost since knows seen is
         (subst (λ n. Passes IsOver queue old head (n + 1) new (position_after queue stop.position)) all
         (subst (λ log. Passes IsOver queue old head (stops.0 + 1) log (position_after queue stop.position)) (sym stops.4)
         (moves_on stops.0 stops.1 stop.position stop.word stops.3 over)))
@@ -138,4 +140,4 @@ module _ (queue : FileQueue) (old middle : FileLog) (count : ℕ) (lost : Loses 
 
     pub anew_again : IsOver stop.position.lap stop.word → Loses queue old (count + 1) new
     anew_again over =
-        head_round queue positive one head found.0 stop new stops old count (searched count middle one lost since) over
+        head_round queue positive one head found.0 stop new stops old count middle found.1.0 lost since found.1.1 found.1.2 over

@@ -6,7 +6,7 @@ use Rattle.bb_memory_file.specs.FileCalls.{Gets, Makes, unseen}
 use Rattle.bb_memory_file.specs.FileCode.{ChangesNone, EmptySlot, Event, ExchangeFlag, ExchangeSlot, FileLog, LoadEntry, LoadFlag, LoadLife, LoadSlot, MissFlag, MissSlot, StoreEntry, StoreFlag, StoreLife, begins, known_of, looks as path_looks, told}
 use Rattle.bb_memory_file.specs.FileLog.{IsLap, lap_in, seen_in}
 use Rattle.bb_memory_file.specs.FileNames.{Outside, Slot}
-use Rattle.bb_memory_file.specs.FileQueueCalls.{AllObey, Grows, Happens, IsOver, Looks, Loses, Passes, beaten, looks, moves_on, nothing, older, overtaken, searched, stays, unbeaten}
+use Rattle.bb_memory_file.specs.FileQueueCalls.{AllObey, FindsLast, Grows, Happens, IsOver, Looks, Loses, Passes, beaten, lap_filled, looks, moves_on, nothing, older, overtaken, searched, stays, unbeaten}
 use Rattle.bb_memory_file.specs.FileQueueLooks.{EventObeys, IsPosition, KnowsHead, KnowsTail, Look, Position, Queue, position_after, position_on, queue_in}
 use Rattle.bb_memory_file.specs.FileQueueSteps.{FindsTurn, IsTurn, KnowsSame, SeesBefore, Stop, StopsAt}
 use Rattle.bb_memory_file_machine.specs.FileMachine.{FileScene}
@@ -218,6 +218,19 @@ module _ (queue : FileQueue) (positive : 0 < queue.depth) where
         (before_after queue positive position its) ∙ lap_after queue positive position its)) filled,
   )
 
+  -- the party has just found that the slot before was filled last at this position
+  finds_after : (first events : List Event) (position : Position) (word : Slot) → IsMoment first events →
+      IsPosition queue position → lap_filled word ≡ position.lap →
+      FindsLast queue first (LoadSlot position.slot word ∷ events) (position_after queue position)
+  finds_after first events position word since its last = (
+    word,
+    subst (λ slot. Happens first (LoadSlot position.slot word ∷ events) (LoadSlot slot word))
+        (sym (before_after queue positive position its))
+        (happens_now first events (LoadSlot position.slot word) since),
+    last ∙ sym (ap (λ slot. lap_before (position_after queue position).lap (position_after queue position).slot slot)
+        (before_after queue positive position its) ∙ lap_after queue positive position its),
+  )
+
   pub sees_tail : (first events : List Event) (position : Position) → IsPosition queue position →
       SeesBefore queue first events position → KnowsTail queue events position
   sees_tail first events position its sees = (
@@ -243,15 +256,18 @@ module _ (queue : FileQueue) (positive : 0 < queue.depth) where
   -- the party has found the first slot, whose last lap is this one
   pub finds_tail : (old new : FileLog) (slot lap : ℕ) (word : Slot) (position : Position) →
       slot ≡ queue.number * queue.depth → new ≡ told old (LoadSlot slot word) → IsLap lap → IsFilled lap word →
-      position ≡ position_after queue (record { slot = slot; lap = lap }) →
-      SeesBefore queue old.events new.events position × IsPosition queue position
-  finds_tail old new slot lap word position at is small filled after =
+      lap ≡ lap_filled word → position ≡ position_after queue (record { slot = slot; lap = lap }) →
+      SeesBefore queue old.events new.events position × IsPosition queue position × FindsLast queue old.events new.events position
+  finds_tail old new slot lap word position at is small filled last after =
       let its : IsPosition queue (record { slot = slot; lap = lap }) =
       (subst (λ s. IsSlotOf queue s) (sym at) (first_its queue positive), small) in (
         subst (λ log. SeesBefore queue old.events log.events position) (sym is)
             (subst (λ p. SeesBefore queue old.events (LoadSlot slot word ∷ old.events) p) (sym after)
             (sees_after old.events old.events (record { slot = slot; lap = lap }) word now its filled)),
         subst (λ p. IsPosition queue p) (sym after) (after_its queue positive (record { slot = slot; lap = lap }) its),
+        subst (λ log. FindsLast queue old.events log.events position) (sym is)
+            (subst (λ p. FindsLast queue old.events (LoadSlot slot word ∷ old.events) p) (sym after)
+            (finds_after old.events old.events (record { slot = slot; lap = lap }) word now its (sym last))),
       )
 
   -- the queue goes on after a slot that is over
@@ -360,11 +376,16 @@ pub sees_since : (queue : FileQueue) (first moment events : List Event) (positio
 sees_since queue first moment events position past sees =
     (sees.0, happens_since first moment events (LoadSlot (slot_before queue position.slot) sees.0) past sees.1, sees.2)
 
+pub finds_since : (queue : FileQueue) (first moment events : List Event) (position : Position) → IsMoment first moment →
+    FindsLast queue moment events position → FindsLast queue first events position
+finds_since queue first moment events position past finds =
+    (finds.0, happens_since first moment events (LoadSlot (slot_before queue position.slot) finds.0) past finds.1, finds.2)
+
 -- the sender has begun anew
 pub finds_anew : (queue : FileQueue) (positive : 0 < queue.depth) (old middle : FileLog) (tail : Position) (stop : Stop) (new : FileLog) →
     Looks old middle → IsPosition queue tail → SeesBefore queue old.events middle.events tail →
-    StopsAt IsFilled queue middle tail stop new → FindsTurn queue old stop new
-finds_anew queue positive old middle tail stop new first its sees stops =
+    FindsLast queue old.events middle.events tail → StopsAt IsFilled queue middle tail stop new → FindsTurn queue old stop new
+finds_anew queue positive old middle tail stop new first its sees last stops =
     let knows = sees_tail queue positive old.events middle.events tail its sees in (
       stops.1,
       looks_on old middle first stops.1 (passes_look IsFilled queue middle tail stops.0 stops.1 stop.position stops.3),
@@ -383,6 +404,7 @@ finds_anew queue positive old middle tail stop new first its sees stops =
             subst (λ count. Passes IsFilled queue middle tail (count + 1) new (position_after queue stop.position)) all
                 (subst (λ log. Passes IsFilled queue middle tail (stops.0 + 1) log (position_after queue stop.position))
                 (sym stops.4) (moves_on stops.0 stops.1 stop.position stop.word stops.3 filled)),
+            last,
           )
         ]),
       ),
@@ -395,9 +417,10 @@ module _ (queue : FileQueue) (old : FileLog) where
   pub loses_look : (count : ℕ) (new : FileLog) → Loses queue old count new → Looks old new
   loses_look _ _ unbeaten = nothing
   loses_look _ _ (searched count log new rest since) = looks_on old log (loses_look count log rest) new since
-  loses_look _ _ (overtaken count log from new to rest knows passes) =
-      looks_on old log (loses_look count log rest) new (passes_look IsOver queue log from (queue.depth + 1) new to passes)
+  loses_look _ _ (overtaken count log begun head first new to rest since knows seen is passes) =
+      looks_on old log (loses_look count log rest) new
+      (looks_on log begun since new (passes_look IsOver queue begun head (queue.depth + 1) new to passes))
   loses_look _ _ (beaten count log before slot lap bucket rest since its sent) =
       looks before _ (looks_on old log (loses_look count log rest) before since) tt
-  loses_look _ _ (older count log new middle head more less bucket other rest since fewer most sent also) =
+  loses_look _ _ (older count log new middle head more less bucket other rest since fewer most pass sent also) =
       looks_on old log (loses_look count log rest) new since

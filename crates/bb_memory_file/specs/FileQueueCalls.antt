@@ -58,8 +58,21 @@ attempts process party bucket size [] = []
 attempts process party bucket size (slot ∷ slots) =
     Next process ∷ Post process party slot bucket size ∷ attempts process party bucket size slots
 
+-- the last lap at which a slot with this word was filled
+abbrev pub lap_filled : Slot → ℕ
+lap_filled (Empty lap) = last_lap lap
+lap_filled (Message lap bucket) = lap
+
+-- since the first moment the sender has found that the message of the slot before this position was the last
+-- one there: so the position wasn't filled yet
+abbrev pub FindsLast : FileQueue → List Event → List Event → Position → Type 0
+FindsLast queue old new position =
+    (last : Slot) × Happens old new (LoadSlot (slot_before queue position.slot) last)
+    × (lap_filled last ≡ lap_before position.lap position.slot (slot_before queue position.slot))
+
 -- The sender has tried these slots, the last first, and others were faster so often: another party filled
--- the slot that it had found empty, or others filled each slot of the queue while it looked at them.
+-- the slot that it had found empty. Or others filled each slot of the queue while it looked at them: it found
+-- that a slot wasn't filled yet, and then that this slot and each other one is.
 pub data Attempts (queue : FileQueue) (bucket size : ℕ) (old : FileLog) : List ℕ → ℕ → FileLog → Type 0 where
   untried : Attempts queue bucket size old [] 0 old
   sought : (tried : List ℕ) (count : ℕ) (log new : FileLog) → Attempts queue bucket size old tried count log → Looks log new →
@@ -70,9 +83,10 @@ pub data Attempts (queue : FileQueue) (bucket size : ℕ) (old : FileLog) : List
         events = StoreEntry bucket Nowhere ∷ MissSlot position.slot (Empty position.lap)
             ∷ StoreEntry bucket (In position.slot size) ∷ LoadSlot position.slot (Empty position.lap) ∷ log.events;
       })
-  passed : (tried : List ℕ) (count : ℕ) (log : FileLog) (from : Position) (new : FileLog) (to : Position) →
-      Attempts queue bucket size old tried count log → KnowsTail queue log.events from →
-      Passes IsFilled queue log from (queue.depth + 1) new to → Attempts queue bucket size old tried (count + 1) new
+  passed : (tried : List ℕ) (count : ℕ) (log before : FileLog) (from : Position) (new : FileLog) (to : Position) →
+      Attempts queue bucket size old tried count log → Looks log before → KnowsTail queue before.events from →
+      FindsLast queue log.events before.events from → Passes IsFilled queue before from (queue.depth + 1) new to →
+      Attempts queue bucket size old tried (count + 1) new
 
 -- A sender that has come to this position has found this word, by which the queue is full: the message of
 -- the lap before, or a word that no slot has there, as the sender has just found that the slot before is
@@ -116,18 +130,22 @@ abbrev pub IsOver : ℕ → Slot → Type 0
 IsOver lap word = IsLater lap (lap_said word)
 
 -- The receiver has looked since, and others were faster so often. They were done with each message of the
--- queue while it looked at them. Or it found that a message is sent, and missed it. Or it found that a
--- message is sent, and then that an older one is, too.
+-- queue while it looked at them: it found the oldest one, and then that this one and each other one is over. Or
+-- it found that a message is sent, and missed it. Or it passed a message, found that a younger one is sent, and
+-- then that the older one is, too.
 pub data Loses (queue : FileQueue) (old : FileLog) : ℕ → FileLog → Type 0 where
   unbeaten : Loses queue old 0 old
   searched : (count : ℕ) (log new : FileLog) → Loses queue old count log → Looks log new → Loses queue old count new
-  overtaken : (count : ℕ) (log : FileLog) (from : Position) (new : FileLog) (to : Position) → Loses queue old count log →
-      KnowsHead queue log.events from → Passes IsOver queue log from (queue.depth + 1) new to → Loses queue old (count + 1) new
+  overtaken : (count : ℕ) (log before : FileLog) (head : Position) (first : Slot) (new : FileLog) (to : Position) →
+      Loses queue old count log → Looks log before → KnowsHead queue before.events head →
+      Happens log.events before.events (LoadSlot head.slot first) → lap_said first ≡ head.lap →
+      Passes IsOver queue before head (queue.depth + 1) new to → Loses queue old (count + 1) new
   beaten : (count : ℕ) (log before : FileLog) (slot lap bucket : ℕ) → Loses queue old count log → Looks log before →
       IsSlotOf queue slot → Happens log.events before.events (LoadFlag bucket (SentTo slot lap)) →
       Loses queue old (count + 1) (told before (MissFlag bucket (SentTo slot lap)))
   older : (count : ℕ) (log new : FileLog) (middle : List Event) (head : Position) (more less bucket other : ℕ) →
       Loses queue old count log → Looks log new → less < more → more < queue.depth →
+      CanPass log.party middle log.events (position_on queue head less).slot (position_on queue head less).lap →
       Happens log.events middle
       (LoadFlag bucket (SentTo (position_on queue head more).slot (position_on queue head more).lap)) →
       Happens middle new.events

@@ -3,7 +3,7 @@ use Rattle.bb_memory_file.specs.FileCalls.{unseen}
 use Rattle.bb_memory_file.specs.FileCode.{FileLog, LoadFlag, LoadSlot, known_of, told}
 use Rattle.bb_memory_file.specs.FileLog.{Event, IsLap, lap_in}
 use Rattle.bb_memory_file.specs.FileNames.{Empty, Message, SentTo, Slot}
-use Rattle.bb_memory_file.specs.FileQueueCalls.{Happens, IsOver, IsStray, IsWrong, Looks, Loses, Note, Passes, Taken, Undone, Unheld, noted_after}
+use Rattle.bb_memory_file.specs.FileQueueCalls.{FindsLast, Happens, IsOver, IsStray, IsWrong, Looks, Loses, Note, Passes, Taken, Undone, Unheld, noted_after}
 use Rattle.bb_memory_file.specs.FileQueueLooks.{CanPass, KnowsHead, KnowsTail, Look, Position, ShowsUnsent, last_lap, position_after, position_on}
 pub use Rattle.bb_memory_file.specs.declared.queues.Looked.{Looked}
 pub use Rattle.bb_memory_file.specs.declared.queues.Looked.TheVariants as look
@@ -40,11 +40,12 @@ SeesBefore queue old new position =
     (last : Slot) × Happens old new (LoadSlot (slot_before queue position.slot) last)
     × IsFilled (lap_before position.lap position.slot (slot_before queue position.slot)) last
 
--- the sender has passed each slot of the queue once, and this one twice
+-- the sender has begun anew, and has passed each slot of the queue once, and this one twice
 abbrev pub ComesRound : FileQueue → FileLog → Position → FileLog → Type 0
 ComesRound queue old position new =
     (middle : FileLog) × (from : Position) × Looks old middle × KnowsTail queue middle.events from
     × Passes IsFilled queue middle from (queue.depth + 1) new (position_after queue position)
+    × FindsLast queue old.events middle.events from
 
 -- The sender has come to this position and has found this word, by which it is its turn. Or it has begun
 -- anew: if the slot is filled, so was each other one.
@@ -98,11 +99,12 @@ LooksAt notes old position word look.Empty new = word ≡ Empty position.lap
 LooksAt notes old position word look.Wrong new =
     (lap_said word ≢ position.lap) ⊎ ((bucket : ℕ) × (word ≡ Message position.lap bucket) × IsStray (slice_get notes bucket))
 
--- what a walk over the messages of a queue has found
+-- what a walk over the messages of a queue has found, once it has passed those before
 abbrev pub Walks : ℕ → FileQueue → List Note → FileLog → Position → ℕ → Walked → FileLog → Type 0
 Walks party queue notes old head slots (walked.Sent position bucket passed) new =
     (passed < slots) × (position ≡ position_on queue head passed) × (slice_get notes bucket ≡ Some Unheld) × Look new.events position.slot (Message position.lap bucket)
     × Happens old.events new.events (LoadFlag bucket (SentTo position.slot position.lap))
+    × PassesOn party queue head passed old.events new.events
 Walks party queue notes old head slots walked.Passed new = PassesOn party queue head slots old.events new.events
 Walks party queue notes old head slots walked.End new =
     (count : ℕ) × (count < slots) × PassesOn party queue head count old.events new.events
