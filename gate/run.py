@@ -6,6 +6,9 @@ of memrun, of C without and with each checker, of the Rust crate and of the Pyth
 these begins as soon as `rt ci` has built what it needs, since nothing is proved twice
 (gate/libraries.py). Last, the OOM tests run on what `rt ci` has built.
 
+The gate ends at the first part that fails. Texts are one part: all that is wrong with them is found
+first.
+
 A toolchain may keep what `rt ci` proved. `.ci/mutants` keeps what it judged, and the gate what it
 compiled for C. With `--anew`, as for a release, nothing is read that is kept, and the packages are
 installed over which other people's programs run (gate/adopted.py). The gate prints what each part
