@@ -49,7 +49,7 @@ AT_A_LIMIT = "gate/at_a_limit.txt"
 LONGEST = 3600
 # If a crate has more rounds than this, its functions are first proved as they are. That takes less
 # than to prove in each round the functions that the last one changed.
-FEW = 5
+FEW = 7
 
 
 class Outcome(Enum):
@@ -283,7 +283,7 @@ class Rounds:
     """The rounds that haven't begun, the largest first.
 
     A round can begin once the crates below its own are built. Each round of a crate proves lemmas
-    and functions that others need, too. So rounds of a crate run side by side only once there is
+    and functions that others need, too. So rounds of a crate run side by side once there is
     something to begin with. The first round keeps that, or a check of the crate as it is: that of
     `.ci/run-c`, or `prove_base` if the crate has more than a few rounds.
     """
@@ -301,9 +301,11 @@ class Rounds:
 
     def can_begin(self, round_: Round) -> bool:
         """Returns whether a round can begin. Raises Failed if a crate below won't be built."""
+        return all(self.built.has(name) for name in self.built.workspace.below(round_.crate))
+
+    def repeats_nothing(self, round_: Round) -> bool:
+        """Returns whether a round that can begin proves nothing that is being proved beside it."""
         crate = round_.crate
-        if not all(self.built.has(name) for name in self.built.workspace.below(crate)):
-            return False
         if self.built.can_begin_warm(crate):
             return True
         return crate not in self.running and not self.built.is_checked_elsewhere(crate)
@@ -319,14 +321,20 @@ class Rounds:
                 check_functions(self.built, crate, {}, sorted(functions), is_base=True)
 
     def take_ready(self) -> Round | None:
-        """Takes the first round that can begin, if there is one."""
+        """Takes the first round that can begin, if there is one, and that repeats nothing.
+
+        Once `rt ci` has ended, a round that repeats something is better than an idle processor.
+        """
         with self.lock:
-            for round_ in self.left:
-                if self.can_begin(round_):
-                    self.left.remove(round_)
-                    self.running.add(round_.crate)
-                    return round_
-        return None
+            ready = [round_ for round_ in self.left if self.can_begin(round_)]
+            best = [round_ for round_ in ready if self.repeats_nothing(round_)]
+            if not best and self.built.has_ended:
+                best = ready
+            if not best:
+                return None
+            self.left.remove(best[0])
+            self.running.add(best[0].crate)
+            return best[0]
 
     def in_turn(self) -> Iterator[Round]:
         """Yields rounds as they can begin, until none is left. Several threads may take them.

@@ -225,12 +225,19 @@ class JudgeTest(CheckoutTest):
     def test_a_round_does_not_wait_once_the_first_one_has_kept_something(self) -> None:
         rounds = self.rounds_in_turn([("low", 3), ("low", 2), ("low", 1)])
         rounds.take_ready()
-        (self.work / libraries.ENDED).touch()
         self.assertIsNone(rounds.take_ready())
         made = self.work / "made"
         write(made, {"lemma.oantt": ""})
         rounds.built.keep("low", made)
         self.assertEqual([rounds.take_ready() is None for _ in range(3)], [False, False, True])
+
+    def test_no_processor_is_idle_once_rt_ci_has_ended(self) -> None:
+        rounds = self.rounds_in_turn([("low", 3), ("low", 2), ("other", 1)])
+        rounds.take_ready()
+        (self.work / libraries.ENDED).touch()
+        with patch.object(Libraries, "is_built", return_value=True):
+            taken = [rounds.take_ready() for _ in range(3)]
+        self.assertEqual([each and each.crate for each in taken], ["other", "low", None])
 
     def test_the_first_round_waits_for_a_check_of_the_whole_crate(self) -> None:
         """`.ci/run-c` has the turn of the crate until it has compiled it."""
