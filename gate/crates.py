@@ -108,13 +108,14 @@ class Workspace:
                 found.update(file.read_bytes())
         return found.hexdigest()
 
-    def lock(self) -> TextIO:
+    def lock(self, is_shared: bool = False) -> TextIO:
         """Waits until no other run works in the lanes of this checkout, and locks them.
 
-        They stay locked as long as the returned file is open.
+        They stay locked as long as the returned file is open. Runs that only read what is built
+        share the lock.
         """
         lock = open(self.top / "crates.txt", encoding="utf-8")
-        fcntl.flock(lock, fcntl.LOCK_EX)
+        fcntl.flock(lock, fcntl.LOCK_SH if is_shared else fcntl.LOCK_EX)
         return lock
 
     def lane(self, name: str, label: str = "0") -> "Workspace":

@@ -143,6 +143,34 @@ class Function:
     line: int
 
 
+# What an edit writes after the last line of a head, if a comment takes the old body out.
+OTHER_BODY = re.compile(r" \{(?:(?!/\*|\*/).)*\} /\*")
+# The end of that comment.
+END = "*/ "
+
+
+def function_of_other_body(lines: Sequence[str], first: Change, second: Change) -> int | None:
+    """Returns the index of the first line of the function whose body two changes replace.
+
+    The first one writes another body after the head, and begins a comment. The second one ends that
+    before the next item. Returns None if they do anything else.
+    """
+    has_other_body = first.new.startswith(first.old) and OTHER_BODY.fullmatch(
+        first.new.removeprefix(first.old)
+    )
+    if not has_other_body or second.new != END + second.old or first.old not in lines:
+        return None
+    brace = lines.index(first.old) + 1
+    indentation = indent_of(first.old) // 4 * 4 - 4
+    opening, closing = (" " * indentation + mark for mark in "{}")
+    if lines[brace] != opening or closing not in lines[brace:]:
+        return None
+    # The comment may take out blank lines and comments, but nothing else, before the next item.
+    rest = lines[lines.index(closing, brace) + 1 :]
+    item = next((line for line in rest if line.strip() and not line.lstrip().startswith("//")), "")
+    return function_around(lines, brace + 1) if item.startswith(second.old) else None
+
+
 def functions_changed(edit: Edit, read: Callable[[str], str]) -> frozenset[Function] | None:
     """Returns the functions in whose bodies all changes of an edit are.
 
@@ -151,9 +179,16 @@ def functions_changed(edit: Edit, read: Callable[[str], str]) -> frozenset[Funct
     """
     found = set()
     texts: dict[str, str] = {}
-    for change in edit.changes:
+    left = list(edit.changes)
+    while left:
+        change = left.pop(0)
         text = texts.setdefault(change.file, read(change.file))
-        line = function_around(text.split("\n"), text[: text.index(change.old)].count("\n"))
+        lines = text.split("\n")
+        line = function_around(lines, text[: text.index(change.old)].count("\n"))
+        if line is None and left and left[0].file == change.file:
+            line = function_of_other_body(lines, change, left[0])
+            text = text.replace(left[0].old, left[0].new)
+            left.pop(0)
         if line is None:
             return None
         found.add(Function(change.file, line))

@@ -181,6 +181,9 @@ class Index:
         self.types = [self.type_of(file, item, aliases) for file, item in self.type_items()]
         self.traits = self.read_traits()
         self.definitions += self.read_members()
+        self.by_name: dict[str, list[Definition]] = {}
+        for each in self.definitions:
+            self.by_name.setdefault(each.item.name, []).append(each)
         self.declared = list(self.read_declared())
         self.inherited = [call for type in self.types for call in self.read_inherited(type)]
 
@@ -341,8 +344,8 @@ class Index:
         *before, name = words.split("::")
         return [
             definition
-            for definition in self.definitions
-            if definition.item.name == name and is_within(before, definition.within)
+            for definition in self.by_name.get(name, ())
+            if is_within(before, definition.within)
         ]
 
     def is_labelled(self, words: str, labels: list[str]) -> bool:

@@ -28,6 +28,8 @@ LOG = "log"
 ENDED = "ended"
 KEPT = "kept"
 ANEW = "anew"
+# The folder, of those that are kept for a crate, with which each check of the crate begins.
+BASE = "base"
 
 
 @functools.cache
@@ -106,38 +108,73 @@ class Libraries:
         return self.work is None or (self.work / ANEW).exists()
 
     def kept(self, name: str) -> Path | None:
-        """Returns the folder that has what the last check of a crate kept, if there is one."""
+        """Returns the folder with which a check of a crate begins, if there is one.
+
+        That has what a check of the crate as it is kept, or else the last check.
+        """
         if self.work is None:
             folder = self.workspace.out(name) / "incremental"
             return folder if folder.is_dir() else None
-        return max((self.work / KEPT / name).glob("*"), default=None)
+        kept = self.work / KEPT / name
+        if (kept / BASE).is_dir():
+            return kept / BASE
+        return max(kept.glob("*"), default=None)
+
+    def can_begin_warm(self, name: str) -> bool:
+        """Returns whether a check of a crate begins with all that an earlier one could have kept.
+
+        In a run of the gate, each check keeps what it proves. Without one, `./test` has done so.
+        """
+        return self.work is None or self.kept(name) is not None
+
+    def is_checked_elsewhere(self, name: str) -> bool:
+        """Returns whether another process has the turn of a crate, and keeps what it proves."""
+        if self.work is None:
+            return False
+        with self.lock_file(name).open("a", encoding="utf-8") as lock:
+            try:
+                fcntl.flock(lock, fcntl.LOCK_SH | fcntl.LOCK_NB)
+            except BlockingIOError:
+                return True
+        return False
 
     def begin(self, name: str, folder: Path) -> None:
-        """Copies what the last check of a crate kept into a folder."""
+        """Copies what an earlier check of a crate kept into a folder."""
         kept = self.kept(name)
         if kept is not None:
             shutil.copytree(kept, folder, copy_function=link)
 
-    def keep(self, name: str, folder: Path) -> None:
+    def keep(self, name: str, folder: Path, is_base: bool = False) -> None:
         """Keeps what a check of a crate has left in a folder, with all that it began with.
 
-        Only a run of the gate keeps that, until its end.
+        A check of the crate as it is keeps a base, with which each later one begins. Only a run of
+        the gate keeps anything, until its end.
         """
-        if self.work is not None and folder.is_dir():
-            kept = self.work / KEPT / name
-            kept.mkdir(parents=True, exist_ok=True)
+        if self.work is None or not folder.is_dir():
+            return
+        kept = self.work / KEPT / name
+        kept.mkdir(parents=True, exist_ok=True)
+        if not is_base:
             folder.rename(kept / f"{time.time_ns():020}")
+        elif not (kept / BASE).exists():
+            folder.rename(kept / BASE)
+
+    def lock_file(self, name: str) -> Path:
+        """Returns the file that is locked while a process has the turn of a crate."""
+        assert self.work is not None
+        return self.work / f"{name}.lock"
 
     @contextmanager
     def turn(self, name: str) -> Iterator[None]:
         """Waits while another process checks a whole crate for the first time in this gate.
 
-        This one then begins with what that one has kept.
+        This one then begins with what that one has kept. So do the mutants of the crate, if the
+        turn was taken before the crates below were built.
         """
         if self.work is None:
             yield
             return
-        with (self.work / f"{name}.lock").open("w", encoding="utf-8") as lock:
+        with self.lock_file(name).open("a", encoding="utf-8") as lock:
             fcntl.flock(lock, fcntl.LOCK_EX)
             if self.kept(name) is not None:
                 fcntl.flock(lock, fcntl.LOCK_UN)

@@ -3,9 +3,11 @@
 A mutant is a wrong body, made by an edit in crates/NAME/must-fail (gate/edits.py has the form). The
 edits are checked in rounds, the largest round first. Each round has a copy of its crate, in which
 `rattle check --only` proves the edited functions, over the built libraries of the crates below
-(gate/libraries.py). Rounds begin with what an earlier check of the crate kept, such as lemmas. The
-proof of a function uses only the contracts of its callees. So an edit counts as refused only if a
-goal of its own function stays open: a goal of another function shows nothing about the contract.
+(gate/libraries.py). A check takes some 10 s before it proves anything, so rounds are as few as can
+be. They begin with what an earlier check of the crate kept, such as lemmas. If a crate has many,
+they begin with what a check of the crate as it is has kept. The proof of a function uses only the
+contracts of its callees. So an edit counts as refused only if a goal of its own function stays
+open: a goal of another function shows nothing about the contract.
 
 Every other outcome fails, under a name of its own. An edit that can't be read or applied, or whose
 text isn't a program, is a BAD EDIT, and the other edits of its round are judged. If the prover only
@@ -22,6 +24,7 @@ import shutil
 import signal
 import threading
 import time
+from collections import Counter
 from collections.abc import Callable, Iterable, Iterator, Mapping, Sequence
 from concurrent.futures import ThreadPoolExecutor
 from contextlib import ExitStack
@@ -44,6 +47,9 @@ AT_A_LIMIT = "gate/at_a_limit.txt"
 
 # The seconds after which a check is taken to hang. The longest takes some minutes.
 LONGEST = 3600
+# If a crate has more rounds than this, its functions are first proved as they are. That takes less
+# than to prove in each round the functions that the last one changed.
+FEW = 7
 
 
 class Outcome(Enum):
@@ -128,18 +134,20 @@ def edits_of(workspace: Workspace, crate: str) -> Edits:
     return found
 
 
-def rounds_of(workspace: Workspace, crate: str, good: Iterable[Edit]) -> list[Round]:
-    """Splits edits of a crate into rounds.
+def rounds_of(workspace: Workspace, crate: str, good: Sequence[Edit]) -> list[Round]:
+    """Splits edits of a crate into rounds, as few as the edits of one function allow.
 
     An edit that changes a line outside of bodies may change a type, so it has a round of its own.
+    The others are spread evenly, those first whose function has most edits.
     """
     read = workspace.reader(crate)
+    counts = Counter(edit.function for edit in good)
     shared: list[Round] = []
     single: list[Round] = []
-    for edit in good:
+    for edit in sorted(good, key=lambda edit: -counts[edit.function]):
         functions = edits.functions_changed(edit, read)
         places = [] if functions is None else [it for it in shared if it.takes(edit, functions)]
-        round_ = places[0] if places else Round(crate, read)
+        round_ = min(places, key=lambda it: len(it.edits), default=None) or Round(crate, read)
         round_.add(edit)
         if not places:
             (single if functions is None else shared).append(round_)
@@ -205,25 +213,36 @@ def without_verdict(edit: Edit, said: Finished) -> Judgement:
     return judgement(edit, Outcome.NOT_JUDGED, f"status {said.status}: {said.text[-600:].strip()}")
 
 
+def check_functions(
+    built: Libraries, crate: str, texts: Mapping[str, str], functions: Iterable[str], is_base: bool
+) -> Finished:
+    """Checks functions in a copy of a crate that has these texts, over built libraries.
+
+    Keeps what the check has proved, for later ones, if need be as what each begins with.
+    """
+    with temporary_folder() as work:
+        copy = work / crate
+        without = shutil.ignore_patterns("out", "must-fail")
+        shutil.copytree(built.workspace.folder(crate), copy, ignore=without)
+        for file, text in texts.items():
+            (copy / file).write_text(text, encoding="utf-8")
+        kept = work / "kept"
+        built.begin(crate, kept)
+        only = [f"--only={function}" for function in functions]
+        words = ["rattle", "check", *built.words(crate), "--incremental", kept, *only]
+        ran = run_within(LONGEST, words, copy)
+        built.keep(crate, kept, is_base)
+    if ran is None:
+        return Finished(-signal.SIGKILL, f"the check hasn't ended after {LONGEST} s")
+    return Finished(ran.status, ran.output + ran.errors)
+
+
 def check_over(built: Libraries) -> Check:
     """Returns a check that runs in a copy of the round's crate, over built libraries."""
 
     def check(round_: Round) -> Finished:
-        with temporary_folder() as work:
-            crate = work / round_.crate
-            without = shutil.ignore_patterns("out", "must-fail")
-            shutil.copytree(built.workspace.folder(round_.crate), crate, ignore=without)
-            for file, text in round_.texts.items():
-                (crate / file).write_text(text, encoding="utf-8")
-            kept = work / "kept"
-            built.begin(round_.crate, kept)
-            only = [f"--only={edit.function}" for edit in round_.edits]
-            words = ["rattle", "check", *built.words(round_.crate), "--incremental", kept, *only]
-            ran = run_within(LONGEST, words, crate)
-            built.keep(round_.crate, kept)
-        if ran is None:
-            return Finished(-signal.SIGKILL, f"the check hasn't ended after {LONGEST} s")
-        return Finished(ran.status, ran.output + ran.errors)
+        functions = [edit.function for edit in round_.edits]
+        return check_functions(built, round_.crate, round_.texts, functions, is_base=False)
 
     return check
 
@@ -264,32 +283,58 @@ class Rounds:
     """The rounds that haven't begun, the largest first.
 
     A round can begin once the crates below its own are built. Each round of a crate proves lemmas
-    and functions that others need, too. So they come one after the other, and each begins with what
-    the last one kept. Once `rt ci` has ended, nothing else has work for the processors, and rounds
-    of a crate run side by side.
+    and functions that others need, too. So rounds of a crate run side by side once there is
+    something to begin with. The first round keeps that, or a check of the crate as it is: that of
+    `.ci/run-c`, or `prove_base` if the crate has more than a few rounds.
     """
 
     def __init__(self, rounds: Iterable[Round], built: Libraries) -> None:
         self.left = sorted(rounds, key=lambda round_: -len(round_.edits))
+        self.counts = Counter(round_.crate for round_ in self.left)
+        self.functions: dict[str, set[str]] = {}
+        for round_ in self.left:
+            names = {edit.function for edit in round_.edits}
+            self.functions.setdefault(round_.crate, set()).update(names)
         self.built = built
         self.running: set[str] = set()
         self.lock = threading.Lock()
 
     def can_begin(self, round_: Round) -> bool:
         """Returns whether a round can begin. Raises Failed if a crate below won't be built."""
-        if not all(self.built.has(name) for name in self.built.workspace.below(round_.crate)):
-            return False
-        return round_.crate not in self.running or self.built.has_ended
+        return all(self.built.has(name) for name in self.built.workspace.below(round_.crate))
+
+    def repeats_nothing(self, round_: Round) -> bool:
+        """Returns whether a round that can begin proves nothing that is being proved beside it."""
+        crate = round_.crate
+        if self.built.can_begin_warm(crate):
+            return True
+        return crate not in self.running and not self.built.is_checked_elsewhere(crate)
+
+    def prove_base(self, crate: str) -> None:
+        """Proves the functions of a crate's edits as they are, if that shortens its rounds.
+
+        If that fails, the rounds take longer, and nothing else changes.
+        """
+        functions = self.functions.pop(crate, set())
+        if functions and self.counts[crate] > FEW and not self.built.can_begin_warm(crate):
+            with times.job(f"what the mutants of {crate} begin with"):
+                check_functions(self.built, crate, {}, sorted(functions), is_base=True)
 
     def take_ready(self) -> Round | None:
-        """Takes the first round that can begin, if there is one."""
+        """Takes the first round that can begin, if there is one, and that repeats nothing.
+
+        Once `rt ci` has ended, a round that repeats something is better than an idle processor.
+        """
         with self.lock:
-            for round_ in self.left:
-                if self.can_begin(round_):
-                    self.left.remove(round_)
-                    self.running.add(round_.crate)
-                    return round_
-        return None
+            ready = [round_ for round_ in self.left if self.can_begin(round_)]
+            best = [round_ for round_ in ready if self.repeats_nothing(round_)]
+            if not best and self.built.has_ended:
+                best = ready
+            if not best:
+                return None
+            self.left.remove(best[0])
+            self.running.add(best[0].crate)
+            return best[0]
 
     def in_turn(self) -> Iterator[Round]:
         """Yields rounds as they can begin, until none is left. Several threads may take them.
@@ -360,7 +405,11 @@ class Run:
         check = check_over(self.built)
 
         def judge_some() -> list[Judgement]:
-            return [it for round_ in rounds.in_turn() for it in self.judge_round(round_, check)]
+            judgements = []
+            for round_ in rounds.in_turn():
+                rounds.prove_base(round_.crate)
+                judgements += self.judge_round(round_, check)
+            return judgements
 
         with ThreadPoolExecutor(CORES) as pool:
             for future in [pool.submit(judge_some) for _ in range(CORES)]:
@@ -416,8 +465,8 @@ def main(names: list[str]) -> None:
     built = libraries.libraries(workspace)
     with ExitStack() as locks:
         if built.work is None:
-            # The files that `./test` builds change while it runs.
-            locks.enter_context(workspace.lock())
+            # The files that `./test` builds change while it proves a crate.
+            locks.enter_context(workspace.lock(is_shared=True))
         found = Run(built, kept).judge_crates(names or list(workspace.crates))
     kept.remove_old()
     failed = failures(found, reasons, TOP)

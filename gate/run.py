@@ -6,6 +6,9 @@ of memrun, of C without and with each checker, of the Rust crate and of the Pyth
 these begins as soon as `rt ci` has built what it needs, since nothing is proved twice
 (gate/libraries.py). Last, the OOM tests run on what `rt ci` has built.
 
+The gate ends at the first part that fails. Texts are one part: all that is wrong with them is found
+first.
+
 A toolchain may keep what `rt ci` proved. `.ci/mutants` keeps what it judged, and the gate what it
 compiled for C. With `--anew`, as for a release, nothing is read that is kept, and the packages are
 installed over which other people's programs run (gate/adopted.py). The gate prints what each part
@@ -19,14 +22,15 @@ import signal
 import subprocess
 import sys
 import time
-from collections.abc import Iterable, Iterator, Sequence
+from collections.abc import Callable, Iterator, Sequence
+from concurrent.futures import ThreadPoolExecutor
 from contextlib import ExitStack, contextmanager
 from pathlib import Path
 from types import FrameType
 
 from gate import adopted, layout, libraries, out_of_memory, process, rt_output, times
 from gate.crates import TOP, Workspace
-from gate.process import Failed, must_run, must_show, say, status_of, wait_for
+from gate.process import Failed, must_run, say, status_of, wait_for
 from gate.temporary import temporary_folder
 from gate.times import Measured
 
@@ -195,14 +199,40 @@ def show_rows(top: Path) -> None:
     say("\n".join(lines[-5:]))
 
 
+def show_pages(top: Path) -> None:
+    """Checks that pages and comments are true. Shows the report."""
+    say(must_run([top / ".ci/pages"], top).rstrip("\n"))
+
+
+def run_all(checks: Sequence[Callable[[], object]]) -> None:
+    """Runs checks side by side, each to its end. Raises Failed with all that they find."""
+    with ThreadPoolExecutor(len(checks)) as pool:
+        started = [pool.submit(check) for check in checks]
+    found = []
+    for each in started:
+        try:
+            each.result()
+        except (Failed, OSError) as error:
+            found.append(str(error))
+    if found:
+        raise Failed("\n".join(found))
+
+
 def check_texts(top: Path) -> None:
-    """Runs the checks that prove nothing: the gate's tests, sources, pages, rows and layout."""
-    test_gate(top)
-    refuse_waiting_lines(Workspace(top))
-    must_show([top / ".ci/pages"], top)
-    show_rows(top)
-    must_show([top / "tools/imports", "--check"], top)
-    layout.run(top)
+    """Runs the checks that prove nothing: the gate's tests, sources, pages, rows and layout.
+
+    Each runs to its end, so that a run of the gate finds all that is wrong with the texts.
+    """
+    run_all(
+        [
+            lambda: test_gate(top),
+            lambda: refuse_waiting_lines(Workspace(top)),
+            lambda: show_pages(top),
+            lambda: show_rows(top),
+            lambda: must_run([top / "tools/imports", "--check"], top),
+            lambda: layout.run(top),
+        ]
+    )
 
 
 def ci_words(anew: bool) -> list[str]:

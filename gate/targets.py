@@ -60,8 +60,8 @@ def compile_over(built: Libraries, name: str, target: Target, cpu: str | None, f
 
     A later call for the same crate takes the proofs that an earlier one has kept.
     """
-    built.wait_for(built.workspace.below(name))
     with temporary_folder() as work, built.turn(name):
+        built.wait_for(built.workspace.below(name))
         kept = work / "kept"
         built.begin(name, kept)
         words = ["rattle", "build", *built.words(name, MOST_JOBS), *target.flags(cpu)]
@@ -74,7 +74,7 @@ def compile_over(built: Libraries, name: str, target: Target, cpu: str | None, f
             file,
         ]
         must_run(words, built.workspace.folder(name))
-        built.keep(name, kept)
+        built.keep(name, kept, is_base=True)
     if built.workspace.is_program(name) and machine_of(file) != target.machine:
         raise Failed(f"{name}: `rattle build` made an object for another processor")
 

@@ -16,6 +16,7 @@ import re
 import shutil
 import time
 from collections.abc import Sequence
+from dataclasses import replace
 from pathlib import Path
 
 from gate import process, prove
@@ -119,20 +120,37 @@ class Test:
             make = ["make", f"-sj{CORES}", "-C", "examples/c", "plain", *given]
             return self.part("running the examples in C", make)
 
+    def is_proved(self, plan: Plan) -> bool:
+        """Returns whether all crates of a plan are proved, so that this run only reads them."""
+        return all(prove.is_kept(self.workspace, name) for name in plan.proves)
+
+    def finish(
+        self, names: Sequence[str], wanted: Sequence[str], results: list[bool]
+    ) -> list[bool]:
+        """Runs what comes after the crates, if these passed. Returns whether each part passed."""
+        if all(results) and "memrun" in wanted:
+            results += self.part("running memrun on scripts", [TOP / ".ci/run-memrun"])
+        if all(results) and not names and process.has("cc") and process.has("make"):
+            results += self.examples()
+        return results
+
     def run(self, names: Sequence[str]) -> list[bool]:
-        """Tests these crates and those below them, or all. Returns whether each part passed."""
+        """Tests these crates and those below them, or all. Returns whether each part passed.
+
+        If they are proved, other runs that only read what is built go on beside this one.
+        """
         wanted = wanted_crates(self.workspace, names)
         plan = plan_of(self.workspace, wanted)
         say(
             f"test: proving {' '.join(plan.proves)} on {CORES} processors, after any other run here"
         )
+        with self.workspace.lock(is_shared=True):
+            if self.is_proved(plan):
+                proved = [True] * len(plan.proves)
+                tested = self.crates(replace(plan, proves=[]))
+                return self.finish(names, wanted, proved + tested)
         with self.workspace.lock():
-            results = self.crates(plan)
-            if all(results) and "memrun" in wanted:
-                results += self.part("running memrun on scripts", [TOP / ".ci/run-memrun"])
-            if all(results) and not names and process.has("cc") and process.has("make"):
-                results += self.examples()
-        return results
+            return self.finish(names, wanted, self.crates(plan))
 
 
 def main(names: list[str]) -> None:

@@ -72,7 +72,7 @@ WORDS = (
         rf"(?!(?:{DEFINING})\Z)(?:{OF_READERS})",
     ),
     Word(r"\b[Ff]igures?\b", "statistics, or sizes", OF_USERS),
-    Word(r"(?m)^ *Has (?:an?|all|each|the) ", "Makes", OF_USERS),
+    Word(r"(?m)^\x20*Has (?:an?|all|each|the) ", "Makes", OF_USERS),
     Word(r"\b[Ee]xactly if\b", "if and only if, or only if", OF_READERS),
     Word(r"\b[Ww]here (?:no|none|nothing|nobody|there (?:is|are|was|were))\b", "if"),
     Word(rf"{NOT_A_PLACE}\b[Ww]here {SUBJECT} (?:[\w'-]+ ){{0,4}}?{IS}\b{NOT_PLACED}", "if"),

@@ -16,7 +16,7 @@
 //     bb::pool_party party;
 //     if (pool.join(party) != bb::error::ok)
 //         return;
-//     // The pointer is empty if the pool refuses.
+//     // The pointer is empty if no bucket is free.
 //     auto number = bb::make<int>(party.get(), 7);
 //     bb::pool_resource nodes(party.get());
 //     std::pmr::list<int> numbers({1, 2, 3}, &nodes);
@@ -95,7 +95,7 @@ inline const char *name(error code) noexcept {
 }
 
 //
-// FIGURES
+// STATISTICS
 //
 
 // Returns the statistics of what is in the handle, or nothing if the handle is empty.
@@ -406,7 +406,7 @@ public:
     // Returns the statistics of the pool, or nothing if there is none.
     std::optional<bb_shared_pool_figures> info() noexcept { return bb::info(get()); }
 
-    // Has `into` join as the party with this number, which `number()` returns.
+    // Makes `into` join as the party with this number, which `number()` returns.
     error join_number(std::uint32_t number, party &into) noexcept {
         return join_by(
             [number](bb_shared_pool *of, bb_pool_party *handle) {

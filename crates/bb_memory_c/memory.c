@@ -1,11 +1,12 @@
 // The source of the library's own memory. This file is outside the proofs: all that a contract says
 // of a request for memory is that it may fail. The Makefile has the library call `memory_*` in
-// place of `malloc` and `free`.
+// place of `malloc`, `free` and `memset`.
 
 // For `posix_memalign` in C99.
 #define _POSIX_C_SOURCE 200112L
 
 #include <stdlib.h>
+#include <string.h>
 
 #include "bb_memory.h"
 #include "memory.h"
@@ -62,53 +63,76 @@ static void release_by(void *block) {
 // Hidden: the archive and the shared library export only `bb_*`.
 void *memory_allocate(size_t size);
 void memory_release(void *block);
+void *memory_fill(void *block, int byte, size_t size);
 
 // A thread's loan of memory: memory.h.
 static __thread struct {
-    void *block;
+    void *list;
+    void *row;
     size_t size;
-    // How many requests come before those that get the block, and how many of these are left.
-    unsigned before;
+    size_t period;
+    // How many of the two requests are left.
     unsigned left;
-    // How many times the library has the block.
-    int given;
+    // How many times the library has the list, and the row.
+    int lists;
+    int rows;
 } loan;
 
-void memory_lend(void *block, size_t size, unsigned first, unsigned count) {
-    loan.block = block;
+void memory_lend(void *list, void *row, size_t size, size_t period) {
+    loan.list = list;
+    loan.row = row;
     loan.size = size;
-    loan.before = first - 1;
-    loan.left = count;
-    loan.given = 0;
+    loan.period = period;
+    loan.left = 2;
+    loan.lists = 0;
+    loan.rows = 0;
+}
+
+void memory_take_back(void *row) {
+    memory_lend(NULL, row, 0, 0);
+    loan.left = 0;
 }
 
 bool memory_end_loan(void) {
-    loan.block = NULL;
+    loan.list = NULL;
+    loan.row = NULL;
     loan.left = 0;
-    return loan.given == 1;
+    return loan.lists == 0 && loan.rows == 1;
 }
 
 void *memory_allocate(size_t size) {
     if (loan.left == 0)
         return allocate_by(size);
-    if (loan.before > 0) {
-        loan.before--;
-        return allocate_by(size);
-    }
     loan.left--;
     if (size != loan.size)
         return NULL;
-    loan.given++;
-    return loan.block;
+    if (loan.left == 1) {
+        loan.lists++;
+        return loan.list;
+    }
+    loan.rows++;
+    return loan.row;
 }
 
 // Does nothing for NULL, as `free` does: the host's function never gets it.
 void memory_release(void *block) {
     if (block == NULL)
         return;
-    if (block == loan.block) {
-        loan.given--;
+    if (block == loan.list && loan.lists > 0) {
+        loan.lists--;
+        return;
+    }
+    if (block == loan.row) {
+        loan.rows--;
         return;
     }
     release_by(block);
+}
+
+// Fills `size` bytes of `block`, as `memset` does. If `block` is the list of a loan, its first
+// `period` bytes are all the memory that it has.
+void *memory_fill(void *block, int byte, size_t size) {
+    if (block != NULL && block == loan.list && size > loan.period)
+        size = loan.period;
+    return memset(block, byte, size);
 }

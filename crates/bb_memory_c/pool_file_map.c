@@ -23,23 +23,20 @@
 #include <time.h>
 #include <unistd.h>
 
-// Requests that older headers of the C library lack.
-#ifndef MADV_POPULATE_READ
-#define MADV_POPULATE_READ 22
-#endif
+// A flag that older headers of the C library lack.
 #ifndef MAP_FIXED_NOREPLACE
 #define MAP_FIXED_NOREPLACE 0x100000
 #endif
 
 enum {
-    // Of the requests for memory that `file_table_init` makes, the first is for a list of zeros,
-    // and the second for the row of words, which is a copy of that list.
-    ZEROS_REQUEST = 1,
-    WORDS_REQUESTS = 2,
     // If the words take more bytes than this, they are at first that many bytes or more, which are
     // mapped again and again, at most MOST_STAND_INS times.
     STAND_IN = 1 << 18,
     MOST_STAND_INS = 64,
+    // The library copies a list of zeros into the row of words. If there are many words, the list
+    // begins this many bytes after the row: to the same address, the compiled code copies it word
+    // by word.
+    LIST_AFTER = 128,
     // The file is mapped at another place if another thread has taken the first one, at most this
     // many times.
     MOST_PLACES = 100
@@ -53,10 +50,21 @@ static size_t mapped_size(const bb_pool_file *file) {
     return round_up(size, file->page);
 }
 
-// Returns how many bytes of memory the system maps if it maps no more than the words. Events and
-// region may begin in their last page.
+// Returns whether the words at first are a part that is mapped again and again.
+static bool has_many_words(const bb_pool_file *file) {
+    return file->words_size > STAND_IN;
+}
+
+// Returns how many bytes after the row of words the library's list of zeros begins. If there are
+// few words, another page would take longer than a copy word by word.
+static size_t list_after(const bb_pool_file *file) {
+    return has_many_words(file) ? LIST_AFTER : 0;
+}
+
+// Returns how many bytes of memory the system maps if it maps no more than the words, as a row and
+// as a list. Events and region may begin in their last page.
 static size_t mapped_for_words(const bb_pool_file *file) {
-    return round_up(file->lead + file->words_size, file->page);
+    return round_up(file->lead + file->words_size + list_after(file), file->page);
 }
 
 // Unmaps what this process has at the addresses of the file. Returns false if the system fails:
@@ -148,17 +156,18 @@ static bool repeat(bb_pool_file *file, int fd, size_t part) {
         file->mapped = NULL;
         return false;
     }
-    // This saves a page fault for each page. Linux before 5.14 refuses it.
-    madvise(file->mapped, size, MADV_POPULATE_READ);
     return true;
 }
 
-// Maps the same few pages over the words again and again: they stay in the cache, and no others
+// Returns how many bytes are mapped over the words again and again.
+static size_t size_of_part(const bb_pool_file *file) {
+    const size_t part = round_up(mapped_for_words(file) / MOST_STAND_INS + 1, file->page);
+    return part < STAND_IN ? STAND_IN : part;
+}
+
+// Maps the same `part` bytes over the words again and again: they stay in the cache, and no others
 // have to be cleared. Returns false if the system fails.
-static bool map_again_and_again(bb_pool_file *file) {
-    size_t part = round_up(mapped_for_words(file) / MOST_STAND_INS + 1, file->page);
-    if (part < STAND_IN)
-        part = STAND_IN;
+static bool map_again_and_again(bb_pool_file *file, size_t part) {
     const int fd = memfd_create("bb_pool_file", MFD_CLOEXEC);
     if (fd < 0)
         return false;
@@ -169,12 +178,15 @@ static bool map_again_and_again(bb_pool_file *file) {
 }
 
 // Reserves the file's addresses, and maps memory for the words, for as long as the library makes
-// its table, which fills them with zeros.
-static bool map_stand_ins(bb_pool_file *file) {
+// its table, which fills them with zeros. `*period` is how many bytes of this memory are mapped
+// again and again, or SIZE_MAX if none are.
+static bool map_stand_ins(bb_pool_file *file, size_t *period) {
     if (!reserve(file))
         return false;
-    if (file->words_size > STAND_IN && map_again_and_again(file))
+    *period = size_of_part(file);
+    if (has_many_words(file) && map_again_and_again(file, *period))
         return true;
+    *period = SIZE_MAX;
     if (file->mapped == NULL && !reserve(file))
         return false;
     return mprotect(file->mapped, mapped_for_words(file), PROT_READ | PROT_WRITE) == 0;
@@ -182,10 +194,10 @@ static bool map_stand_ins(bb_pool_file *file) {
 
 // Makes this process's table of the words, which so far are the stand-ins. The library uses them
 // for its list of zeros and for the copy of that list: it writes nothing but zeros to either.
-static uint32_t make_table(bb_pool_file *file) {
+static uint32_t make_table(bb_pool_file *file, size_t period) {
     const struct header *head = &file->head;
     const size_t size = BB_BYTES_FOR(head->bucket_size, head->bucket_align, head->buckets);
-    memory_lend(file->words, file->words_size, ZEROS_REQUEST, WORDS_REQUESTS);
+    memory_lend(file->words + list_after(file), file->words, file->words_size, period);
     const uint32_t code =
         file_table_init(&file->table, head->bucket_size, head->bucket_align, file->region, size,
                         head->buckets, number_of_cells(head), head->parties);
@@ -201,9 +213,10 @@ static uint32_t make_table(bb_pool_file *file) {
 // No call on the words comes before the file is mapped. So all operations of all processes are on
 // the words of the file, and these began as zeros.
 static uint32_t map_once(bb_pool_file *file) {
-    if (!map_stand_ins(file))
+    size_t period;
+    if (!map_stand_ins(file, &period))
         return BB_FILE_SYSTEM;
-    const uint32_t code = make_table(file);
+    const uint32_t code = make_table(file, period);
     if (code != BB_OK)
         return code;
     const size_t size = mapped_size(file);
@@ -223,7 +236,7 @@ static uint32_t map_once(bb_pool_file *file) {
 static void free_table(bb_pool_file *file) {
     if (file->words == NULL)
         return;
-    memory_lend(file->words, 0, 1, 0);
+    memory_take_back(file->words);
     file_table_abandon(&file->table);
     memory_end_loan();
     file->words = NULL;
@@ -249,6 +262,8 @@ static pthread_mutex_t all_mutex = PTHREAD_MUTEX_INITIALIZER;
 static pthread_once_t once = PTHREAD_ONCE_INIT;
 // Why no fork runs the functions below, or 0 if each fork does.
 static int begin_error;
+// Whether the system had several processors at the first open.
+static bool is_parallel;
 
 static void lock_all(void) {
     pthread_mutex_lock(&all_mutex);
@@ -287,6 +302,7 @@ static void in_child(void) {
 }
 
 static void begin(void) {
+    is_parallel = sysconf(_SC_NPROCESSORS_ONLN) > 1;
     begin_error = pthread_atfork(before_fork, in_parent, in_child);
 }
 
@@ -327,7 +343,7 @@ static uint32_t try_file(bb_pool_file *file, const char *path, const bb_pool_fil
     file->mine = calloc(file->head.parties, sizeof *file->mine);
     if (file->parties == NULL || file->mine == NULL)
         return BB_MALLOC_REFUSED;
-    file->is_parallel = sysconf(_SC_NPROCESSORS_ONLN) > 1;
+    file->is_parallel = is_parallel;
     return map_all(file);
 }
 

@@ -140,6 +140,33 @@ class FunctionsTest(unittest.TestCase):
     def test_a_change_of_a_type(self) -> None:
         self.assertIsNone(self.changed("> least => < least", "count: usize, => count: u32,"))
 
+    def test_another_body(self) -> None:
+        """A comment takes the old body out, from the end of the head to the next function."""
+        head = "        ensures { result ≡ 0 }"
+        other = f"{head} => {head} {{ 1 }} /*"
+        rest = "    fn many( => */     fn many("
+        count = edits.Function("src/lib.rt", 8)
+        self.assertEqual(self.changed(other, rest), {count})
+        many = edits.Function("src/lib.rt", 18)
+        self.assertEqual(self.changed("> least => < least", other, rest), {many, count})
+        for pairs in (
+            # Another clause, no body, and two functions.
+            (f"{head} => {head.replace('0', '1')} {{ 1 }} /*", rest),
+            (f"{head} => {head} /*", rest),
+            (f"{head} => {head} {{ 1 }} */ /*", rest),
+            (f"{head} => {head} {{ 1 }} fn one() {{ /*", rest),
+            # The comment ends within the body, takes out another function, or doesn't end.
+            (other, "        if self.count > 0 { => */         if self.count > 0 {"),
+            (
+                other,
+                "    pub fn is_empty(&self) -> bool { => */     pub fn is_empty(&self) -> bool {",
+            ),
+            (other, "        self.count() == 0 => */ self.count() >= 0"),
+            (other,),
+        ):
+            with self.subTest(pairs):
+                self.assertIsNone(self.changed(*pairs))
+
 
 if __name__ == "__main__":
     unittest.main()

@@ -122,10 +122,27 @@ class LibrariesTest(CheckoutTest):
         text = (self.work / "third/lemma.oantt").read_text(encoding="utf-8")
         self.assertEqual(text, "other")
 
+    def test_a_base_is_what_each_later_check_begins_with(self) -> None:
+        checks = (("part", False), ("base", True), ("again", True), ("later", False))
+        with built_by_gate(self) as built:
+            for name, is_base in checks:
+                write(self.work / name, {"lemma.oantt": name})
+                built.keep("low", self.work / name, is_base)
+            built.begin("low", self.work / "last")
+        text = (self.work / "last/lemma.oantt").read_text(encoding="utf-8")
+        self.assertEqual(text, "base")
+
     def test_a_check_that_keeps_nothing(self) -> None:
         with built_by_gate(self) as built:
             built.keep("low", self.work / "nothing")
             self.assertIsNone(built.kept("low"))
+
+    def test_a_turn_is_seen_by_others(self) -> None:
+        with built_by_gate(self) as built:
+            self.assertFalse(built.is_checked_elsewhere("low"))
+            with built.turn("low"):
+                self.assertTrue(built.is_checked_elsewhere("low"))
+            self.assertFalse(built.is_checked_elsewhere("low"))
 
     def test_a_turn_lasts_until_something_is_kept(self) -> None:
         with built_by_gate(self) as built:

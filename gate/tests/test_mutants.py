@@ -109,6 +109,18 @@ class JudgeTest(CheckoutTest):
         self.outcomes()
         self.assertEqual(self.checked, [["one"], ["two"]])
 
+    def test_rounds_are_few_and_even(self) -> None:
+        """The function with most edits has one in each round."""
+        names = ("round_up", "within", "third", "last")
+        source = "".join(f"fn {name} {{\n    {name} + 1\n}}\n" for name in names)
+        self.write({f"crates/{CRATE}/src/layout.rt": source})
+        for number, name in enumerate(["last", "last", "last", *names[:3]]):
+            text = f"file: src/layout.rt\nold: {name} + 1\nnew: {name} + 2\n"
+            self.add(**{f"edit{5 - number}": f"# function: layout::{name}\n{text}"})
+        found = [sorted(edit.function[8:] for edit in each.edits) for each in self.rounds()]
+        self.assertEqual([len(each) for each in found], [2, 2, 2])
+        self.assertTrue(all("last" in each for each in found))
+
     def test_a_check_that_was_killed_judges_nothing(self) -> None:
         self.assertIs(self.outcome("so far: 1 of 2\n", -9), Outcome.NOT_JUDGED)
 
@@ -210,12 +222,61 @@ class JudgeTest(CheckoutTest):
         self.assertIsNone(rounds.take_ready())
         self.assertEqual(len(next(first).edits), 2)
 
-    def test_a_round_does_not_wait_once_rt_ci_has_ended(self) -> None:
-        rounds = self.rounds_in_turn([("low", 3), ("low", 2)])
+    def test_a_round_does_not_wait_once_the_first_one_has_kept_something(self) -> None:
+        rounds = self.rounds_in_turn([("low", 3), ("low", 2), ("low", 1)])
         rounds.take_ready()
         self.assertIsNone(rounds.take_ready())
+        made = self.work / "made"
+        write(made, {"lemma.oantt": ""})
+        rounds.built.keep("low", made)
+        self.assertEqual([rounds.take_ready() is None for _ in range(3)], [False, False, True])
+
+    def test_no_processor_is_idle_once_rt_ci_has_ended(self) -> None:
+        rounds = self.rounds_in_turn([("low", 3), ("low", 2), ("other", 1)])
+        rounds.take_ready()
         (self.work / libraries.ENDED).touch()
+        with patch.object(Libraries, "is_built", return_value=True):
+            taken = [rounds.take_ready() for _ in range(3)]
+        self.assertEqual([each and each.crate for each in taken], ["other", "low", None])
+
+    def test_the_first_round_waits_for_a_check_of_the_whole_crate(self) -> None:
+        """`.ci/run-c` has the turn of the crate until it has compiled it."""
+        rounds = self.rounds_in_turn([("low", 3), ("other", 1)])
+        made = self.work / "made"
+        write(made, {"lemma.oantt": ""})
+        with rounds.built.turn("low"):
+            taken = [rounds.take_ready(), rounds.take_ready()]
+            self.assertEqual([each and each.crate for each in taken], ["other", None])
+            rounds.built.keep("low", made, is_base=True)
         self.assertIsNotNone(rounds.take_ready())
+
+    def test_a_crate_of_many_rounds_is_first_proved_as_it_is(self) -> None:
+        """Once for all rounds, and not if another check has kept a base."""
+        rattle = f'#!/bin/sh\necho "$*" >>"{self.work}/words"\nmkdir ../kept\n'
+        rounds = self.rounds_in_turn([("low", 2), ("low", 1), ("other", 1)])
+        with (
+            self.tool("rattle", rattle),
+            patch("gate.mutants.FEW", 1),
+            patch("gate.libraries.kit_folder", return_value=self.work / "kit"),
+        ):
+            for crate in ("low", "low", "other"):
+                rounds.prove_base(crate)
+        (command,) = (self.work / "words").read_text(encoding="utf-8").splitlines()
+        self.assertIn("--crate-name low ", command)
+        self.assertTrue(command.endswith(" --only=f"), command)
+        self.assertEqual(rounds.built.kept("low"), self.work / "kept/low/base")
+
+    def test_a_round_begins_if_a_check_of_the_whole_crate_failed(self) -> None:
+        rounds = self.rounds_in_turn([("low", 3), ("low", 2)])
+        with rounds.built.turn("low"):
+            self.assertIsNone(rounds.take_ready())
+        self.assertEqual([rounds.take_ready() is None for _ in range(2)], [False, True])
+
+    def test_rounds_run_side_by_side_over_what_the_tests_have_built(self) -> None:
+        rounds = self.rounds_in_turn([("low", 3), ("low", 2)])
+        rounds.built = Libraries(rounds.built.workspace, None)
+        with patch.object(Libraries, "is_built", return_value=True):
+            self.assertEqual([rounds.take_ready() is None for _ in range(2)], [False, False])
 
     def test_a_check_that_hangs_judges_nothing(self) -> None:
         self.add(round_up=ROUND_UP)

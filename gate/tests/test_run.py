@@ -164,6 +164,22 @@ class GateTest(CheckoutTest):
                 self.run_gate()
             self.write({command: WELL})
 
+    def test_all_that_is_wrong_with_texts_is_found_at_once(self) -> None:
+        self.write({".ci/pages": BADLY, "tools/imports": BADLY.replace("planted", "unsorted")})
+        self.write({"crates/low/src/lock.rt": "use std::sync::Wait;\n"})
+        self.ran_layout.side_effect = Failed("laid out badly")
+        with self.assertRaises(Failed) as raised:
+            self.run_gate()
+        for finding in ("planted", "unsorted", "laid out badly", "lock.rt:1: use std::sync::Wait;"):
+            self.assertIn(finding, str(raised.exception))
+        self.ran_oom_tests.assert_not_called()
+
+    def test_a_text_that_cannot_be_checked_hides_no_finding(self) -> None:
+        self.write({".ci/pages": BADLY})
+        (self.top / "tools/imports").unlink()
+        with self.assertRaisesRegex(Failed, "(?s)planted.*No such file"):
+            self.run_gate()
+
     def test_a_failure_ends_what_runs_beside(self) -> None:
         """The sleep that the mutants have started gets the signal that ends them."""
         started = self.work / "started"

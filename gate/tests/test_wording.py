@@ -91,6 +91,11 @@ class Sentences(unittest.TestCase):
             with self.subTest(sentence):
                 self.assertEqual(found(sentence), [])
 
+    def test_after_blank_lines(self) -> None:
+        """The line is that of the word, and many blank lines take no longer than others."""
+        (line,) = found(20_000 * "\n" + "Has the library call another function.")
+        self.assertTrue(line.startswith("README.md:20001: "), line)
+
     def test_words_of_two_paragraphs(self) -> None:
         self.assertEqual(found("The reply is so\n\nmany lines"), [])
 

@@ -1,7 +1,7 @@
 -- If each process obeys the rules of a queue by what it has seen itself, and by looks that are recent, the
 -- acts of the run obey them.
 use Rattle.bb_memory_file.proofs.FileKnows.{known_kept, may_be_after}
-use Rattle.bb_memory_file.proofs.FileRunMoments.{Knowing, Lives, MadeAt, contains_later, events_moment, events_session, has_locked, knowing, last_made, lives_before, made_at, made_in_order, moment_of, own_moment}
+use Rattle.bb_memory_file.proofs.FileRunMoments.{Knowing, Lives, MadeAt, contains_later, events_moment, events_session, has_locked, knowing, last_made, lives_before, made_at, made_in_order, own_moment}
 use Rattle.bb_memory_file.proofs.FileRunSteps.{log_of, own_mine, session}
 use Rattle.bb_memory_file.specs.FileCode.{EmptySlot, Event, ExchangeFlag, ExchangeSlot, FileLog, Finds, Has, Holds, IsKnown, IsStep, LoadEntry, LoadFlag, LoadLife, LoadSlot, MayBe, MissFlag, MissSlot, StoreEntry, StoreFlag, StoreLife, Unknown, known_of, left_by}
 use Rattle.bb_memory_file.specs.FileLog.{Known, is_held, known_by}
@@ -15,6 +15,7 @@ use Rattle.bb_memory_file_machine.proofs.FileEffects.{one_value, set_cases, stay
 use Rattle.bb_memory_file_machine.proofs.FileInvariant.{Sound}
 use Rattle.bb_memory_file_machine.proofs.FileKinds.{Kind, allocates, attaches, detaches, gives, kind_of, puts_back, receives, recovers, refuses, sends, settles, settles_sent}
 use Rattle.bb_memory_file_machine.proofs.FileTests.{flag_missing}
+use Rattle.bb_memory_file_machine.proofs.QueueHistories.{moment_of}
 use Rattle.bb_memory_file_machine.specs.FileLaws.{IsFlag, IsHolder, IsSlot}
 use Rattle.bb_memory_file_machine.specs.FileMachine.{FileMove, FileWords, move_at, with_flag, with_slot}
 use Rattle.bb_memory_file_machine.specs.FileQueues.{FileQueue, HasSeen, IsMoment, IsSlotOf, MayEmpty, MayFill, MayPass, MayTake, earlier, fills, lap_before, next_lap, now, slot_before}

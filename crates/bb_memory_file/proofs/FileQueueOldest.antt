@@ -1,15 +1,16 @@
 -- Where a receiver finds that a queue begins.
-use Rattle.bb_memory_file.proofs.FileQueueWalks.{happens_now, happens_since, looks_moment, looks_on, loses_look, passes_head, passes_look, passes_to, same_scene, stops_look}
+use Rattle.bb_memory_file.proofs.FileQueueWalks.{happens_now, happens_since, looks_moment, looks_on, loses_look, passes_first, passes_head, passes_look, passes_to, same_scene, stops_look}
 use Rattle.bb_memory_file.specs.FileCode.{Event, FileLog, LoadSlot, MissFlag, told}
 use Rattle.bb_memory_file.specs.FileNames.{Message, SentTo, Slot}
-use Rattle.bb_memory_file.specs.FileQueueCalls.{Happens, IsOver, IsWrong, Looks, Loses, Note, Passes, back, beaten, far, moves_on, older, overtaken, searched, stray, unbeaten}
-use Rattle.bb_memory_file.specs.FileQueueLooks.{KnowsHead, Position, Queue, position_after, queue_in}
+use Rattle.bb_memory_file.specs.FileQueueCalls.{Happens, IsOver, IsWrong, Looks, Loses, Note, Passes, back, beaten, far, moves_on, older, overtaken, round, searched, stray, unbeaten}
+use Rattle.bb_memory_file.specs.FileQueueLooks.{KnowsHead, Position, Queue, position_after, position_on, queue_in}
 use Rattle.bb_memory_file.specs.FileQueueSteps.{FindsHead, FindsOldest, Oldest, Stop, StopsAt}
 use Rattle.bb_memory_file.specs.FileQueueSteps.oldest as oldest
 use Rattle.bb_memory_file_machine.specs.FileMachine.{FileScene}
-use Rattle.bb_memory_file_machine.specs.FileQueues.{FileQueue, IsMoment, lap_said}
-use Rattle.std.proofs.Common.{List, None, Option, Some, arith, inl, inr, subst, sym, ℕ, ◌+◌, ◌<◌, ◌≡◌, ◌≢◌}
-use Rattle.std.specs.Prelude.{◌^◌}
+use Rattle.bb_memory_file_machine.specs.FileQueues.{FileQueue, IsMoment, lap_said, now}
+use Rattle.std.proofs.Common.{Bool, List, None, Option, Some, ap, arith, false, inl, inr, refl, subst, sym, true, ℕ, ◌+◌, ◌<◌, ◌∙◌, ◌≡◌, ◌≢◌}
+use Rattle.std.proofs.lemmas.Bool.{ltb-false, ltb-true}
+use Rattle.std.specs.Prelude.{nat_lt, ◌^◌}
 
 -- SINCE AN EARLIER MOMENT
 
@@ -18,6 +19,8 @@ pub wrong_since : (notes : List Note) (queue : FileQueue) (first moment events :
 wrong_since notes queue first moment events past (back head count one word before most knows seen is since later apart not) =
     back head count one word before most knows (happens_since first moment before (LoadSlot head.slot one) past seen) is since later
     apart not
+wrong_since notes queue first moment events past (round head over word before its seen is later apart not) =
+    round head over word before its (happens_since first moment before (LoadSlot head.slot over) past seen) is later apart not
 wrong_since notes queue first moment events past (stray slot lap bucket its seen is) =
     stray slot lap bucket its (happens_since first moment events (LoadSlot slot (Message lap bucket)) past seen) is
 wrong_since notes queue first moment events past (far slot other one two its others seen also is) =
@@ -28,17 +31,18 @@ module _ (queue : FileQueue) (old middle : FileLog) (count : ℕ) (before : Lose
   pub loses_on : (more : ℕ) (new : FileLog) → Loses queue middle more new → Loses queue old (more + count) new
   loses_on _ _ unbeaten = let none : count ≡ 0 + count = omega arith in subst (λ (n : ℕ). Loses queue old n middle) none before
   loses_on _ _ (searched more log new rest since) = searched (more + count) log new (loses_on more log rest) since
-  loses_on _ _ (overtaken more log from new to rest knows passes) =
+  loses_on _ _ (overtaken more log start from first new to rest since seen lap knows passes) =
       let one : (more + count) + 1 ≡ (more + 1) + count = omega arith in
-      subst (λ (n : ℕ). Loses queue old n new) one (overtaken (more + count) log from new to (loses_on more log rest) knows passes)
+      subst (λ (n : ℕ). Loses queue old n new) one
+      (overtaken (more + count) log start from first new to (loses_on more log rest) since seen lap knows passes)
   loses_on _ _ (beaten more log last slot lap bucket rest since its sent) =
       let one : (more + count) + 1 ≡ (more + 1) + count = omega arith in
       subst (λ (n : ℕ). Loses queue old n (told last (MissFlag bucket (SentTo slot lap)))) one
       (beaten (more + count) log last slot lap bucket (loses_on more log rest) since its sent)
-  loses_on _ _ (older more log new between head high low bucket other rest since fewer most sent also) =
+  loses_on _ _ (older more log new between head high low bucket other rest since fewer most pass sent also) =
       let one : (more + count) + 1 ≡ (more + 1) + count = omega arith in
       subst (λ (n : ℕ). Loses queue old n new) one
-      (older (more + count) log new between head high low bucket other (loses_on more log rest) since fewer most sent also)
+      (older (more + count) log new between head high low bucket other (loses_on more log rest) since fewer most pass sent also)
 
 pub oldest_since : (queue : FileQueue) (old one : FileLog) (found : Oldest) (new : FileLog) → Looks old one →
     FindsOldest queue one found new → FindsOldest queue old found new
@@ -83,22 +87,44 @@ module _ (queue : FileQueue) (positive : 0 < queue.depth) (old : FileLog) (head 
       Happens begun old.events (LoadSlot head.slot first) → lap_said first ≡ head.lap →
       lap_said stop.word ≢ stop.position.lap → ¬ IsOver stop.position.lap stop.word →
       (notes : List Note) → IsWrong notes queue begun new.events
-  head_back first begun since seen lap apart not notes =
-      let at = passes_to IsOver queue old head stops.0 stops.1 stop.position stops.3 in
-      back head stops.0 first stop.word old.events stops.2 knows seen lap
-      (looks_moment old new (stops_look IsOver queue old head stop new stops))
-      (subst (λ p. Happens old.events new.events (LoadSlot p.slot stop.word)) at
-      (subst (λ (l : FileLog). Happens old.events l.events (LoadSlot stop.position.slot stop.word)) (sym stops.4)
-      (happens_now old.events stops.1.events (LoadSlot stop.position.slot stop.word) (looks_moment old stops.1 walked))))
-      (subst (λ p. lap_said stop.word ≢ p.lap) at apart) (subst (λ p. ¬ IsOver p.lap stop.word) at not)
+  head_back first begun since seen lap apart not notes = by_count (nat_lt stops.0 queue.depth) refl
+    where
+      at : stop.position ≡ position_on queue head stops.0
+      at = passes_to IsOver queue old head stops.0 stops.1 stop.position stops.3
+
+      found : (moment : List Event) → IsMoment moment stops.1.events →
+          Happens moment new.events (LoadSlot stop.position.slot stop.word)
+      found moment past = subst (λ (l : FileLog). Happens moment l.events (LoadSlot stop.position.slot stop.word)) (sym stops.4)
+          (happens_now moment stops.1.events (LoadSlot stop.position.slot stop.word) past)
+
+      by_count : (less : Bool) → nat_lt stops.0 queue.depth ≡ less → IsWrong notes queue begun new.events
+      by_count true e =
+          back head stops.0 first stop.word old.events (ltb-true stops.0 queue.depth e) knows seen lap
+          (looks_moment old new (stops_look IsOver queue old head stop new stops))
+          (subst (λ (p : Position). Happens old.events new.events (LoadSlot p.slot stop.word)) at
+          (found old.events (looks_moment old stops.1 walked)))
+          (subst (λ (p : Position). lap_said stop.word ≢ p.lap) at apart)
+          (subst (λ (p : Position). ¬ IsOver p.lap stop.word) at not)
+      by_count false e =
+          let beyond = ltb-false stops.0 queue.depth e in
+          let most = stops.2 in
+          let all : stops.0 ≡ queue.depth = omega (arith, beyond, most) in
+          let there = at ∙ ap (position_on queue head) all in
+          let past = passes_first IsOver queue old head stops.0 stops.1 stop.position stops.3 (omega (arith, positive, beyond)) in
+          round head past.0 stop.word stops.1.events knows.0.0
+          (happens_since begun old.events stops.1.events (LoadSlot head.slot past.0) since past.1) past.2
+          (subst (λ (p : Position). Happens stops.1.events new.events (LoadSlot p.slot stop.word)) there (found stops.1.events now))
+          (subst (λ (p : Position). lap_said stop.word ≢ p.lap) there apart)
+          (subst (λ (p : Position). ¬ IsOver p.lap stop.word) there not)
 
   -- each message was over
-  pub head_round : (begun : FileLog) (count : ℕ) → Loses queue begun count old → IsOver stop.position.lap stop.word →
-      Loses queue begun (count + 1) new
-  head_round begun count lost over = elim stops.6 [
+  pub head_round : (begun middle : FileLog) (count : ℕ) (first : Slot) → Loses queue begun count middle → Looks middle old →
+      Happens middle.events old.events (LoadSlot head.slot first) → lap_said first ≡ head.lap →
+      IsOver stop.position.lap stop.word → Loses queue begun (count + 1) new
+  head_round begun middle count first lost since seen lap over = elim stops.6 [
     | inl not ↦ absurd (not over)
     | inr all ↦
-        overtaken count old head new (position_after queue stop.position) lost knows
+        overtaken count middle old head first new (position_after queue stop.position) lost since seen lap knows
         (subst (λ n. Passes IsOver queue old head (n + 1) new (position_after queue stop.position)) all
         (subst (λ log. Passes IsOver queue old head (stops.0 + 1) log (position_after queue stop.position)) (sym stops.4)
         (moves_on stops.0 stops.1 stop.position stop.word stops.3 over)))
@@ -138,4 +164,4 @@ module _ (queue : FileQueue) (old middle : FileLog) (count : ℕ) (lost : Loses 
 
     pub anew_again : IsOver stop.position.lap stop.word → Loses queue old (count + 1) new
     anew_again over =
-        head_round queue positive one head found.0 stop new stops old count (searched count middle one lost since) over
+        head_round queue positive one head found.0 stop new stops old middle count found.1.0 lost since found.1.1 found.1.2 over

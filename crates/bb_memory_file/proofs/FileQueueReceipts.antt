@@ -113,6 +113,14 @@ module _ (queue : FileQueue) (notes : List Note) (old : FileLog) (head : Positio
               passed_later notes log.events new.events old.events (position_on queue head less).slot
               (position_on queue head less).lap new_past (walking.passed less (omega (arith, below, apart)))
 
+      passes_new : PassesOn old.party queue head count old.events new.events
+      passes_new less below =
+          subst (λ (p : ℕ). CanPass p new.events old.events (position_on queue head less).slot (position_on queue head less).lap)
+          (same_party old new new_seen)
+          (passed_can new notes old.events (position_on queue head less).slot (position_on queue head less).lap noted
+          (passed_later notes log.events new.events old.events (position_on queue head less).slot
+          (position_on queue head less).lap new_past (walking.passed less below)))
+
       -- it passes the message, since a look at the message says so
       pub passed_look : Passed notes new.events one.events position.slot position.lap →
           Passed notes new.events old.events position.slot position.lap
@@ -135,6 +143,7 @@ module _ (queue : FileQueue) (notes : List Note) (old : FileLog) (head : Positio
           subst (λ (l : FileLog). Happens old.events l.events (LoadFlag bucket (SentTo position.slot position.lap))) (sym told')
               (happens_now old.events one.events (LoadFlag bucket (SentTo position.slot position.lap))
               (looks_moment old one one_seen)),
+          passes_new,
         )
 
         pub walk_empty : LooksAt notes one position word look.Empty new →
@@ -142,11 +151,7 @@ module _ (queue : FileQueue) (notes : List Note) (old : FileLog) (head : Positio
         walk_empty empty = (
           count,
           less,
-          (λ lower below. subst (λ (p : ℕ). CanPass p new.events old.events (position_on queue head lower).slot
-              (position_on queue head lower).lap) (same_party old new new_seen)
-              (passed_can new notes old.events (position_on queue head lower).slot (position_on queue head lower).lap noted
-              (passed_later notes log.events new.events old.events (position_on queue head lower).slot
-              (position_on queue head lower).lap new_past (walking.passed lower below)))),
+          passes_new,
           subst (λ w. Happens old.events new.events (LoadSlot (position_on queue head count).slot w))
               (empty ∙ ap (λ (p : Position). Empty p.lap) walking.at) at_new,
         )
@@ -393,7 +398,7 @@ module _ (queue : FileQueue) (positive : 0 < queue.depth) (notes : List Note) (o
   pub sent_older : (older_at : Position) (other less : ℕ) →
       Walks one.party queue notes one head count (walked.Sent older_at other less) two → Loses queue old 1 two
   sent_older older_at other less also =
-      older 0 old two one.events head count less bucket other unbeaten two_seen also.0 sent.0
+      older 0 old two one.events head count less bucket other unbeaten two_seen also.0 sent.0 (sent.5 less also.0)
       (subst (λ (p : Position). Happens old.events one.events (LoadFlag bucket (SentTo p.slot p.lap))) sent.1 sent.4)
       (subst (λ (p : Position). Happens one.events two.events (LoadFlag other (SentTo p.slot p.lap))) also.1 also.4)
 

@@ -91,7 +91,7 @@ module _ (queue : FileQueue) (old : FileLog) (scene : queue.scene ≡ old.scene)
     | inr other ↦
         let round = other.1 filled in (
           [],
-          passed [] 0 round.0 round.1 one (position_after queue stop.position) (sought [] 0 old round.0 untried round.2) round.3 round.4,
+          passed [] 0 old round.0 round.1 one (position_after queue stop.position) untried round.2 round.3 round.4 round.5,
           looks_make old process one looked,
           clear_one,
         )
@@ -249,10 +249,10 @@ module _ (queue : FileQueue) (bucket size : ℕ) (old middle : FileLog) (first :
             ∷ StoreEntry bucket (In position.slot size) ∷ LoadSlot position.slot (Empty position.lap) ∷ log.events;
       })) one
       (missed (tried ++ first) (more + count) log position (attempts_on tried more log rest) knows)
-  attempts_on _ _ _ (passed tried more log from new to rest knows passes) =
+  attempts_on _ _ _ (passed tried more log start from new to rest since knows last passes) =
       let one : (more + count) + 1 ≡ (more + 1) + count = omega arith in
       subst (λ (n : ℕ). Attempts queue bucket size old (tried ++ first) n new) one
-      (passed (tried ++ first) (more + count) log from new to (attempts_on tried more log rest) knows passes)
+      (passed (tried ++ first) (more + count) log start from new to (attempts_on tried more log rest) since knows last passes)
 
 steps_on : (process party bucket size : ℕ) (tried first : List ℕ) →
     attempts process party bucket size (tried ++ first)

@@ -6,7 +6,7 @@ use Rattle.bb_memory_file.specs.FileCalls.{Gets, Makes, unseen}
 use Rattle.bb_memory_file.specs.FileCode.{ChangesNone, EmptySlot, Event, ExchangeFlag, ExchangeSlot, FileLog, LoadEntry, LoadFlag, LoadLife, LoadSlot, MissFlag, MissSlot, StoreEntry, StoreFlag, StoreLife, begins, known_of, looks as path_looks, told}
 use Rattle.bb_memory_file.specs.FileLog.{IsLap, lap_in, seen_in}
 use Rattle.bb_memory_file.specs.FileNames.{Outside, Slot}
-use Rattle.bb_memory_file.specs.FileQueueCalls.{AllObey, Grows, Happens, IsOver, Looks, Loses, Passes, beaten, looks, moves_on, nothing, older, overtaken, searched, stays, unbeaten}
+use Rattle.bb_memory_file.specs.FileQueueCalls.{AllObey, Grows, Happens, IsLastFilled, IsOver, Looks, Loses, Passes, SeesLast, beaten, looks, moves_on, nothing, older, overtaken, searched, stays, unbeaten}
 use Rattle.bb_memory_file.specs.FileQueueLooks.{EventObeys, IsPosition, KnowsHead, KnowsTail, Look, Position, Queue, position_after, position_on, queue_in}
 use Rattle.bb_memory_file.specs.FileQueueSteps.{FindsTurn, IsTurn, KnowsSame, SeesBefore, Stop, StopsAt}
 use Rattle.bb_memory_file_machine.specs.FileMachine.{FileScene}
@@ -175,6 +175,35 @@ module _ (test : ℕ → Slot → Type 0) (queue : FileQueue) (before : FileLog)
       let one : count + 1 ≡ suc count = omega arith in
       ap (λ p. position_after queue p) (passes_to count log position rest) ∙ sym (ap (position_on queue from) one)
 
+  -- a walk that has passed a slot has passed the first one
+  first_by : (count : ℕ) (log : FileLog) (position : Position) (word : Slot) → Passes test queue before from count log position →
+      test position.lap word → (none : Bool) → (count == 0) ≡ none →
+      (0 < count → (past : Slot) × Happens before.events log.events (LoadSlot from.slot past) × test from.lap past) →
+      (past : Slot) × Happens before.events (LoadSlot position.slot word ∷ log.events) (LoadSlot from.slot past)
+      × test from.lap past
+  first_by count log position word rest pass true e before_that =
+      let at : position ≡ from = passes_to count log position rest ∙ ap (position_on queue from) (eqb-true count 0 e) in (
+        word,
+        subst (λ (p : Position). Happens before.events (LoadSlot position.slot word ∷ log.events) (LoadSlot p.slot word)) at
+            (happens_now before.events log.events (LoadSlot position.slot word)
+            (looks_moment before log (passes_look count log position rest))),
+        subst (λ (p : Position). test p.lap word) at pass,
+      )
+  first_by count log position word rest pass false e before_that =
+      let some = eqb-false count 0 e in
+      let past = before_that (omega (arith, some)) in (
+        past.0,
+        happens_on before.events log.events (LoadSlot position.slot word ∷ log.events) (LoadSlot from.slot past.0)
+            (earlier (LoadSlot position.slot word) log.events now) past.1,
+        past.2,
+      )
+
+  pub passes_first : (count : ℕ) (log : FileLog) (to : Position) → Passes test queue before from count log to → 0 < count →
+      (past : Slot) × Happens before.events log.events (LoadSlot from.slot past) × test from.lap past
+  passes_first _ _ _ stays some = absurd (omega (arith, some))
+  passes_first _ _ _ (moves_on count log position word rest pass) some =
+      first_by count log position word rest pass (count == 0) refl (passes_first count log position rest)
+
   module _ (positive : 0 < queue.depth) where
     pub passes_its : IsPosition queue from → (count : ℕ) (log : FileLog) (to : Position) →
         Passes test queue before from count log to → IsPosition queue to
@@ -204,19 +233,27 @@ module _ (queue : FileQueue) (positive : 0 < queue.depth) where
       after_filled (LoadSlot position.slot word ∷ log.events) position word (passes_tail before from knows count log position rest).0
       (look_now log.events position.slot word) filled
 
-  -- the party has just seen that the slot before is filled
-  pub sees_after : (first events : List Event) (position : Position) (word : Slot) → IsMoment first events →
-      IsPosition queue position → IsFilled position.lap word →
-      SeesBefore queue first (LoadSlot position.slot word ∷ events) (position_after queue position)
-  sees_after first events position word since its filled = (
+  -- the party has just seen that the slot before passes the test
+  sees_by : (test : ℕ → Slot → Type 0) (first events : List Event) (position : Position) (word : Slot) → IsMoment first events →
+      IsPosition queue position → test position.lap word →
+      (last : Slot) × Happens first (LoadSlot position.slot word ∷ events)
+      (LoadSlot (slot_before queue (position_after queue position).slot) last)
+      × test (lap_before (position_after queue position).lap (position_after queue position).slot
+      (slot_before queue (position_after queue position).slot)) last
+  sees_by test first events position word since its pass = (
     word,
     subst (λ slot. Happens first (LoadSlot position.slot word ∷ events) (LoadSlot slot word))
         (sym (before_after queue positive position its))
         (happens_now first events (LoadSlot position.slot word) since),
-    subst (λ lap. IsFilled lap word)
+    subst (λ lap. test lap word)
         (sym (ap (λ slot. lap_before (position_after queue position).lap (position_after queue position).slot slot)
-        (before_after queue positive position its) ∙ lap_after queue positive position its)) filled,
+        (before_after queue positive position its) ∙ lap_after queue positive position its)) pass,
   )
+
+  pub sees_after : (first events : List Event) (position : Position) (word : Slot) → IsMoment first events →
+      IsPosition queue position → IsFilled position.lap word →
+      SeesBefore queue first (LoadSlot position.slot word ∷ events) (position_after queue position)
+  sees_after = sees_by IsFilled
 
   pub sees_tail : (first events : List Event) (position : Position) → IsPosition queue position →
       SeesBefore queue first events position → KnowsTail queue events position
@@ -243,15 +280,19 @@ module _ (queue : FileQueue) (positive : 0 < queue.depth) where
   -- the party has found the first slot, whose last lap is this one
   pub finds_tail : (old new : FileLog) (slot lap : ℕ) (word : Slot) (position : Position) →
       slot ≡ queue.number * queue.depth → new ≡ told old (LoadSlot slot word) → IsLap lap → IsFilled lap word →
-      position ≡ position_after queue (record { slot = slot; lap = lap }) →
+      IsLastFilled lap word → position ≡ position_after queue (record { slot = slot; lap = lap }) →
       SeesBefore queue old.events new.events position × IsPosition queue position
-  finds_tail old new slot lap word position at is small filled after =
+      × SeesLast queue old.events new.events position
+  finds_tail old new slot lap word position at is small filled last after =
       let its : IsPosition queue (record { slot = slot; lap = lap }) =
       (subst (λ s. IsSlotOf queue s) (sym at) (first_its queue positive), small) in (
         subst (λ log. SeesBefore queue old.events log.events position) (sym is)
             (subst (λ p. SeesBefore queue old.events (LoadSlot slot word ∷ old.events) p) (sym after)
             (sees_after old.events old.events (record { slot = slot; lap = lap }) word now its filled)),
         subst (λ p. IsPosition queue p) (sym after) (after_its queue positive (record { slot = slot; lap = lap }) its),
+        subst (λ log. SeesLast queue old.events log.events position) (sym is)
+            (subst (λ p. SeesLast queue old.events (LoadSlot slot word ∷ old.events) p) (sym after)
+            (sees_by IsLastFilled old.events old.events (record { slot = slot; lap = lap }) word now its last)),
       )
 
   -- the queue goes on after a slot that is over
@@ -360,11 +401,16 @@ pub sees_since : (queue : FileQueue) (first moment events : List Event) (positio
 sees_since queue first moment events position past sees =
     (sees.0, happens_since first moment events (LoadSlot (slot_before queue position.slot) sees.0) past sees.1, sees.2)
 
+pub last_since : (queue : FileQueue) (first moment events : List Event) (position : Position) → IsMoment first moment →
+    SeesLast queue moment events position → SeesLast queue first events position
+last_since queue first moment events position past sees =
+    (sees.0, happens_since first moment events (LoadSlot (slot_before queue position.slot) sees.0) past sees.1, sees.2)
+
 -- the sender has begun anew
 pub finds_anew : (queue : FileQueue) (positive : 0 < queue.depth) (old middle : FileLog) (tail : Position) (stop : Stop) (new : FileLog) →
     Looks old middle → IsPosition queue tail → SeesBefore queue old.events middle.events tail →
-    StopsAt IsFilled queue middle tail stop new → FindsTurn queue old stop new
-finds_anew queue positive old middle tail stop new first its sees stops =
+    SeesLast queue old.events middle.events tail → StopsAt IsFilled queue middle tail stop new → FindsTurn queue old stop new
+finds_anew queue positive old middle tail stop new first its sees last stops =
     let knows = sees_tail queue positive old.events middle.events tail its sees in (
       stops.1,
       looks_on old middle first stops.1 (passes_look IsFilled queue middle tail stops.0 stops.1 stop.position stops.3),
@@ -380,6 +426,7 @@ finds_anew queue positive old middle tail stop new first its sees stops =
             tail,
             first,
             knows,
+            last,
             subst (λ count. Passes IsFilled queue middle tail (count + 1) new (position_after queue stop.position)) all
                 (subst (λ log. Passes IsFilled queue middle tail (stops.0 + 1) log (position_after queue stop.position))
                 (sym stops.4) (moves_on stops.0 stops.1 stop.position stop.word stops.3 filled)),
@@ -395,9 +442,10 @@ module _ (queue : FileQueue) (old : FileLog) where
   pub loses_look : (count : ℕ) (new : FileLog) → Loses queue old count new → Looks old new
   loses_look _ _ unbeaten = nothing
   loses_look _ _ (searched count log new rest since) = looks_on old log (loses_look count log rest) new since
-  loses_look _ _ (overtaken count log from new to rest knows passes) =
-      looks_on old log (loses_look count log rest) new (passes_look IsOver queue log from (queue.depth + 1) new to passes)
+  loses_look _ _ (overtaken count log before from first new to rest since seen lap knows passes) =
+      looks_on old before (looks_on old log (loses_look count log rest) before since) new
+      (passes_look IsOver queue before from (queue.depth + 1) new to passes)
   loses_look _ _ (beaten count log before slot lap bucket rest since its sent) =
       looks before _ (looks_on old log (loses_look count log rest) before since) tt
-  loses_look _ _ (older count log new middle head more less bucket other rest since fewer most sent also) =
+  loses_look _ _ (older count log new middle head more less bucket other rest since fewer most pass sent also) =
       looks_on old log (loses_look count log rest) new since

@@ -11,6 +11,7 @@ use Rattle.bb_memory_file.specs.FileRuns.{Act, AreTrue, Dies, Frees, Life, Locks
 use Rattle.bb_memory_file.specs.FileRuns as runs
 use Rattle.bb_memory_file_machine.proofs.FileInvariant.{Sound}
 use Rattle.bb_memory_file_machine.proofs.FileSteps.{holds_always}
+use Rattle.bb_memory_file_machine.proofs.QueueHistories.{cases_moment}
 use Rattle.bb_memory_file_machine.specs.FileMachine.{FileScene, FileWords}
 use Rattle.bb_memory_file_machine.specs.FileQueues.{IsMoment, earlier, now}
 use Rattle.bb_memory_lists.proofs.ListEntries.{contains-behind, contains-first}
@@ -24,17 +25,6 @@ module _ {X : Type 0} where
   pub moment_length : (moment list : List X) → IsMoment moment list → length moment ≤ length list
   moment_length moment _ now = omega arith
   moment_length moment _ (earlier item list past) = let less = moment_length moment list past in omega (arith, less)
-
-  pub moment_of : (first second third : List X) → IsMoment first second → IsMoment second third → IsMoment first third
-  moment_of first second _ one now = one
-  moment_of first second _ one (earlier item list two) = earlier item list (moment_of first second list one two)
-
-  -- of two moments of a list, one is a moment of the other
-  pub cases_moment : (first list second : List X) → IsMoment first list → IsMoment second list →
-      IsMoment first second ⊎ IsMoment second first
-  cases_moment first _ second now two = inr two
-  cases_moment first _ second (earlier item list one) now = inl (earlier item list one)
-  cases_moment first _ second (earlier item list one) (earlier same other two) = cases_moment first list second one two
 
   -- a moment has no item that the list hasn't
   pub contains_later : (moment list : List X) (item : X) → IsMoment moment list → Contains moment item → Contains list item

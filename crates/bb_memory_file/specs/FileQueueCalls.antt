@@ -51,6 +51,18 @@ pub data Passes (test : ℕ → Slot → Type 0) (queue : FileQueue) (before : F
 
 -- SENDERS
 
+-- a slot with this word was filled at this lap, and not since
+abbrev pub IsLastFilled : ℕ → Slot → Type 0
+IsLastFilled lap (Empty found) = lap ≡ last_lap found
+IsLastFilled lap (Message found bucket) = lap ≡ found
+
+-- since the first moment the party has seen that the slot before this position was filled, and not yet
+-- filled again a round later
+abbrev pub SeesLast : FileQueue → List Event → List Event → Position → Type 0
+SeesLast queue old new position =
+    (last : Slot) × Happens old new (LoadSlot (slot_before queue position.slot) last)
+    × IsLastFilled (lap_before position.lap position.slot (slot_before queue position.slot)) last
+
 -- the steps of a sender that has tried these slots, the last first, and found each of them filled by
 -- another party just then
 abbrev pub attempts : ℕ → ℕ → ℕ → ℕ → List ℕ → List FileStep
@@ -58,8 +70,9 @@ attempts process party bucket size [] = []
 attempts process party bucket size (slot ∷ slots) =
     Next process ∷ Post process party slot bucket size ∷ attempts process party bucket size slots
 
--- The sender has tried these slots, the last first, and others were faster so often: another party filled
--- the slot that it had found empty, or others filled each slot of the queue while it looked at them.
+-- The sender has tried these slots, the last first, and others were faster so often. Another party filled
+-- the slot that it had found empty. Or it looked at each slot of the queue, and others filled each of them
+-- meanwhile: also the one after which it had begun, a round later.
 pub data Attempts (queue : FileQueue) (bucket size : ℕ) (old : FileLog) : List ℕ → ℕ → FileLog → Type 0 where
   untried : Attempts queue bucket size old [] 0 old
   sought : (tried : List ℕ) (count : ℕ) (log new : FileLog) → Attempts queue bucket size old tried count log → Looks log new →
@@ -70,9 +83,10 @@ pub data Attempts (queue : FileQueue) (bucket size : ℕ) (old : FileLog) : List
         events = StoreEntry bucket Nowhere ∷ MissSlot position.slot (Empty position.lap)
             ∷ StoreEntry bucket (In position.slot size) ∷ LoadSlot position.slot (Empty position.lap) ∷ log.events;
       })
-  passed : (tried : List ℕ) (count : ℕ) (log : FileLog) (from : Position) (new : FileLog) (to : Position) →
-      Attempts queue bucket size old tried count log → KnowsTail queue log.events from →
-      Passes IsFilled queue log from (queue.depth + 1) new to → Attempts queue bucket size old tried (count + 1) new
+  passed : (tried : List ℕ) (count : ℕ) (log before : FileLog) (from : Position) (new : FileLog) (to : Position) →
+      Attempts queue bucket size old tried count log → Looks log before → KnowsTail queue before.events from →
+      SeesLast queue log.events before.events from → Passes IsFilled queue before from (queue.depth + 1) new to →
+      Attempts queue bucket size old tried (count + 1) new
 
 -- A sender that has come to this position has found this word, by which the queue is full: the message of
 -- the lap before, or a word that no slot has there, as the sender has just found that the slot before is
@@ -116,18 +130,22 @@ abbrev pub IsOver : ℕ → Slot → Type 0
 IsOver lap word = IsLater lap (lap_said word)
 
 -- The receiver has looked since, and others were faster so often. They were done with each message of the
--- queue while it looked at them. Or it found that a message is sent, and missed it. Or it found that a
--- message is sent, and then that an older one is, too.
+-- queue while it looked at them, although nobody was done with the first one when it began. Or it found that
+-- a message is sent, and missed it. Or it could pass a message, found that a later one is sent, and then that
+-- the one that it had passed is sent, too.
 pub data Loses (queue : FileQueue) (old : FileLog) : ℕ → FileLog → Type 0 where
   unbeaten : Loses queue old 0 old
   searched : (count : ℕ) (log new : FileLog) → Loses queue old count log → Looks log new → Loses queue old count new
-  overtaken : (count : ℕ) (log : FileLog) (from : Position) (new : FileLog) (to : Position) → Loses queue old count log →
-      KnowsHead queue log.events from → Passes IsOver queue log from (queue.depth + 1) new to → Loses queue old (count + 1) new
+  overtaken : (count : ℕ) (log before : FileLog) (from : Position) (first : Slot) (new : FileLog) (to : Position) →
+      Loses queue old count log → Looks log before → Happens log.events before.events (LoadSlot from.slot first) →
+      lap_said first ≡ from.lap → KnowsHead queue before.events from →
+      Passes IsOver queue before from (queue.depth + 1) new to → Loses queue old (count + 1) new
   beaten : (count : ℕ) (log before : FileLog) (slot lap bucket : ℕ) → Loses queue old count log → Looks log before →
       IsSlotOf queue slot → Happens log.events before.events (LoadFlag bucket (SentTo slot lap)) →
       Loses queue old (count + 1) (told before (MissFlag bucket (SentTo slot lap)))
   older : (count : ℕ) (log new : FileLog) (middle : List Event) (head : Position) (more less bucket other : ℕ) →
       Loses queue old count log → Looks log new → less < more → more < queue.depth →
+      CanPass log.party middle log.events (position_on queue head less).slot (position_on queue head less).lap →
       Happens log.events middle
       (LoadFlag bucket (SentTo (position_on queue head more).slot (position_on queue head more).lap)) →
       Happens middle new.events
@@ -159,15 +177,20 @@ IsStray (Some Undone) = ⊥
 IsStray _ = Unit {0}
 
 -- The receiver has found words that a queue doesn't have. A slot was at this lap or at a later one, and
--- isn't any more, though the receiver has just seen that the queue has come to the lap. Or a slot has a
--- message in no bucket of the file, or in one that the party holds in no slot. Or the laps of two slots
--- are far from each other.
+-- isn't any more: the receiver has just seen that the queue has come to the lap, or that the slot itself was
+-- past the lap before. Or a slot has a message in no bucket of the file, or in one that the party holds in no
+-- slot. Or the laps of two slots are far from each other.
 pub data IsWrong (notes : List Note) (queue : FileQueue) (old new : List Event) : Type 0 where
-  back : (head : Position) (count : ℕ) (first word : Slot) (before : List Event) → count ≤ queue.depth →
+  back : (head : Position) (count : ℕ) (first word : Slot) (before : List Event) → count < queue.depth →
       KnowsHead queue before head → Happens old before (LoadSlot head.slot first) → lap_said first ≡ head.lap →
       IsMoment before new →
       Happens before new (LoadSlot (position_on queue head count).slot word) →
       lap_said word ≢ (position_on queue head count).lap → ¬ IsOver (position_on queue head count).lap word →
+      IsWrong notes queue old new
+  round : (head : Position) (past word : Slot) (before : List Event) → IsSlotOf queue head.slot →
+      Happens old before (LoadSlot head.slot past) → IsOver head.lap past →
+      Happens before new (LoadSlot (position_on queue head queue.depth).slot word) →
+      lap_said word ≢ (position_on queue head queue.depth).lap → ¬ IsOver (position_on queue head queue.depth).lap word →
       IsWrong notes queue old new
   stray : (slot lap bucket : ℕ) → IsSlotOf queue slot → Happens old new (LoadSlot slot (Message lap bucket)) →
       IsStray (slice_get notes bucket) → IsWrong notes queue old new

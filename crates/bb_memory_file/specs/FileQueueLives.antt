@@ -2,10 +2,10 @@
 --
 -- The laps of a slot come round. So what a process has seen of a slot counts only until the slot has been
 -- filled too many times since.
-use Rattle.bb_memory_file.specs.FileLog.{Event, ExchangeFlag, ExchangeSlot}
-use Rattle.bb_memory_file.specs.FileNames.{Empty, FileStep, HeldBy, Message, Place, SentTo}
+use Rattle.bb_memory_file.specs.FileLog.{Event, ExchangeFlag, ExchangeSlot, StoreFlag}
+use Rattle.bb_memory_file.specs.FileNames.{Empty, FileStep, Fill, HeldBy, Kill, Message, Place, Release, SentTo}
 use Rattle.bb_memory_file.specs.FileQueueLooks.{CanFill, CanPass, CanTake, EventObeys, EventsObey, held, over, unsent}
-use Rattle.bb_memory_file.specs.FileRuns.{Act, IsRun, Locks, Operates, own, words_after}
+use Rattle.bb_memory_file.specs.FileRuns.{Act, Dies, Frees, IsRun, Locks, Operates, Unlocks, own, words_after}
 use Rattle.bb_memory_file_machine.specs.FileMachine.{FileScene}
 use Rattle.bb_memory_file_machine.specs.FileQueues.{FileQueue, IsMoment, IsSlotOf, fills, slot_before}
 use Rattle.std.specs.Prelude.{Contains, List, [], ℕ, ◌+◌, ◌<◌, ◌^◌, ◌∷◌, ◌≡◌, ◌≢◌}
@@ -89,8 +89,19 @@ AreRecent queue acts obey =
 
 -- A RUN BY THE RULES
 
--- a run whose processes obey the rules of a queue of this depth by recent looks, and in which one process
--- posts a message to the queue, and another one takes it
+-- the act comes in the run after this moment
+pub record Comes (moment acts : List Act) (act : Act) : Type 0 where
+  pub before : List Act
+  pub since : IsMoment moment before
+  pub until : IsMoment (act ∷ before) acts
+
+-- the moment of the run that an act has led to
+abbrev pub led_to : {moment acts : List Act} {act : Act} → Comes moment acts act → List Act
+led_to {act = act} comes = act ∷ comes.before
+
+-- A run whose processes obey the rules of a queue of this depth by recent looks. A process fills a slot of the
+-- queue with a message, and is killed before it sends the message. Its lock is freed. Another process takes
+-- the lock, settles the number, which sends the message, and frees the lock. A third process takes the message.
 pub record GoesThrough (depth : ℕ) : Type 0 where
   pub queue : FileQueue
   pub depth_is : queue.depth ≡ depth
@@ -100,13 +111,21 @@ pub record GoesThrough (depth : ℕ) : Type 0 where
   pub run : IsRun queue.scene acts taken places
   pub obey : ProcessesObey queue acts
   pub recent : AreRecent queue acts obey
-  pub sender : ℕ
-  pub receiver : ℕ
-  pub apart : sender ≢ receiver
   pub slot : ℕ
   pub its : IsSlotOf queue slot
   pub lap : ℕ
   pub bucket : ℕ
-  pub posted : Contains (events_of sender acts) (ExchangeSlot slot (Empty lap) (Message lap bucket))
+  pub sender : ℕ
+  pub number : ℕ
+  pub posted : Comes [] acts (Operates sender number (ExchangeSlot slot (Empty lap) (Message lap bucket)))
+  pub killed : Comes (led_to posted) acts (Dies sender)
+  pub in_call : (steps : List FileStep) × (taken sender ≡ Release sender number ∷ Kill sender ∷ Fill sender lap ∷ steps)
+  pub freed : Comes (led_to killed) acts (Frees sender number)
+  pub settler : ℕ
+  pub locked : Comes (led_to freed) acts (Locks settler number)
+  pub sent : Comes (led_to locked) acts (Operates settler number (StoreFlag bucket (SentTo slot lap)))
+  pub settled : Comes (led_to sent) acts (Unlocks settler number)
+  pub receiver : ℕ
   pub party : ℕ
-  pub received : Contains (events_of receiver acts) (ExchangeFlag bucket (SentTo slot lap) (HeldBy party))
+  pub received : Comes (led_to settled) acts (Operates receiver party (ExchangeFlag bucket (SentTo slot lap) (HeldBy party)))
+  pub apart : (sender ≢ settler) × (sender ≢ receiver) × (settler ≢ receiver)

@@ -3,7 +3,7 @@ use Rattle.bb_memory_file.specs.FileCalls.{unseen}
 use Rattle.bb_memory_file.specs.FileCode.{FileLog, LoadFlag, LoadSlot, known_of, told}
 use Rattle.bb_memory_file.specs.FileLog.{Event, IsLap, lap_in}
 use Rattle.bb_memory_file.specs.FileNames.{Empty, Message, SentTo, Slot}
-use Rattle.bb_memory_file.specs.FileQueueCalls.{Happens, IsOver, IsStray, IsWrong, Looks, Loses, Note, Passes, Taken, Undone, Unheld, noted_after}
+use Rattle.bb_memory_file.specs.FileQueueCalls.{Happens, IsOver, IsStray, IsWrong, Looks, Loses, Note, Passes, SeesLast, Taken, Undone, Unheld, noted_after}
 use Rattle.bb_memory_file.specs.FileQueueLooks.{CanPass, KnowsHead, KnowsTail, Look, Position, ShowsUnsent, last_lap, position_after, position_on}
 pub use Rattle.bb_memory_file.specs.declared.queues.Looked.{Looked}
 pub use Rattle.bb_memory_file.specs.declared.queues.Looked.TheVariants as look
@@ -44,6 +44,7 @@ SeesBefore queue old new position =
 abbrev pub ComesRound : FileQueue → FileLog → Position → FileLog → Type 0
 ComesRound queue old position new =
     (middle : FileLog) × (from : Position) × Looks old middle × KnowsTail queue middle.events from
+    × SeesLast queue old.events middle.events from
     × Passes IsFilled queue middle from (queue.depth + 1) new (position_after queue position)
 
 -- The sender has come to this position and has found this word, by which it is its turn. Or it has begun
@@ -103,6 +104,7 @@ abbrev pub Walks : ℕ → FileQueue → List Note → FileLog → Position → 
 Walks party queue notes old head slots (walked.Sent position bucket passed) new =
     (passed < slots) × (position ≡ position_on queue head passed) × (slice_get notes bucket ≡ Some Unheld) × Look new.events position.slot (Message position.lap bucket)
     × Happens old.events new.events (LoadFlag bucket (SentTo position.slot position.lap))
+    × PassesOn party queue head passed old.events new.events
 Walks party queue notes old head slots walked.Passed new = PassesOn party queue head slots old.events new.events
 Walks party queue notes old head slots walked.End new =
     (count : ℕ) × (count < slots) × PassesOn party queue head count old.events new.events

@@ -53,7 +53,8 @@ pub fn queue_lives_law()
         → ((slot : ℕ) → fills (words_after queue.scene) slot acts < 2 ^ 29)
         → (obey : ProcessesObey queue acts) → AreRecent queue acts obey }
 
-    // There is such a run, in which a message goes through a queue of two slots.
+    // There is such a run, with a queue of two slots. A process is killed in the middle of a post, its
+    // number is settled, and its message is taken. `file_code_theorem` holds for this run, too.
     ensures possible { GoesThrough 2 }
 {}
 

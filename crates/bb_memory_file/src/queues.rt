@@ -6,7 +6,7 @@
 ghost use Rattle.bb_memory_file.specs.FileLog.{FileLog, IsLap, LoadSlot, is_clear, known_of, lap_in, told};
 ghost use Rattle.bb_memory_file.specs.FileNames.{Empty};
 ghost use Rattle.bb_memory_file.specs.FileNotes.{AreNoted};
-ghost use Rattle.bb_memory_file.specs.FileQueueCalls.{AllObey, Grows, IsFar, IsOver, IsReceipt, IsSend, KnowsOthers, Looks, Loses, SendsBy, noted_after};
+ghost use Rattle.bb_memory_file.specs.FileQueueCalls.{AllObey, Grows, IsFar, IsLastFilled, IsOver, IsReceipt, IsSend, KnowsOthers, Looks, Loses, SeesLast, SendsBy, noted_after};
 ghost use Rattle.bb_memory_file.specs.FileQueueLooks.{IsPosition, KnowsHead, KnowsTail, Look, last_lap, position_after, queue_in};
 ghost use Rattle.bb_memory_file.specs.FileQueueSteps.{FindsHead, FindsOldest, FindsTurn, HasBegun, IsTurn, KnowsSame, LooksAt, SeesBefore, StopsAt, Walks, noted_if};
 ghost use Rattle.bb_memory_file.specs.FileQueueSteps.oldest.{At};
@@ -268,6 +268,7 @@ fn find_tail<W: Words>(words: &mut W, queue: Queue) -> Position
     requires depth { 0 < queue.depth }
     requires fits { queue.number * queue.depth + queue.depth < 2 ^ 32 }
     ensures before { SeesBefore (queue_in (W.log words.old).scene queue) (W.log words.old).events (W.log words.new).events result }
+    ensures last { SeesLast (queue_in (W.log words.old).scene queue) (W.log words.old).events (W.log words.new).events result }
     ensures position { IsPosition (queue_in (W.log words.old).scene queue) result }
     ensures looks { Looks (W.log words.old) (W.log words.new) }
     ensures same { KnowsSame (W.log words.old) (W.log words.new) }
@@ -706,6 +707,7 @@ fn lap_said(word: Slot) -> u32
 fn lap_filled(word: Slot) -> u32
     requires { IsLap (lap_in word) }
     ensures filled { IsFilled result word }
+    ensures last { IsLastFilled result word }
     ensures lap { IsLap result }
 {
     match word {

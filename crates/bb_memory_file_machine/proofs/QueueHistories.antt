@@ -7,7 +7,7 @@ use Rattle.bb_memory_file_machine.proofs.FileTheorem.{effect_in, received_at}
 use Rattle.bb_memory_file_machine.specs.FileLaws.{Effect, HasReceived, IsFlag, IsHolder, IsPlace, IsSlot}
 use Rattle.bb_memory_file_machine.specs.FileLaws as laws
 use Rattle.bb_memory_file_machine.specs.FileMachine.{Dead, DetachedBy, Done, Empty, FileMove, FileOutcome, FileScene, FileState, FileStep, FileWords, Fill, Free, HeldBy, Message, OnSlot, Place, Posting, Receives, Sending, Sends, SentTo, Slot, Take, change_at, change_by, file_after, left_by, move_at, process_of}
-use Rattle.bb_memory_file_machine.specs.FileQueues.{FileQueue, HasHappened, History, IsMoment, Obey, Rules, earlier, now, outcome_after, state_after}
+use Rattle.bb_memory_file_machine.specs.FileQueues.{HasHappened, History, IsMoment, earlier, now, outcome_after, state_after}
 use Rattle.bb_memory_lists.proofs.SliceGets.{slice_get-set_apart, slice_get-set_same}
 use Rattle.std.proofs.Common.{List, None, Option, Some, [], ap, append-nil, append_assoc, inl, inr, refl, reverse, sym, ℕ, ◌++◌, ◌∙◌, ◌∷◌, ◌≡◌}
 use Rattle.std.proofs.lemmas.Bool.{cases_eq}
@@ -33,16 +33,18 @@ holds_after scene (step ∷ history) = holds_step (state_after scene history) st
 
 -- MOMENTS
 
-pub moment_of : (first second third : History) → IsMoment first second → IsMoment second third → IsMoment first third
-moment_of first second _ one now = one
-moment_of first second _ one (earlier step history two) = earlier step history (moment_of first second history one two)
+module _ {X : Type 0} where
+  -- a moment of a moment of a list is one of the list
+  pub moment_of : (first second third : List X) → IsMoment first second → IsMoment second third → IsMoment first third
+  moment_of first second _ one now = one
+  moment_of first second _ one (earlier item list two) = earlier item list (moment_of first second list one two)
 
--- of two moments of a history, one is a moment of the other
-pub cases_moment : (first second history : History) → IsMoment first history → IsMoment second history →
-    IsMoment first second ⊎ IsMoment second first
-cases_moment first second _ now two = inr two
-cases_moment first second _ (earlier step history one) now = inl (earlier step history one)
-cases_moment first second _ (earlier step history one) (earlier same other two) = cases_moment first second history one two
+  -- of two moments of a list, one is a moment of the other
+  pub cases_moment : (first list second : List X) → IsMoment first list → IsMoment second list →
+      IsMoment first second ⊎ IsMoment second first
+  cases_moment first _ second now two = inr two
+  cases_moment first _ second (earlier item list one) now = inl (earlier item list one)
+  cases_moment first _ second (earlier item list one) (earlier same other two) = cases_moment first list second one two
 
 -- between two moments, what has happened between two others that are nearer to each other
 pub happened : (scene : FileScene) (first second third fourth : History) (outcome : FileOutcome) → IsMoment first second →

@@ -357,7 +357,7 @@ module _ (queue : FileQueue) (positive : 0 < queue.depth) where
       subst (StepObeys queue_rules queue history) take.1 obey.0 its
       (sym (ap (outcome_after queue.scene history) take.1) ∙ receipt.outcome) in
       let below = order_below (messages queue moment) 0 (posts queue moment) older (moments moment past).order waits.listed in
-      elim (cases_moment moment may.look.moment history past may.look.past) [
+      elim (cases_moment moment history may.look.moment past may.look.past) [
         | inl before_look ↦ older_received history holds moments younger receipt.listed (slot_of queue younger.ticket)
             younger.bucket (lap_of queue younger.ticket) refl refl may moment older before_look waits
             (omega (arith, below, later))

@@ -1046,6 +1046,43 @@ static void refused_memory(void) {
     remove_it();
 }
 
+// Joins a new file with these options while each of the join's requests for memory fails in turn. A
+// join that fails leaks no block and keeps no lock. Returns how many requests the join made that
+// succeeded.
+static size_t requests_of_join(const bb_pool_file_options *options) {
+    bb_pool_file *file;
+    bb_file_party *party = NULL;
+    uint32_t code = BB_MALLOC_REFUSED;
+    EXPECT(bb_pool_file_open(&file, path, options) == BB_OK);
+    const size_t opened = blocks;
+    for (to_refuse = 1; code != BB_OK; to_refuse++) {
+        memory_requests = 0;
+        code = bb_pool_file_join(file, &party);
+        EXPECT(code == BB_OK || (code == BB_MALLOC_REFUSED && blocks == opened));
+        EXPECT(info_of(file).alive == (code == BB_OK ? 1u : 0u));
+    }
+    to_refuse = 0;
+    const size_t requests = memory_requests;
+    const bb_place place = take_one(party);
+    EXPECT(bb_pool_file_post(file, party, 3, place, 5) == BB_OK);
+    EXPECT(bb_pool_file_take(file, party, 3).place == place);
+    close_it(file);
+    EXPECT(blocks == 0);
+    remove_it();
+    return requests;
+}
+
+// If a slot has room for more than one message, a join makes one more request: for where the party
+// goes on at each slot.
+static void refused_ends(void) {
+    bb_pool_file_options deep = OPTIONS;
+    deep.depth = 3;
+    bb_use_memory(allocate, release, &blocks);
+    const size_t requests = requests_of_join(&OPTIONS);
+    EXPECT(requests_of_join(&deep) == requests + 1);
+    bb_use_memory(allocate_plainly, release_plainly, NULL);
+}
+
 // Returns how many pages of addresses this process has.
 static size_t mapped_pages(void) {
     char text[64] = "";
@@ -1135,26 +1172,18 @@ static size_t page_faults(void) {
     return (size_t)usage.ru_minflt;
 }
 
-// Returns whether the system maps many pages at once. Linux before 5.14 doesn't.
-static bool maps_at_once(void) {
-    void *page = mmap(NULL, PAGE, PROT_READ, MAP_PRIVATE | MAP_ANONYMOUS, -1, 0);
-    EXPECT(page != MAP_FAILED);
-    const bool maps = madvise(page, PAGE, 22) == 0;  // MADV_POPULATE_READ
-    EXPECT(munmap(page, PAGE) == 0);
-    return maps;
-}
-
 // Many buckets: opening a file again changes no flag, and requests as much memory as if there were
 // few. It has fewer page faults than half of the flags' pages, if the system makes a file in
-// memory.
+// memory, and if its pages are so small that it maps many of them at once. The words of 16352 and
+// of 16608 buckets fill their last page.
 static void many(bool again) {
-    const uint32_t numbers[] = {1000, 16352, 16353, 100000, 2200000};
+    const uint32_t numbers[] = {1000, 16352, 16353, 16608, 100000, 2200000};
     size_t few = 0;
     memfd_error = again ? 0 : EMFILE;
     bb_use_memory(allocate, release, &blocks);
-    for (int at = 0; at < 5; at++) {
+    for (int at = 0; at < 6; at++) {
         const bb_pool_file_options options = {
-            .bucket_size = 1, .bucket_align = 1, .buckets = numbers[at], .parties = 3, .slots = 1};
+            .bucket_size = 1, .bucket_align = 1, .buckets = numbers[at], .parties = 3, .slots = 2};
         bb_pool_file *one;
         bb_pool_file *two;
         requested = 0;
@@ -1165,8 +1194,8 @@ static void many(bool again) {
         memory_size = 0;
         const size_t faults = page_faults();
         EXPECT(bb_pool_file_open(&two, path, &options) == BB_OK);
-        if (at == 4 && again && maps_at_once())
-            EXPECT(page_faults() - faults < numbers[at] * sizeof(uint64_t) / system_page() / 2);
+        if (at == 5 && again && system_page() == PAGE)
+            EXPECT(page_faults() - faults < numbers[at] * sizeof(uint64_t) / PAGE / 2);
         if (at == 0)
             few = memory_size;
         EXPECT(memory_size == few);
@@ -3695,6 +3724,7 @@ int main(int argc, char **argv) {
         layouts();
         lengths();
         refused_memory();
+        refused_ends();
         many(true);
         many(false);
         addresses();

@@ -22,7 +22,7 @@ const GEOMETRY: FileGeometry = FileGeometry {
 };
 
 /// Four buckets, three slots and two parties.
-const DEEP: FileGeometry = FileGeometry {
+pub(super) const DEEP: FileGeometry = FileGeometry {
     buckets: 4,
     slots: 3,
     parties: 2,
@@ -90,7 +90,7 @@ fn done(party: &mut Joined<FileParty>, slot: u32) -> Option<bool> {
 }
 
 /// Posts a message of this many bytes into a queue, if there is such a queue.
-fn send(
+pub(super) fn send(
     party: &mut Joined<FileParty>,
     queue: u32,
     bucket: u32,
@@ -103,7 +103,7 @@ fn send(
 }
 
 /// Takes the oldest message of a queue, if there is such a queue. A bucket has 7 bytes.
-fn receive(party: &mut Joined<FileParty>, queue: u32) -> Option<Taken> {
+pub(super) fn receive(party: &mut Joined<FileParty>, queue: u32) -> Option<Taken> {
     if queue >= party.queues() {
         return None;
     }

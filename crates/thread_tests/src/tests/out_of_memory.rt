@@ -4,4 +4,5 @@
 //! out only if a request failed.
 mod after_making;
 mod caching;
+mod file_joined;
 mod file_words;

@@ -23,9 +23,10 @@ returns g c =
     let queue = queue_in old.scene c.args.queue in
     let found = finds_tail queue c.requires.depth old _ c.first-slot.result c.lap_filled-lap.result c.load_slot.result c.after.result
     c.first-slot.ensures c.load_slot.ensures.told c.lap_filled-lap.ensures.lap c.lap_filled-lap.ensures.filled
-    (c.after.ensures old.scene) in
+    c.lap_filled-lap.ensures.last (c.after.ensures old.scene) in
     record {
       before = found.0;
+      last = found.2;
       position = found.1;
       looks = looks_look old _ (LoadSlot c.first-slot.result c.load_slot.result) tt c.load_slot.ensures.told;
       same = same_slot old _ c.first-slot.result c.load_slot.result c.load_slot.ensures.told;

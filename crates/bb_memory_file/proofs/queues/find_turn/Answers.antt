@@ -1,4 +1,4 @@
-use Rattle.bb_memory_file.proofs.FileQueueWalks.{finds_anew, finds_turn, looks_moment, looks_on, same_on, same_scene, sees_since, stops_as, stops_its, stops_look, stops_same}
+use Rattle.bb_memory_file.proofs.FileQueueWalks.{finds_anew, finds_turn, last_since, looks_moment, looks_on, same_on, same_scene, sees_since, stops_as, stops_its, stops_look, stops_same}
 use Rattle.bb_memory_file.proofs.queues.find_turn.Goals as goal
 use Rattle.bb_memory_file.specs.FileQueueLooks.{queue_in}
 use Rattle.bb_memory_file_machine.specs.FileQueues.{IsFilled, IsWhole}
@@ -51,7 +51,9 @@ returns g c =
       turn = finds_anew queue c.requires.depth old two c.find_tail-tail.result c.pass_filled.result new second
           c.find_tail-tail.ensures.position
           (sees_since queue old.events one.events two.events c.find_tail-tail.result (looks_moment old one first)
-          c.find_tail-tail.ensures.before) stops;
+          c.find_tail-tail.ensures.before)
+          (last_since queue old.events one.events two.events c.find_tail-tail.result (looks_moment old one first)
+          c.find_tail-tail.ensures.last) stops;
       same = same_on old one new
           (stops_same IsFilled queue old c.args.tail c.pass_filled-stop.result one c.pass_filled-stop.ensures)
           (same_on one two new c.find_tail-tail.ensures.same
