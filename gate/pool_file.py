@@ -2,8 +2,8 @@
 
 The test programs are in crates/bb_memory_c/tests/pool_file. They run with the archive and with the
 shared library, and `cases` also under the compiler's checkers. So does `bb-pool`, over files that
-are almost pools. There are also mutants of SOURCES, the C files of pools in files. Each has to be
-refused by the program that its file names:
+are almost pools. There are also mutants of SOURCES, the C files of pools in files, and of HEADER.
+Each has to be refused by the program that its file names:
 
     # function: bb_pool_file_look
     # refused by: kills pause 499 1
@@ -38,6 +38,8 @@ from gate.verdicts import Control
 CRATE = "crates/bb_memory_c"
 # The C files of pools in files.
 SOURCES = ("bb_pool_file.c", "pool_file_format.c", "pool_file_map.c")
+# The header, whose inline function is a part of each program.
+HEADER = "bb_pool_file.h"
 FLAGS = ("-O2", "-Wall", "-Wextra", "-Werror", "-pedantic", "-Wshadow", "-Wconversion")
 CHECKERS = ("-fsanitize=address,undefined", "-fno-sanitize-recover=all")
 PROGRAMS = ("cases", "kills", "leaks", "queue", "shown", "trace")
@@ -294,16 +296,21 @@ class PoolFile:
         return self.run_program(program, [self.folders[0] / "requests"])
 
     def build_over(self, changed: Mapping[str, str], name: str, folder: Path) -> Path:
-        """Builds a program over SOURCES, of which some have other texts, in a folder that it makes.
+        """Builds a program over SOURCES and HEADER, of which some have other texts.
 
-        Returns the program.
+        It makes the folder. Returns the program.
         """
         folder.mkdir()
         for source, text in changed.items():
             (folder / source).write_text(text, encoding="utf-8")
         sources = [folder / it.name if it.name in changed else it for it in self.code()]
+        compiled = self.work / f"{name}.o"
+        if HEADER in changed:
+            compiled = folder / f"{name}.o"
+            words = ["-std=c11", "-O2", "-w", f"-iquote{folder}", "-c", "-o", compiled]
+            self.compile([*words, self.sources / f"{name}.c"])
         program = folder / name
-        objects = [self.work / f"{name}.o", self.work / "bb_memory.o"]
+        objects = [compiled, self.work / "bb_memory.o"]
         self.compile(["-std=c99", "-O2", "-w", "-o", program, *sources, *objects])
         return program
 

@@ -94,12 +94,13 @@ struct slot_events {
     char gap[LINE - 3 * sizeof(struct event)];
 };
 
+// It begins with the fields of `struct bb_file_party_head`.
 struct bb_file_party {
     // The party of this process's table, or an empty handle if it hasn't joined. It is the first
     // member, since the calls that the library exports for a `bb_file_party` use it as the handle.
     struct file_party party;
-    // The event of the file's free buckets.
-    struct event *freed;
+    // The value of the event of the file's free buckets, for `bb_file_party_deallocate`.
+    const uint32_t *freed;
     // The file, for a party that has joined.
     bb_pool_file *file;
     // Keeps what different parties write on separate cache lines.

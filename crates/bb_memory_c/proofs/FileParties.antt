@@ -1,9 +1,9 @@
 -- Parties of files: their calls leave as many buckets as there are, and take buckets that are there.
-use Rattle.bb_memory_c.specs.Files.{HoldsPlace, JoinedFile, TakesFrom}
+use Rattle.bb_memory_c.specs.Files.{HasBucketOf, HoldsPlace, JoinedFile}
 use Rattle.bb_memory_file.proofs.FileCaches.{last_cached}
 use Rattle.bb_memory_file.specs.FileCalls.{Makes}
 use Rattle.bb_memory_file.specs.FileLog.{FileLog}
-use Rattle.bb_memory_file.specs.FileNotes.{Allocates, AreCached, Attaches, Deallocates, Detaches, Finishes, GivesAllBack, IsDoneWith, JoinedParty, Posts, Receives, Returns, Searches, Sends, Takes}
+use Rattle.bb_memory_file.specs.FileNotes.{Allocates, AreCached, Attaches, Detaches, Finishes, GivesAllBack, IsDoneWith, JoinedParty, Posts, Receives, Returns, Searches, Sends, Takes}
 use Rattle.bb_memory_file.specs.FileParties.{log_of}
 use Rattle.bb_memory_file.specs.declared.joined.Refusal.{Refusal}
 use Rattle.bb_memory_file.specs.declared.joined.Refusal.TheVariants.{NotABucket, NotDone, NotHeld}
@@ -14,6 +14,7 @@ use Rattle.bb_memory_file.specs.declared.queues.Sending.{Sending}
 use Rattle.bb_memory_file.specs.declared.queues.Sending.TheVariants.{Full, Overtaken, Sent}
 use Rattle.bb_memory_file_machine.specs.declared.steps.file.FileStep.{FileStep}
 use Rattle.bb_memory_traits.specs.Geometry.{IsPlaceOfBucket}
+use Rattle.bb_memory_traits.specs.PoolObject.{PoolGeometry}
 use Rattle.std.proofs.Common.{Bool, Err, List, None, Ok, Option, Result, Some, [], ap, arith, false, inl, inr, length, refl, true, ℕ, ◌++◌, ◌<◌, ◌∙◌, ◌∷◌, ◌≡◌, ◌⊎◌}
 use Rattle.std.proofs.lemmas.Bool.{cases_eq, cases_lt}
 use Rattle.std.proofs.lemmas.Option.{slice_get_within}
@@ -71,11 +72,6 @@ returned-same old bucket new did = elim (cases_lt (length old.cached) old.most) 
   | inl fewer ↦ ap (λ (p : Party). buckets_of p) (did.cached fewer)
   | inr full ↦ ap (λ (l : FileLog). l.scene.buckets) ((did.returned full).0 0).1
 ]
-
-pub deallocated-same : (old : Party) (bucket : ℕ) (told : Result (Unit {0}) Refusal) (new : Party) →
-    Deallocates log_of old bucket told new → buckets_of new ≡ buckets_of old
-deallocated-same old bucket (Ok done) new did = returned-same old bucket new did.1
-deallocated-same old bucket (Err refusal) new did = ap (λ (p : Party). buckets_of p) did.1
 
 pub detached-same : (old : Party) (bucket : ℕ) (told : Result (Option ℕ) Refusal) (new : Party) → Detaches log_of old bucket told new →
     buckets_of new ≡ buckets_of old
@@ -157,19 +153,15 @@ given-same old freed new did = ap (λ (l : FileLog). l.scene.buckets) (did.0 0).
 
 -- PLACES
 
--- the bucket of a message that a party has just taken is one of the file's
-pub taken-below : (file : JoinedFile) (slot bucket len : ℕ) (after : JoinedFile) → length file.party.notes ≡ file.places.buckets →
-    TakesFrom file slot (taken.Message bucket len) after → bucket < after.places.buckets
-taken-below file slot bucket len after long took = elim (cases_eq file.party.depth 1) [
-  | inl single ↦
-      let did = took.0 single in
-      let same = ap (λ (f : JoinedFile). f.places.buckets) did.1 in
-      omega (arith, same, long, slice_get_within file.party.notes bucket _ did.0.1)
-  | inr queued ↦
-      let did = took.1 queued in
-      let same = ap (λ (f : JoinedFile). f.places.buckets) did.1 in
-      omega (arith, same, long, slice_get_within file.party.notes bucket _ (did.0.0 0).6)
-]
+-- the bucket of a message that a party has just received is one of the file's
+pub received-below : (old : Party) (queue size : ℕ) (answer : Taken) (new : Party) (places : PoolGeometry) →
+    length old.notes ≡ places.buckets → Receives log_of old queue size answer new →
+    HasBucketOf (record { party = new; places = places }) answer
+received-below old queue size (taken.Message bucket len) new places long did =
+    omega (arith, long, slice_get_within old.notes bucket _ (did.0 0).6)
+received-below old queue size taken.Empty new places long did = tt
+received-below old queue size taken.NotSent new places long did = tt
+received-below old queue size taken.Wrong new places long did = tt
 
 -- what follows if there is none
 pub none-so : (told : Option ℕ) (A B : Type 0) → (A → B) → IfNone told A → IfNone told B

@@ -1,9 +1,9 @@
 -- The codes of calls that free, post or detach the bucket at a place, by the party's note of it.
-use Rattle.bb_memory_c.specs.Files.{Fits, HoldsPlace, IsNoted, IsNotedAt, JoinedFile, MayFree, PostsInto, TellsAttach, TellsDeallocate, TellsDetach, TellsDoneWith, TellsPost, code_of, detached_number, none_detached, posted_as, put_back_number, slots_of}
+use Rattle.bb_memory_c.specs.Files.{Fits, HoldsPlace, IsNoted, IsNotedAt, JoinedFile, MayFree, MayNotPost, TellsAttach, TellsDeallocate, TellsDetach, TellsDoneWith, TellsPost, detached_number, none_detached, posted_as, put_back_number}
 use Rattle.bb_memory_c.specs.declared.file_answer.PostedMessage.{PostedMessage}
 use Rattle.bb_memory_c_calls.specs.Answers.{figure_of, no_figure, refused as no_chunk}
-use Rattle.bb_memory_c_calls.specs.declared.code.TheConstants.{FILE_NOT_DONE as file_not_done, NOT_A_BUCKET as not_a_bucket, NOT_HELD as not_held, OK as ok, SIZE_TOO_LARGE as size_too_large}
-use Rattle.bb_memory_file.specs.FileNotes.{Attaches, Deallocates, Detaches, Finishes, HasNoMessage, IsHeldNote, IsRefusal, JoinedParty, Posts, Sends}
+use Rattle.bb_memory_c_calls.specs.declared.code.TheConstants.{FILE_NOT_DONE as file_not_done, INVALID_ARGUMENT as invalid_argument, NOT_A_BUCKET as not_a_bucket, NOT_HELD as not_held, OK as ok, SIZE_TOO_LARGE as size_too_large}
+use Rattle.bb_memory_file.specs.FileNotes.{Attaches, CachesAll, Detaches, Finishes, HasNoMessage, IsHeldNote, IsRefusal, JoinedParty, Posts, Returns, Sends}
 use Rattle.bb_memory_file.specs.FileParties.{log_of}
 use Rattle.bb_memory_file.specs.declared.joined.Note.{Note}
 use Rattle.bb_memory_file.specs.declared.joined.Note.TheVariants.{Cached, InUse, Undone, Unheld}
@@ -15,22 +15,59 @@ use Rattle.bb_memory_traits.specs.PoolObject.{bucket_place}
 use Rattle.std.proofs.Common.{Bool, Err, None, Ok, Option, Some, ap, arith, false, inl, inr, length, refl, subst, sym, true, ℕ, ◌<◌, ◌∙◌, ◌≡◌, ◌≢◌}
 use Rattle.std.proofs.lemmas.Bool.{cases_eq}
 use Rattle.std.proofs.lemmas.Option.{slice_get_within}
-use Rattle.std.specs.Prelude.{if◌then◌else◌, slice_get}
+use Rattle.std.specs.Prelude.{if◌then◌else◌, slice_get, ◌↔◌}
 
 in-use-refused : (refusal : Refusal) → ¬ IsRefusal (Some InUse) refusal
 in-use-refused NotABucket because = because
 in-use-refused NotHeld because = because
 in-use-refused NotDone because = because
 
--- the party has no bucket in use at the place, and is to free one there
-pub none-freed : (file : JoinedFile) (place : ℕ) → ¬ HoldsPlace file place → TellsDeallocate file place not_held file
-none-freed file place none = record {
-  not_held = (λ _. none, λ _. refl);
-  not_done = (λ wrong. absurd (omega (arith, wrong)), λ undone. absurd (none (inr undone)));
-  freed = (λ wrong. absurd (omega (arith, wrong)), λ free. absurd (none (inl free)));
-  gone = λ wrong. absurd (omega (arith, wrong));
-  unchanged = λ _. refl;
+-- FREEING
+
+pub given-back : (file : JoinedFile) (place number free : ℕ) (after : JoinedParty FileParty) →
+    IsNoted file place number InUse → ¬ IsNotedAt file place Undone → ((free ≡ 1) ↔ CachesAll file.party) →
+    (free ≢ 1 → free ≡ 0) → Returns log_of file.party number after →
+    TellsDeallocate file place (figure_of free) (record file { party = after })
+given-back file place number free after noted done is_free not_free did = record {
+  not_held = (λ wrong. absurd (omega (arith, wrong)), λ none. absurd (none (inl (number, noted))));
+  not_done = (λ wrong. absurd (omega (arith, wrong)), λ undone. absurd (done undone));
+  freed = (λ _. (number, noted), λ _. refl);
+  gone = λ _. (number, noted, (did, refl));
+  unchanged = λ not. absurd (not refl);
+  free = (λ one. ((number, noted), is_free.0 one), λ its. is_free.1 its.1);
+  not_free = not_free;
 }
+
+pub not-given-back : (file : JoinedFile) (place code : ℕ) → ¬ MayFree file place →
+    (code ≢ file_not_done → (code ≡ not_held) × (¬ HoldsPlace file place)) →
+    (code ≡ file_not_done → IsNotedAt file place Undone) → TellsDeallocate file place (no_figure code) file
+not-given-back file place code none idle busy = record {
+  not_held = (
+    λ is. (idle (λ same. absurd (omega (arith, is, same)))).1,
+    λ free. elim (cases_eq code file_not_done) [
+      | inl same ↦ absurd (free (inr (busy same)))
+      | inr apart ↦ (idle apart).0
+    ],
+  );
+  not_done = (
+    busy,
+    λ undone. elim (cases_eq code file_not_done) [
+      | inl same ↦ same
+      | inr apart ↦ absurd ((idle apart).1 (inr undone))
+    ],
+  );
+  freed = (λ is. absurd (fails is), λ may. absurd (none may));
+  gone = λ is. absurd (fails is);
+  unchanged = λ _. refl;
+  free = (λ wrong. absurd (omega (arith, wrong)), λ its. absurd (none its.0));
+  not_free = λ _. refl;
+}
+  where
+    fails : code ≢ ok
+    fails is = elim (cases_eq code file_not_done) [
+      | inl same ↦ absurd (omega (arith, is, same))
+      | inr apart ↦ let its = (idle apart).0 in absurd (omega (arith, is, its))
+    ]
 
 module _ (file : JoinedFile) (place number : ℕ) (below : number < length file.party.notes)
     (there : place ≡ bucket_place file.places number)
@@ -46,56 +83,18 @@ module _ (file : JoinedFile) (place number : ℕ) (below : number < length file.
   is-there : (note : Note) → slice_get file.party.notes number ≡ Some note → IsNotedAt file place note
   is-there note is = (number, (is, there))
 
-  not-used : (note : Note) → slice_get file.party.notes number ≡ Some note → note ≢ InUse → note ≢ Undone → ¬ HoldsPlace file place
-  not-used note is idle whole = elim [
-    | inl in_use ↦ other-note note InUse is idle in_use
+  pub not-used : (note : Note) → slice_get file.party.notes number ≡ Some note → note ≢ Undone → ¬ MayFree file place →
+      ¬ HoldsPlace file place
+  not-used note is whole none = elim [
+    | inl in_use ↦ none in_use
     | inr undone ↦ other-note note Undone is whole undone
   ]
 
-  -- FREEING
+  pub not-free : (note : Note) → slice_get file.party.notes number ≡ Some note → note ≢ InUse → ¬ MayFree file place
+  not-free note is idle may = other-note note InUse is idle may
 
-  pub freed : (after : JoinedParty FileParty) → Deallocates log_of file.party number (Ok tt) after →
-      TellsDeallocate file place ok (record file { party = after })
-  freed after did = record {
-    not_held = (λ wrong. absurd (omega (arith, wrong)), λ none. absurd (none (inl (is-there InUse did.0))));
-    not_done = (
-      λ wrong. absurd (omega (arith, wrong)),
-      λ undone. absurd (other-note InUse Undone did.0 (λ e. cc) undone),
-    );
-    freed = (λ _. is-there InUse did.0, λ _. refl);
-    gone = λ _. (number, (did.0, there), (did.1, refl));
-    unchanged = λ not. absurd (not refl);
-  }
-
-  by-note : (refusal : Refusal) (note : Option Note) → slice_get file.party.notes number ≡ note → IsRefusal note refusal →
-      TellsDeallocate file place (code_of refusal) file
-  by-note NotABucket None is because = let it = (there_below file.party.notes number below).1 in absurd (cc)
-  by-note NotABucket (Some Unheld) is because = absurd because
-  by-note NotABucket (Some Cached) is because = absurd because
-  by-note NotABucket (Some InUse) is because = absurd because
-  by-note NotABucket (Some Undone) is because = absurd because
-  by-note NotHeld (Some Unheld) is because = none-freed file place (not-used Unheld is (λ e. cc) (λ e. cc))
-  by-note NotHeld (Some Cached) is because = none-freed file place (not-used Cached is (λ e. cc) (λ e. cc))
-  by-note NotHeld (Some InUse) is because = absurd because
-  by-note NotHeld (Some Undone) is because = absurd because
-  by-note NotHeld None is because = absurd because
-  by-note NotDone (Some Undone) is because = record {
-    not_held = (λ wrong. absurd (omega (arith, wrong)), λ none. absurd (none (inr (is-there Undone is))));
-    not_done = (λ _. is-there Undone is, λ _. refl);
-    freed = (λ wrong. absurd (omega (arith, wrong)), λ free. absurd (other-note Undone InUse is (λ e. cc) free));
-    gone = λ wrong. absurd (omega (arith, wrong));
-    unchanged = λ _. refl;
-  }
-  by-note NotDone (Some Unheld) is because = absurd because
-  by-note NotDone (Some Cached) is because = absurd because
-  by-note NotDone (Some InUse) is because = absurd because
-  by-note NotDone None is because = absurd because
-
-  pub refused : (refusal : Refusal) (after : JoinedParty FileParty) → Deallocates log_of file.party number (Err refusal) after →
-      TellsDeallocate file place (code_of refusal) (record file { party = after })
-  refused refusal after did =
-      subst (λ (p : JoinedParty FileParty). TellsDeallocate file place (code_of refusal) (record file { party = p })) (sym did.1)
-      (by-note refusal (slice_get file.party.notes number) refl did.0)
+  pub is-done : slice_get file.party.notes number ≡ Some InUse → ¬ IsNotedAt file place Undone
+  is-done is undone = other-note InUse Undone is (λ e. cc) undone
 
   -- DETACHING
 
@@ -188,48 +187,59 @@ module _ (file : JoinedFile) (place number : ℕ) (below : number < length file.
 
 -- POSTING
 
-module _ (file : JoinedFile) (slot place len : ℕ) (slots : slot < slots_of file) where
-  pub post-refused : (code : ℕ) → ¬ MayFree file place → (code ≢ file_not_done → (code ≡ not_held) × (¬ HoldsPlace file place))
-      → (code ≡ file_not_done → IsNotedAt file place Undone) → TellsPost file slot place len (posted_as code) file
-  post-refused code none idle busy = record {
-    no_slot = λ past. absurd (omega (arith, past, slots));
-    not_held = λ _ free. (
-      ap posted_as (elim (cases_eq code file_not_done) [
-        | inl same ↦ absurd (free (inr (busy same)))
-        | inr apart ↦ (idle apart).0
-      ]),
-      refl,
-    );
-    not_done = λ _ undone. (
-      ap posted_as (elim (cases_eq code file_not_done) [
-        | inl same ↦ same
-        | inr apart ↦ absurd ((idle apart).1 (inr undone))
-      ]),
-      refl,
-    );
-    too_large = λ may. absurd (none may.1);
-    tried = λ may. absurd (none may.1);
+pub may-not-post : (file : JoinedFile) (place len code : ℕ) → ¬ MayFree file place →
+    (code ≢ file_not_done → (code ≡ not_held) × (¬ HoldsPlace file place)) →
+    (code ≡ file_not_done → IsNotedAt file place Undone) → MayNotPost file place len code
+may-not-post file place len code none idle busy = record {
+  not_held = λ free. elim (cases_eq code file_not_done) [
+    | inl same ↦ absurd (free (inr (busy same)))
+    | inr apart ↦ (idle apart).0
+  ];
+  not_done = λ undone. elim (cases_eq code file_not_done) [
+    | inl same ↦ same
+    | inr apart ↦ absurd ((idle apart).1 (inr undone))
+  ];
+  too_large = λ may. absurd (none may);
+}
+
+pub too-large : (file : JoinedFile) (place len number : ℕ) → IsNoted file place number InUse → ¬ IsNotedAt file place Undone →
+    ¬ Fits file len → MayNotPost file place len size_too_large
+too-large file place len number noted done long = record {
+  not_held = λ none. absurd (none (inl (number, noted)));
+  not_done = λ undone. absurd (done undone);
+  too_large = λ _. (long, refl);
+}
+
+module _ (has_slot : Type 0) (posts : ℕ → ℕ → PostedMessage → JoinedFile → Type 0) (file : JoinedFile) (place len : ℕ) where
+  pub post-nowhere : ¬ has_slot → TellsPost has_slot posts file place len (posted_as invalid_argument) file
+  post-nowhere none = record {
+    no_slot = λ _. (refl, refl);
+    not_held = λ has. absurd (none has);
+    not_done = λ has. absurd (none has);
+    too_large = λ has. absurd (none has);
+    tried = λ has. absurd (none has);
   }
 
-  module _ (number : ℕ) (noted : IsNoted file place number InUse) (done : ¬ IsNotedAt file place Undone) where
-    pub post-too-large : ¬ Fits file len → TellsPost file slot place len (posted_as size_too_large) file
-    post-too-large long = record {
-      no_slot = λ past. absurd (omega (arith, past, slots));
-      not_held = λ _ none. absurd (none (inl (number, noted)));
-      not_done = λ _ undone. absurd (done undone);
-      too_large = λ _ _. (refl, refl);
-      tried = λ _ fits. absurd (long fits);
-    }
+  pub post-refused : (code : ℕ) → has_slot → MayNotPost file place len code →
+      TellsPost has_slot posts file place len (posted_as code) file
+  post-refused code has because = record {
+    no_slot = λ none. absurd (none has);
+    not_held = λ _ free. (ap posted_as (because.not_held free), refl);
+    not_done = λ _ undone. (ap posted_as (because.not_done undone), refl);
+    too_large = λ _ may long. (ap posted_as (because.too_large may).1, refl);
+    tried = λ _ may fits. absurd ((because.too_large may).0 fits);
+  }
 
-    pub post-tried : (told : PostedMessage) (after : JoinedFile) → Fits file len → PostsInto file slot number len told after →
-        TellsPost file slot place len told after
-    post-tried told after fits did = record {
-      no_slot = λ past. absurd (omega (arith, past, slots));
-      not_held = λ _ none. absurd (none (inl (number, noted)));
-      not_done = λ _ undone. absurd (done undone);
-      too_large = λ _ long. absurd (long fits);
-      tried = λ _ _. (number, noted, did);
-    }
+  pub post-tried : (number : ℕ) (told : PostedMessage) (after : JoinedFile) → has_slot → IsNoted file place number InUse →
+      ¬ IsNotedAt file place Undone → Fits file len → posts number len told after →
+      TellsPost has_slot posts file place len told after
+  post-tried number told after has noted done fits did = record {
+    no_slot = λ none. absurd (none has);
+    not_held = λ _ none. absurd (none (inl (number, noted)));
+    not_done = λ _ undone. absurd (done undone);
+    too_large = λ _ _ long. absurd (long fits);
+    tried = λ _ _ _. (number, noted, did);
+  }
 
 -- a bucket in use may be posted
 module _ (file : JoinedFile) (slot number len : ℕ) (noted : slice_get file.party.notes number ≡ Some InUse) where

@@ -15,7 +15,7 @@ use Rattle.bb_memory_c_calls.specs.declared.code.TheConstants.{ALREADY_INITIALIZ
 use Rattle.bb_memory_file.specs.FileCalls.{IsJoin, IsLeave, IsOver}
 use Rattle.bb_memory_file.specs.FileFormat.{entry_at, entry_in, flag_at, flag_in, geometry_of, life_at, slot_at, slot_in, words_of}
 use Rattle.bb_memory_file.specs.FileLog.{FileLog, fresh_log}
-use Rattle.bb_memory_file.specs.FileNotes.{Allocates, Attaches, Caches, Detaches, Finishes, Flushes, GivesAllBack, IsDoneWith, JoinedParty, Joins, JoinsNot, MissesFirst, Posts, Reaps, Receives, Returns, Sends, Takes, queues_of, used_in}
+use Rattle.bb_memory_file.specs.FileNotes.{Allocates, Attaches, Caches, CachesAll, Detaches, Finishes, Flushes, GivesAllBack, IsDoneWith, JoinedParty, Joins, JoinsNot, MissesFirst, Posts, Reaps, Receives, Returns, Sends, Takes, queues_of, used_in}
 use Rattle.bb_memory_file.specs.FileParties.{IsUnlocked, log_of, scene_of}
 use Rattle.bb_memory_file.specs.FileTables.{FileTable, HasLoaded}
 use Rattle.bb_memory_file.specs.Recorded.{beginning_of}
@@ -212,11 +212,13 @@ pub record TellsLife (file : OpenFile) (party told : ℕ) (after : OpenFile) : T
 
 -- BUCKETS OF A PARTY
 
--- how many slots C has of the party's file: single ones at depth 1, and otherwise queues
-abbrev pub slots_of : JoinedFile → ℕ
-slots_of file =
-    if file.party.depth == 1 then (log_of file.party.words).scene.slots
-    else queues_of (log_of file.party.words).scene.slots file.party.depth
+-- the slots of the party's file are single, and this is one of them
+abbrev pub HasSingle : JoinedFile → ℕ → Type 0
+HasSingle file slot = (file.party.depth ≡ 1) × (slot < (log_of file.party.words).scene.slots)
+
+-- the party's file has this queue
+abbrev pub HasQueue : JoinedFile → ℕ → Type 0
+HasQueue file queue = queue < queues_of (log_of file.party.words).scene.slots file.party.depth
 
 -- the number of the party
 abbrev pub number_of : JoinedFile → ℕ
@@ -264,13 +266,16 @@ abbrev pub GivesBack : JoinedFile → ℕ → JoinedFile → Type 0
 GivesBack file place after =
     (number : ℕ) × IsNoted file place number InUse × Becomes (λ old new. Returns log_of old number new) file after
 
--- A party is to free the bucket at a place. Each code is returned for exactly its cause.
-pub record TellsDeallocate (file : JoinedFile) (place code : ℕ) (after : JoinedFile) : Type 0 where
-  pub not_held : (code ≡ not_held) ↔ (¬ HoldsPlace file place)
-  pub not_done : (code ≡ file_not_done) ↔ IsNotedAt file place Undone
-  pub freed : (code ≡ ok) ↔ MayFree file place
-  pub gone : code ≡ ok → GivesBack file place after
-  pub unchanged : code ≢ ok → after ≡ file
+-- A party is to free the bucket at a place. Each code is returned for exactly its cause. The number is 1
+-- if the bucket is free then, and otherwise 0: the party caches the bucket, or the call has failed.
+pub record TellsDeallocate (file : JoinedFile) (place : ℕ) (told : Figure) (after : JoinedFile) : Type 0 where
+  pub not_held : (told.code ≡ not_held) ↔ (¬ HoldsPlace file place)
+  pub not_done : (told.code ≡ file_not_done) ↔ IsNotedAt file place Undone
+  pub freed : (told.code ≡ ok) ↔ MayFree file place
+  pub gone : told.code ≡ ok → GivesBack file place after
+  pub unchanged : told.code ≢ ok → after ≡ file
+  pub free : (told.number ≡ 1) ↔ (MayFree file place × CachesAll file.party)
+  pub not_free : told.number ≢ 1 → told.number ≡ 0
 
 -- the party gives back all that it holds, and C gets how many buckets were freed
 abbrev pub TellsFreed : JoinedFile → Figure → JoinedFile → Type 0
@@ -293,21 +298,18 @@ TellsFlush file code after = (code ≡ ok) × Becomes (Flushes log_of) file afte
 abbrev pub ShowsParty : JoinedFile → SharedPoolInfo → JoinedFile → Type 0
 ShowsParty file info after = (info ≡ shared_pool_info file.places (used_in file.party.notes)) × (after ≡ file)
 
--- the code of the refusal of a bucket
-abbrev pub code_of : Refusal → ℕ
-code_of NotABucket = not_a_bucket
-code_of NotHeld = not_held
-code_of NotDone = file_not_done
-
 -- MESSAGES
 
 -- a message of this length fits into a bucket, and into the bucket's entry
 abbrev pub Fits : JoinedFile → ℕ → Type 0
 Fits file len = (len ≤ file.places.bucket.size) × (len < 2 ^ 32)
 
--- the party may post the bucket at this place in this slot
-abbrev pub MayPost : JoinedFile → ℕ → ℕ → Type 0
-MayPost file slot place = (slot < slots_of file) × MayFree file place
+-- the code of the reason why the party may not post the bucket at this place with a message of `len`
+-- bytes: the first one in this list that applies
+pub record MayNotPost (file : JoinedFile) (place len code : ℕ) : Type 0 where
+  pub not_held : ¬ HoldsPlace file place → code ≡ not_held
+  pub not_done : IsNotedAt file place Undone → code ≡ file_not_done
+  pub too_large : MayFree file place → ¬ Fits file len × (code ≡ size_too_large)
 
 -- the answer to a post with this code, to which no other sender has anything to do
 abbrev pub posted_as : ℕ → PostedMessage
@@ -335,21 +337,17 @@ PostsQueued file queue number len told after =
     (sending : Sending) × (told ≡ posted_by sending)
     × Becomes (λ old new. Sends log_of old queue number len (Ok sending) new) file after
 
--- the party has tried to post the bucket of this number into a slot of C's
-abbrev pub PostsInto : JoinedFile → ℕ → ℕ → ℕ → PostedMessage → JoinedFile → Type 0
-PostsInto file slot number len told after =
-    (file.party.depth ≡ 1 → PostsSingle file slot number len told after)
-    × (file.party.depth ≢ 1 → PostsQueued file slot number len told after)
-
--- A party is to post the bucket at a place, with a message of `len` bytes, in a slot. If several errors
--- apply, the first one in this list is returned.
-pub record TellsPost (file : JoinedFile) (slot place len : ℕ) (told : PostedMessage) (after : JoinedFile) : Type 0 where
-  pub no_slot : slots_of file ≤ slot → (told ≡ posted_as invalid_argument) × (after ≡ file)
-  pub not_held : slot < slots_of file → ¬ HoldsPlace file place → (told ≡ posted_as not_held) × (after ≡ file)
-  pub not_done : slot < slots_of file → IsNotedAt file place Undone → (told ≡ posted_as file_not_done) × (after ≡ file)
-  pub too_large : MayPost file slot place → ¬ Fits file len → (told ≡ posted_as size_too_large) × (after ≡ file)
-  pub tried : MayPost file slot place → Fits file len → (number : ℕ) × IsNoted file place number InUse
-      × PostsInto file slot number len told after
+-- A party is to post the bucket at a place, with a message of `len` bytes, in a slot, if the file has
+-- that slot. `posts` says how the party tries it with the bucket of a number. If several errors apply, the
+-- first one in this list is returned.
+pub record TellsPost (has_slot : Type 0) (posts : ℕ → ℕ → PostedMessage → JoinedFile → Type 0) (file : JoinedFile) (place len : ℕ)
+    (told : PostedMessage) (after : JoinedFile) : Type 0 where
+  pub no_slot : ¬ has_slot → (told ≡ posted_as invalid_argument) × (after ≡ file)
+  pub not_held : has_slot → ¬ HoldsPlace file place → (told ≡ posted_as not_held) × (after ≡ file)
+  pub not_done : has_slot → IsNotedAt file place Undone → (told ≡ posted_as file_not_done) × (after ≡ file)
+  pub too_large : has_slot → MayFree file place → ¬ Fits file len → (told ≡ posted_as size_too_large) × (after ≡ file)
+  pub tried : has_slot → MayFree file place → Fits file len → (number : ℕ) × IsNoted file place number InUse
+      × posts number len told after
 
 -- no message, for the reason of this code
 abbrev pub no_message : ℕ → Message
@@ -363,25 +361,33 @@ message_of places taken.Wrong = no_message not_a_bucket
 message_of places (taken.Message bucket length) =
     record { code = ok; number = bucket; place = bucket_place places bucket; len = length }
 
--- the party has looked for a message in a single slot, or in a queue, and found this
-abbrev pub TakesFrom : JoinedFile → ℕ → Taken → JoinedFile → Type 0
-TakesFrom file slot answer after =
-    (file.party.depth ≡ 1
-    → Becomes (λ old new. Takes log_of old slot (min file.places.bucket.size (2 ^ 32 - 1)) answer new) file after)
-    × (file.party.depth ≢ 1
-    → Becomes (λ old new. Receives log_of old slot (min file.places.bucket.size (2 ^ 32 - 1)) answer new) file after)
+-- the bucket of a message that was taken is one of the file's
+abbrev pub HasBucketOf : JoinedFile → Taken → Type 0
+HasBucketOf file (taken.Message bucket length) = bucket < file.places.buckets
+HasBucketOf file answer = Unit {0}
 
--- A party is to take a message in a slot.
-pub record TellsMessage (file : JoinedFile) (slot : ℕ) (told : Message) (after : JoinedFile) : Type 0 where
-  pub no_slot : slots_of file ≤ slot → (told ≡ no_message invalid_argument) × (after ≡ file)
-  pub tried : slot < slots_of file → (answer : Taken) × (told ≡ message_of file.places answer)
-      × TakesFrom file slot answer after
+-- the greatest length of a message in a bucket, and in the bucket's entry
+abbrev pub size_of : JoinedFile → ℕ
+size_of file = min file.places.bucket.size (2 ^ 32 - 1)
+
+-- the party has looked for a message in a single slot, and found this
+abbrev pub TakesSingle : JoinedFile → ℕ → Taken → JoinedFile → Type 0
+TakesSingle file slot answer after = Becomes (λ old new. Takes log_of old slot (size_of file) answer new) file after
+
+-- the party has looked for a message in a queue, and found this
+abbrev pub TakesQueued : JoinedFile → ℕ → Taken → JoinedFile → Type 0
+TakesQueued file queue answer after = Becomes (λ old new. Receives log_of old queue (size_of file) answer new) file after
+
+-- A party is to take a message in a slot, if the file has that slot. `takes` says what it finds there.
+pub record TellsMessage (has_slot : Type 0) (takes : Taken → JoinedFile → Type 0) (file : JoinedFile) (told : Message)
+    (after : JoinedFile) : Type 0 where
+  pub no_slot : ¬ has_slot → (told ≡ no_message invalid_argument) × (after ≡ file)
+  pub tried : has_slot → (answer : Taken) × (told ≡ message_of file.places answer) × takes answer after
 
 -- A party says that it is done with the message in a single slot.
 pub record TellsDone (file : JoinedFile) (slot code : ℕ) (after : JoinedFile) : Type 0 where
-  pub no_slot : slots_of file ≤ slot → (code ≡ invalid_argument) × (after ≡ file)
-  pub queued : file.party.depth ≢ 1 → (code ≡ invalid_argument) × (after ≡ file)
-  pub tried : file.party.depth ≡ 1 → slot < slots_of file → (is_done : Bool) × (code ≡ (if is_done then ok else not_held))
+  pub no_slot : ¬ HasSingle file slot → (code ≡ invalid_argument) × (after ≡ file)
+  pub tried : HasSingle file slot → (is_done : Bool) × (code ≡ (if is_done then ok else not_held))
       × Becomes (λ old new. IsDoneWith log_of old slot is_done new) file after
 
 -- C's answer to an attempt to be done with the message in the bucket of this number: the slot that is

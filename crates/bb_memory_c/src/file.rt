@@ -1,6 +1,6 @@
 //! Pools in files: the exported functions of a party of a file, and of the words that the parties share. Those whose names begin
 //! with `file_` are hidden, and `bb_pool_file.c` calls them, which keeps the file, its locks and those who wait.
-ghost use Rattle.bb_memory_c.specs.Files.{AnswersJoin, AnswersLeave, GivesBack, GivesChunk, HoldsPlace, MayFree, ShowsParty, TellsAttach, TellsCache, TellsDeallocate, TellsDetach, TellsDone, TellsDoneWith, TellsEntry, TellsFlag, TellsFlush, TellsFreed, TellsLife, TellsMessage, TellsPost, TellsReap, TellsSlot, TellsWords, cutting_file, no_message, none_detached, number_of, posted_as, shown_entry, shown_flag, shown_slot};
+ghost use Rattle.bb_memory_c.specs.Files.{AnswersJoin, AnswersLeave, GivesBack, GivesChunk, HasQueue, HasSingle, HoldsPlace, MayFree, PostsQueued, PostsSingle, ShowsParty, TakesQueued, TakesSingle, TellsAttach, TellsCache, TellsDeallocate, TellsDetach, TellsDone, TellsDoneWith, TellsEntry, TellsFlag, TellsFlush, TellsFreed, TellsLife, TellsMessage, TellsPost, TellsReap, TellsSlot, TellsWords, cutting_file, no_message, none_detached, number_of, posted_as, shown_entry, shown_flag, shown_slot};
 ghost use Rattle.bb_memory_c_calls.specs.Answers.{figure_of, no_figure, refused};
 ghost use Rattle.bb_memory_c_calls.specs.Calls.{Answers, AnswersFree, AnswersInfo, AnswersNumber, AnswersPlace, AnswersPoolMake, AnswersRequest, AnswersReturns, AnswersTake, AnswersTakings, AnswersWhether};
 ghost use Rattle.bb_memory_c_calls.specs.declared.code.TheConstants.{UNINITIALIZED as uninitialized};
@@ -159,20 +159,21 @@ pub extern "C" fn file_party_give_all_back(handle: &mut FilePartyHandle) -> Figu
     }
 }
 
-/// Frees the bucket at this place, or caches it. If this party has no bucket in use there, it returns `BB_NOT_HELD`, and if the party
-/// isn't done with the bucket's message, `BB_FILE_NOT_DONE`. Nothing changes then.
+/// Frees the bucket at this place, or caches it. The number is 1 if the bucket is free then, and 0 if the party caches it. If this
+/// party has no bucket in use there, it returns `BB_NOT_HELD`, and if the party isn't done with the bucket's message,
+/// `BB_FILE_NOT_DONE`. Nothing changes then.
 #[unsafe(no_mangle)]
-pub extern "C" fn file_party_deallocate(handle: &mut FilePartyHandle, place: usize) -> u32
-    ensures { Answers handle.old.value handle.new.value (result ≡ uninitialized)
+pub extern "C" fn bb_file_party_give_back(handle: &mut FilePartyHandle, place: usize) -> Figure
+    ensures { Answers handle.old.value handle.new.value (result ≡ no_figure uninitialized)
         (λ party after. TellsDeallocate party place result after) }
 {
     match handle.made_mut() {
         Some(party) => party.deallocate(place),
-        None => code::UNINITIALIZED,
+        None => Figure::refusal(code::UNINITIALIZED),
     }
 }
 
-/// Frees the buckets at these places, as that many calls of `file_party_deallocate` do, up to the first one that is refused. Returns
+/// Frees the buckets at these places, as that many calls of `bb_file_party_give_back` do, up to the first one that is refused. Returns
 /// how many it freed.
 #[unsafe(no_mangle)]
 pub extern "C" fn file_party_deallocate_many(
@@ -184,10 +185,10 @@ pub extern "C" fn file_party_deallocate_many(
     call::give_back_many(handle, places)
 }
 
-/// Posts the bucket at this place, which the party has in use, with a message of `len` bytes, in a slot. The party doesn't hold the
-/// bucket then. If several of these errors apply, the first one is returned: `BB_INVALID_ARGUMENT` if there is no such slot,
-/// `BB_NOT_HELD` and `BB_FILE_NOT_DONE` as `file_party_deallocate` does, `BB_SIZE_TOO_LARGE` if `len` is greater than a bucket's size
-/// or than `UINT32_MAX`, and `BB_DETACHED_FULL` if the slot is full.
+/// Posts the bucket at this place, which the party has in use, with a message of `len` bytes, in a slot of a file of single slots.
+/// The party doesn't hold the bucket then. If several of these errors apply, the first one is returned: `BB_INVALID_ARGUMENT` if
+/// there is no such slot, or if the file has queues, `BB_NOT_HELD` and `BB_FILE_NOT_DONE` as `bb_file_party_give_back` does,
+/// `BB_SIZE_TOO_LARGE` if `len` is greater than a bucket's size or than `UINT32_MAX`, and `BB_DETACHED_FULL` if the slot is full.
 #[unsafe(no_mangle)]
 pub extern "C" fn file_post(
     handle: &mut FilePartyHandle,
@@ -196,7 +197,7 @@ pub extern "C" fn file_post(
     len: usize,
 ) -> PostedMessage
     ensures { Answers handle.old.value handle.new.value (result ≡ posted_as uninitialized)
-        (λ party after. TellsPost party slot place len result after) }
+        (λ party after. TellsPost (HasSingle party slot) (PostsSingle party slot) party place len result after) }
 {
     match handle.made_mut() {
         Some(party) => party.post(slot, place, len),
@@ -204,16 +205,48 @@ pub extern "C" fn file_post(
     }
 }
 
-/// Takes the message in this slot: the party holds its bucket then. If several parties call it, at most one gets the message. It
-/// returns `BB_INVALID_ARGUMENT` if there is no such slot, `BB_DETACHED_EMPTY` if the slot is empty, `BB_NOT_HELD` if the message
-/// isn't sent, and `BB_NOT_A_BUCKET` if what is in the slot is none that a message of the file has.
+/// Posts the bucket at this place as `file_post` does, but in a queue. It returns `BB_INVALID_ARGUMENT` if there is no such queue, or
+/// if the file has single slots. If other senders were faster, the code is `BB_DETACHED_FULL`, and the caller may try again.
+#[unsafe(no_mangle)]
+pub extern "C" fn file_send(
+    handle: &mut FilePartyHandle,
+    queue: u32,
+    place: usize,
+    len: usize,
+) -> PostedMessage
+    ensures { Answers handle.old.value handle.new.value (result ≡ posted_as uninitialized)
+        (λ party after. TellsPost (HasQueue party queue) (PostsQueued party queue) party place len result after) }
+{
+    match handle.made_mut() {
+        Some(party) => party.send(queue, place, len),
+        None => PostedMessage::of(code::UNINITIALIZED),
+    }
+}
+
+/// Takes the message in this slot of a file of single slots: the party holds its bucket then. If several parties call it, at most
+/// one gets the message. It returns `BB_INVALID_ARGUMENT` if there is no such slot, or if the file has queues, `BB_DETACHED_EMPTY`
+/// if the slot is empty, `BB_NOT_HELD` if the message isn't sent, and `BB_NOT_A_BUCKET` if what is in the slot is none that a message
+/// of the file has.
 #[unsafe(no_mangle)]
 pub extern "C" fn file_take(handle: &mut FilePartyHandle, slot: u32) -> Message
     ensures { Answers handle.old.value handle.new.value (result ≡ no_message uninitialized)
-        (λ party after. TellsMessage party slot result after) }
+        (λ party after. TellsMessage (HasSingle party slot) (TakesSingle party slot) party result after) }
 {
     match handle.made_mut() {
-        Some(party) => party.take_message(slot),
+        Some(party) => party.take_single(slot),
+        None => Message::refusal(code::UNINITIALIZED),
+    }
+}
+
+/// Takes a message in this queue as `file_take` does from a single slot. It returns `BB_INVALID_ARGUMENT` if there is no such queue,
+/// or if the file has single slots.
+#[unsafe(no_mangle)]
+pub extern "C" fn file_receive(handle: &mut FilePartyHandle, queue: u32) -> Message
+    ensures { Answers handle.old.value handle.new.value (result ≡ no_message uninitialized)
+        (λ party after. TellsMessage (HasQueue party queue) (TakesQueued party queue) party result after) }
+{
+    match handle.made_mut() {
+        Some(party) => party.receive(queue),
         None => Message::refusal(code::UNINITIALIZED),
     }
 }

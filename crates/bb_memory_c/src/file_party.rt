@@ -1,5 +1,5 @@
 //! A party of a file, and the words that the parties share, as kinds.
-ghost use Rattle.bb_memory_c.specs.Files.{Becomes, GivesBack, GivesChunk, GivesUp, HasNoParty, HoldsPlace, IsNoted, IsNotedAt, IsOpen, IsPlaced, JoinedFile, JoinsAt, LeavesFrom, MayFree, MissesFirstAt, OpenFile, PostsQueued, PostsSingle, ShowsParty, TakesFrom, TellsAttach, TellsCache, TellsDeallocate, TellsDetach, TellsDone, TellsDoneWith, TellsEntry, TellsFlag, TellsJoin, TellsLife, TellsMessage, TellsPost, TellsReap, TellsSlot, code_of, cutting_file, fresh_of, number_of, slots_of};
+ghost use Rattle.bb_memory_c.specs.Files.{Becomes, Fits, GivesBack, GivesChunk, GivesUp, HasBucketOf, HasNoParty, HasQueue, HasSingle, HoldsPlace, IsNoted, IsNotedAt, IsOpen, IsPlaced, JoinedFile, JoinsAt, LeavesFrom, MayFree, MayNotPost, MissesFirstAt, OpenFile, PostsQueued, PostsSingle, ShowsParty, TakesQueued, TakesSingle, TellsAttach, TellsCache, TellsDeallocate, TellsDetach, TellsDone, TellsDoneWith, TellsEntry, TellsFlag, TellsJoin, TellsLife, TellsMessage, TellsPost, TellsReap, TellsSlot, cutting_file, fresh_of, message_of, number_of, size_of};
 ghost use Rattle.bb_memory_c_calls.specs.Calls.{FailsOf, IsOf, LacksRoomOf};
 ghost use Rattle.bb_memory_c_calls.specs.declared.code.TheConstants.{FILE_NOT_DONE as file_not_done, INVALID_ARGUMENT as invalid_argument, INVALID_LAYOUT as invalid_layout, MALLOC_REFUSED as malloc_refused, NOT_HELD as not_held, NO_BUCKET as no_bucket, NO_PARTY as no_party, OK as ok, PARTIES_JOINED as parties_joined};
 ghost use Rattle.bb_memory_file.specs.FileFormat.{IsGeometry, geometry_of, words_of};
@@ -9,7 +9,7 @@ ghost use Rattle.bb_memory_file.specs.declared.joined.Note.TheVariants.{InUse, U
 ghost use Rattle.bb_memory_traits.specs.Chunk.{region_at};
 ghost use Rattle.bb_memory_traits.specs.PoolObject.{bucket_place};
 ghost use Rattle.std.specs.Align.{IsLayout};
-ghost use Rattle.std.specs.Prelude.{Err, IfErr, IfNone, IfOk, IfSome, None, Some, length, slice_get, ℕ, ◌<◌, ◌↔◌, ◌≡◌, ◌≢◌, ◌≤◌};
+ghost use Rattle.std.specs.Prelude.{Err, IfErr, IfNone, IfOk, IfSome, IsTrue, None, Some, length, slice_get, ℕ, ◌<◌, ◌↔◌, ◌≡◌, ◌≢◌, ◌≤◌};
 
 use crate::file_answer::{
     DetachedNumber, Message, PostedMessage, ShownEntry, ShownFlag, ShownSlot,
@@ -51,17 +51,6 @@ impl Model for JoinedFile {
     ghost invariant = { λ f. IsPlaced f.party f.places };
 }
 
-/// Returns the code of the refusal of a bucket.
-fn code_of(refusal: Refusal) -> u32
-    ensures { result ≡ code_of refusal }
-{
-    match refusal {
-        Refusal::NotABucket => code::NOT_A_BUCKET,
-        Refusal::NotHeld => code::NOT_HELD,
-        Refusal::NotDone => code::FILE_NOT_DONE,
-    }
-}
-
 impl JoinedFile {
     /// Proof hint: brings into scope what holds for every party.
     #[inline(always)]
@@ -88,6 +77,7 @@ impl JoinedFile {
 
     /// Returns the number of the bucket at this place, which the party has in use and which is in no slot, or the code of the reason
     /// why there is none.
+    #[inline(always)]
     fn in_use_at(&self, place: usize) -> Result<u32, u32>
         ensures there { IfOk result (λ number. IsNoted self.now place number InUse) }
         ensures done { IfOk result (λ number. ¬ IsNotedAt self.now place Undone) }
@@ -96,27 +86,45 @@ impl JoinedFile {
             → (code ≡ not_held) × (¬ HoldsPlace self.now place)) }
         ensures not_done { IfErr result (λ code. code ≡ file_not_done → IsNotedAt self.now place Undone) }
     {
+        self.invariant();
         let Some(number) = self.numbered(place) else {
-            return Err(code::NOT_HELD);
+            return Err(self.refusal_at(place));
         };
-        match self.party.note(number) {
-            Some(Note::InUse) => Ok(number),
-            Some(Note::Undone) => Err(code::FILE_NOT_DONE),
-            _ => Err(code::NOT_HELD),
+        if let Note::InUse = self.party.note_of(number) {
+            return Ok(number);
         }
+        Err(self.refusal_at(place))
     }
 
-    /// Gives back the bucket at this place.
-    #[inline(always)]
-    pub(crate) fn deallocate(&mut self, place: usize) -> u32
-        ensures { TellsDeallocate self.old place result self.new }
+    /// Returns the code of the reason why the party has no bucket in use at this place that is in no slot.
+    #[inline(never)]
+    fn refusal_at(&self, place: usize) -> u32
+        ensures not_held { ¬ MayFree self.now place → result ≢ file_not_done
+            → (result ≡ not_held) × (¬ HoldsPlace self.now place) }
+        ensures not_done { result ≡ file_not_done → IsNotedAt self.now place Undone }
     {
+        self.invariant();
         let Some(number) = self.numbered(place) else {
             return code::NOT_HELD;
         };
-        match self.party.deallocate(number) {
-            Ok(()) => code::OK,
-            Err(refusal) => code_of(refusal),
+        match self.party.note_of(number) {
+            Note::Undone => code::FILE_NOT_DONE,
+            _ => code::NOT_HELD,
+        }
+    }
+
+    /// Gives back the bucket at this place. The number is 1 if the bucket is free then, and 0 if the party caches it.
+    #[inline(always)]
+    pub(crate) fn deallocate(&mut self, place: usize) -> Figure
+        ensures { TellsDeallocate self.old place result self.new }
+    {
+        match self.in_use_at(place) {
+            Ok(number) => {
+                let is_free = self.party.give_back(number);
+                let free = if is_free { 1 } else { 0 };
+                Figure::of(free)
+            }
+            Err(code) => Figure::refusal(code),
         }
     }
 
@@ -159,58 +167,86 @@ impl JoinedFile {
         party.leave()
     }
 
-    /// Returns how many slots C has: queues, or single slots at depth 1.
+    /// Returns whether the slots of the file are single, and this is one of them.
     #[inline(always)]
-    fn slots(&self) -> u32
-        ensures { result ≡ slots_of self.now }
+    fn has_single(&self, slot: u32) -> bool
+        ensures { IsTrue result ↔ HasSingle self.now slot }
     {
-        if self.party.depth() == 1 {
-            self.party.slots()
-        } else {
-            self.party.queues()
-        }
+        self.party.depth() == 1 && slot < self.party.slots()
     }
 
-    /// Posts the bucket at this place, with a message of `len` bytes, in a slot.
-    pub(crate) fn post(&mut self, slot: u32, place: usize, len: usize) -> PostedMessage
-        ensures { TellsPost self.old slot place len result self.new }
+    /// Returns whether the file has this queue.
+    #[inline(always)]
+    fn has_queue(&self, queue: u32) -> bool
+        ensures { IsTrue result ↔ HasQueue self.now queue }
     {
-        if slot >= self.slots() {
+        queue < self.party.queues()
+    }
+
+    /// Returns the number of the bucket at this place, which the party may post with a message of `len` bytes, or the code of the
+    /// reason why it may not.
+    #[inline(always)]
+    fn to_post(&self, place: usize, len: usize) -> Result<u32, u32>
+        ensures there { IfOk result (λ number. IsNoted self.now place number InUse) }
+        ensures done { IfOk result (λ number. ¬ IsNotedAt self.now place Undone) }
+        ensures fits { IfOk result (λ number. Fits self.now len) }
+        ensures refused { IfErr result (λ code. MayNotPost self.now place len code) }
+    {
+        let number = self.in_use_at(place)?;
+        if len > self.places.bucket().size() || len > u32::MAX as usize {
+            return Err(code::SIZE_TOO_LARGE);
+        }
+        Ok(number)
+    }
+
+    /// Posts the bucket at this place, with a message of `len` bytes, in a single slot.
+    pub(crate) fn post(&mut self, slot: u32, place: usize, len: usize) -> PostedMessage
+        ensures { TellsPost (HasSingle self.old slot) (PostsSingle self.old slot) self.old place len
+            result self.new }
+    {
+        if !self.has_single(slot) {
             return PostedMessage::of(code::INVALID_ARGUMENT);
         }
-        let number = match self.in_use_at(place) {
+        let number = match self.to_post(place, len) {
             Ok(number) => number,
             Err(code) => return PostedMessage::of(code),
         };
-        if len > self.places.bucket().size() || len > u32::MAX as usize {
-            return PostedMessage::of(code::SIZE_TOO_LARGE);
-        }
-        if self.party.depth() == 1 {
-            self.post_single(slot, number, len as u32)
-        } else {
-            self.send(slot, number, len as u32)
-        }
+        self.post_single(slot, number, len as u32)
     }
 
     /// Posts a bucket that the party has in use in a single slot.
     #[inline(always)]
     fn post_single(&mut self, slot: u32, number: u32, length: u32) -> PostedMessage
-        requires single { self.old.party.depth ≡ 1 }
-        requires slot { slot < slots_of self.old }
+        requires slot { HasSingle self.old slot }
         requires noted { slice_get self.old.party.notes number ≡ Some InUse }
         ensures { PostsSingle self.old slot number length result self.new }
     {
         match self.party.post(slot, number, length) {
             Ok(true) => PostedMessage::of(code::OK),
             Ok(false) => PostedMessage::of(code::DETACHED_FULL),
-            Err(refusal) => PostedMessage::of(code_of(refusal)),
+            Err(_) => PostedMessage::of(code::NOT_HELD),
         }
     }
 
+    /// Posts the bucket at this place, with a message of `len` bytes, in a queue.
+    pub(crate) fn send(&mut self, queue: u32, place: usize, len: usize) -> PostedMessage
+        ensures { TellsPost (HasQueue self.old queue) (PostsQueued self.old queue) self.old place len
+            result self.new }
+    {
+        if !self.has_queue(queue) {
+            return PostedMessage::of(code::INVALID_ARGUMENT);
+        }
+        let number = match self.to_post(place, len) {
+            Ok(number) => number,
+            Err(code) => return PostedMessage::of(code),
+        };
+        self.send_queued(queue, number, len as u32)
+    }
+
     /// Posts a bucket that the party has in use in a queue.
-    fn send(&mut self, queue: u32, number: u32, length: u32) -> PostedMessage
-        requires queued { self.old.party.depth ≢ 1 }
-        requires queue { queue < slots_of self.old }
+    #[inline(always)]
+    fn send_queued(&mut self, queue: u32, number: u32, length: u32) -> PostedMessage
+        requires queue { HasQueue self.old queue }
         requires noted { slice_get self.old.party.notes number ≡ Some InUse }
         ensures { PostsQueued self.old queue number length result self.new }
     {
@@ -218,19 +254,50 @@ impl JoinedFile {
             Ok(Sending::Sent { slot: _ }) => PostedMessage::of(code::OK),
             Ok(Sending::Full) => PostedMessage::of(code::DETACHED_FULL),
             Ok(Sending::Overtaken) => PostedMessage::overtaken(),
-            Err(refusal) => PostedMessage::of(code_of(refusal)),
+            Err(_) => PostedMessage::of(code::NOT_HELD),
         }
     }
 
-    /// Takes a message in a slot.
-    pub(crate) fn take_message(&mut self, slot: u32) -> Message
-        ensures { TellsMessage self.old slot result self.new }
+    /// Takes the message in a single slot.
+    pub(crate) fn take_single(&mut self, slot: u32) -> Message
+        ensures { TellsMessage (HasSingle self.old slot) (TakesSingle self.old slot) self.old result self.new }
     {
         self.invariant();
-        if slot >= self.slots() {
+        if !self.has_single(slot) {
             return Message::refusal(code::INVALID_ARGUMENT);
         }
-        let taken = self.take_from(slot);
+        let size = self.size();
+        let taken = self.party.take(slot, size);
+        self.message_of(taken)
+    }
+
+    /// Takes a message from a queue.
+    pub(crate) fn receive(&mut self, queue: u32) -> Message
+        ensures { TellsMessage (HasQueue self.old queue) (TakesQueued self.old queue) self.old result self.new }
+    {
+        self.invariant();
+        if !self.has_queue(queue) {
+            return Message::refusal(code::INVALID_ARGUMENT);
+        }
+        let size = self.size();
+        let taken = self.party.receive(queue, size);
+        self.message_of(taken)
+    }
+
+    /// Returns the size of a bucket, or the greatest length of a message if that is less.
+    #[inline(always)]
+    fn size(&self) -> u32
+        ensures { result ≡ size_of self.now }
+    {
+        self.places.bucket().size().min(u32::MAX as usize) as u32
+    }
+
+    /// Returns C's answer to the taking of a message.
+    #[inline(always)]
+    fn message_of(&self, taken: Taken) -> Message
+        requires { HasBucketOf self.now taken }
+        ensures { result ≡ message_of self.now.places taken }
+    {
         match taken {
             Taken::Empty => Message::refusal(code::DETACHED_EMPTY),
             Taken::NotSent => Message::refusal(code::NOT_HELD),
@@ -244,25 +311,11 @@ impl JoinedFile {
         }
     }
 
-    /// Takes a message from a single slot, or from a queue.
-    #[inline(always)]
-    fn take_from(&mut self, slot: u32) -> Taken
-        requires { slot < slots_of self.old }
-        ensures took { TakesFrom self.old slot result self.new }
-    {
-        let size = self.places.bucket().size().min(u32::MAX as usize) as u32;
-        if self.party.depth() == 1 {
-            self.party.take(slot, size)
-        } else {
-            self.party.receive(slot, size)
-        }
-    }
-
     /// Says that the party is done with the message in a single slot.
     pub(crate) fn done(&mut self, slot: u32) -> u32
         ensures { TellsDone self.old slot result self.new }
     {
-        if self.party.depth() != 1 || slot >= self.party.slots() {
+        if !self.has_single(slot) {
             return code::INVALID_ARGUMENT;
         }
         if self.party.done(slot) {
@@ -362,7 +415,7 @@ impl Keeps for JoinedFile {
     }
 
     fn give_back(&mut self, place: usize) -> bool {
-        self.deallocate(place) == code::OK
+        self.deallocate(place).code == code::OK as usize
     }
 }
 

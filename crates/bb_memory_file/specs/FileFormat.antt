@@ -3,17 +3,17 @@ use Rattle.bb_memory_file.specs.FileLog.{EmptySlot, Event, ExchangeFlag, Exchang
 use Rattle.bb_memory_file.specs.FileNames.{DetachedBy, Empty, Entry, FileFlag, Free, HeldBy, In, Message, Nowhere, SentTo, Slot}
 use Rattle.bb_memory_file.specs.Recorded.{Exchange, Load, Store, WordEvent, word_of}
 use Rattle.bb_memory_file.specs.declared.geometry.FileGeometry.{FileGeometry}
-use Rattle.std.specs.Prelude.{if◌then◌else◌, nat_lt, ℕ, ◌%◌, ◌*◌, ◌+◌, ◌-◌, ◌/◌, ◌<◌, ◌==◌, ◌^◌, ◌≤◌}
+use Rattle.std.specs.Prelude.{if◌then◌else◌, nat_lt, ℕ, ◌%◌, ◌*◌, ◌+◌, ◌-◌, ◌/◌, ◌<◌, ◌==◌, ◌^◌, ◌≡◌, ◌≤◌}
 
 -- PLACES
 
 -- A row of this many words has room for the words of each bucket, party and slot, in this order and
--- apart: the flags, the lives, the entries and the slots. The first 16 words are before all of them.
+-- apart: the flags, the lives, the entries and the slots. There are 16 words before all of them.
 pub record IsGeometry (geometry : FileGeometry) (words : ℕ) : Type 0 where
   pub buckets : geometry.buckets < 2 ^ 32 - 1
   pub slots : geometry.slots < 2 ^ 32 - 1
   pub parties : geometry.parties < 2 ^ 32
-  pub before : 16 ≤ geometry.first_flag
+  pub before : geometry.first_flag ≡ 16
   pub flags : geometry.first_flag + geometry.buckets ≤ geometry.first_life
   pub lives : geometry.first_life + geometry.parties ≤ geometry.first_entry
   pub entries : geometry.first_entry + geometry.buckets ≤ geometry.first_slot

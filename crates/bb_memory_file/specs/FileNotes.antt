@@ -168,6 +168,10 @@ pub record MissesFirst {W : Type 0} (log : W → FileLog) (old new : JoinedParty
   pub begun : BeginsSearch (log old.words) old.hint.bucket (log new.words)
   pub unchanged : new ≡ record old { words = new.words }
 
+-- the party caches as many buckets as it may, so the next one that it gives back is free
+abbrev pub CachesAll : {W : Type 0} → JoinedParty W → Type 0
+CachesAll party = party.most ≤ length party.cached
+
 -- the bucket is cached if the party caches fewer than it may; otherwise it is given back, and moves the
 -- hint
 pub record Returns {W : Type 0} (log : W → FileLog) (old : JoinedParty W) (bucket : ℕ) (new : JoinedParty W) : Type 0 where

@@ -75,7 +75,7 @@ impl FileGeometry {
     {
         self.buckets < u32::MAX
             && self.slots < u32::MAX
-            && self.first_flag >= WORDS_BEFORE
+            && self.first_flag == WORDS_BEFORE
             && self.first_life >= self.first_flag
             && self.first_life - self.first_flag >= self.buckets as usize
             && self.first_entry >= self.first_life

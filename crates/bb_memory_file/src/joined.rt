@@ -6,9 +6,9 @@
 //! depth 1 each slot is single: it has no order to keep, and calls name the slot.
 ghost use Rattle.bb_memory_file.specs.FileCalls.{IsLeave};
 ghost use Rattle.bb_memory_file.specs.FileLog.{FileLog};
-ghost use Rattle.bb_memory_file.specs.FileNotes.{Allocates, AreCached, Attaches, Caches, Deallocates, Detaches, Finishes, Flushes, FreesLast, GivesAllBack, InUse, IsDoneWith, IsRefusal, JoinedParty, Joins, JoinsNot, MissesFirst, Posts, Reaps, Receives, Sends, Takes, Undone, Unheld, no_ends, queues_of, used_in};
+ghost use Rattle.bb_memory_file.specs.FileNotes.{Allocates, AreCached, Attaches, Caches, CachesAll, Deallocates, Detaches, Finishes, Flushes, FreesLast, GivesAllBack, InUse, IsDoneWith, IsRefusal, JoinedParty, Joins, JoinsNot, MissesFirst, Posts, Reaps, Receives, Returns, Sends, Takes, Undone, Unheld, no_ends, queues_of, used_in};
 ghost use Rattle.bb_memory_file.specs.FileQueueCalls.{AllObey};
-ghost use Rattle.std.specs.Prelude.{IfErr, IfNone, IfOk, IfSome, IsOk, Some, [], length, replicate, slice_get, vec_capacity, ℕ, ◌<◌, ◌≡◌, ◌≤◌};
+ghost use Rattle.std.specs.Prelude.{IfErr, IfNone, IfOk, IfSome, IsOk, IsTrue, Some, [], length, replicate, slice_get, vec_capacity, ℕ, ◌<◌, ◌↔◌, ◌≡◌, ◌≤◌};
 
 use crate::calls::{Received, Whereabouts};
 use crate::queues::{Position, Queue, Sending};
@@ -284,6 +284,16 @@ impl<W: Words + Drop> Joined<W> {
         self.notes.get(bucket as usize).copied()
     }
 
+    /// Returns the note of one of the file's buckets.
+    #[inline(always)]
+    pub fn note_of(&self, bucket: u32) -> Note
+        requires { bucket < length self.now.notes }
+        ensures { slice_get self.now.notes bucket ≡ Some result }
+    {
+        let at = bucket as usize;
+        self.notes[at]
+    }
+
     /// Takes a bucket: the one that was cached last, or if none is cached, a free one. For that it tries
     /// each bucket once, from the hint on and then from bucket 0 on, until one is free. Returns None if
     /// none was free when the search came there.
@@ -329,8 +339,7 @@ impl<W: Words + Drop> Joined<W> {
         Some(bucket)
     }
 
-    /// Gives back a bucket. The bucket is cached, without an operation on the words, if the party caches
-    /// fewer than it may.
+    /// Gives back a bucket as `give_back` does.
     ///
     /// Fails with the first of these errors that applies, and does nothing then: `NotABucket` if the
     /// file has no such bucket, `NotHeld` if the party doesn't hold it or caches it, and `NotDone` if the
@@ -340,15 +349,29 @@ impl<W: Words + Drop> Joined<W> {
         ensures { Deallocates W.log self.old bucket result self.new }
     {
         self.check(bucket)?;
+        let _ = self.give_back(bucket);
+        Ok(())
+    }
+
+    /// Gives back a bucket that the party has in use and that is in no slot. The bucket is cached, without
+    /// an operation on the words, if the party caches fewer than it may. Returns whether the bucket is free
+    /// instead, so that other parties may take it.
+    #[inline(always)]
+    pub fn give_back(&mut self, bucket: u32) -> bool
+        requires { slice_get self.old.notes bucket ≡ Some InUse }
+        ensures free { IsTrue result ↔ CachesAll self.old }
+        ensures returned { Returns W.log self.old bucket self.new }
+    {
         if self.cached.len() < self.most as usize {
             self.notes[bucket as usize] = Note::Cached;
             self.cached.push_reserved(bucket);
+            false
         } else {
-            calls::deallocate(&mut self.words, bucket);
             self.notes[bucket as usize] = Note::Unheld;
+            calls::deallocate(&mut self.words, bucket);
             self.hint.follow_return(bucket);
+            true
         }
-        Ok(())
     }
 
     /// Gives back all cached buckets as `flush` does, and caches at most `most` from then on, or as many

@@ -3,7 +3,7 @@ ghost use Rattle.bb_memory_file.specs.FileFormat.{entry_at, flag_at, life_at, sl
 ghost use Rattle.std.specs.Prelude.{◌<◌, ◌≡◌};
 
 use crate::format::{entry_in, entry_word, flag_in, flag_word, slot_in, slot_word};
-use crate::geometry::WORDS_FROM_SLOT_TO_SLOT;
+use crate::geometry::{WORDS_BEFORE, WORDS_FROM_SLOT_TO_SLOT};
 use crate::party::FileParty;
 use crate::words::Words;
 use bb_memory_file_machine::steps::{Entry, FileFlag, Slot};
@@ -15,7 +15,7 @@ impl FileParty {
         requires { bucket < self.now.geometry.buckets }
         ensures { result ≡ flag_at self.now.geometry bucket }
     {
-        self.geometry.first_flag + bucket as usize
+        WORDS_BEFORE + bucket as usize
     }
 
     /// Returns the number of the word of a bucket's entry.

@@ -1562,6 +1562,12 @@ static bool holds(bb_file_party *party, bb_place place) {
     return held.number == 1;
 }
 
+// Gives back the bucket at this place, and returns whether that returned this code and number.
+static bool gives_back(bb_file_party *party, bb_place place, uint32_t code, size_t number) {
+    const bb_number freed = bb_file_party_give_back(party, place);
+    return freed.code == code && freed.number == number;
+}
+
 // The calls for the buckets of a party, which do what those of bb_memory.h do.
 static void buckets_of_a_party(void) {
     bb_pool_file *file = open_it();
@@ -1594,7 +1600,13 @@ static void buckets_of_a_party(void) {
     places[2] = first;  // a second free
     EXPECT(bb_file_party_deallocate_many(party, places, 18).number == 2 && held_by(party) == 18);
     EXPECT(bb_file_party_deallocate(party, first) == BB_NOT_HELD);
+    EXPECT(gives_back(party, first, BB_NOT_HELD, 0));
+    const bb_place last = take_one(party);
+    EXPECT(gives_back(party, last, BB_OK, 1) && held_by(party) == 18);
+    EXPECT(bb_file_party_wake(party) == BB_OK);
     EXPECT(bb_file_party_cache(party, 4) == BB_OK);
+    EXPECT(gives_back(party, take_one(party), BB_OK, 0) && info_of(file).held == 19);
+    EXPECT(bb_file_party_flush(party) == BB_OK && info_of(file).held == 18);
     EXPECT(bb_file_party_deallocate(party, got) == BB_OK && !holds(party, got));
     EXPECT(info_of(file).held == 18 && held_by(party) == 17);
     EXPECT(bb_file_party_flush(party) == BB_OK && info_of(file).held == 17);
@@ -1604,6 +1616,8 @@ static void buckets_of_a_party(void) {
     EXPECT(bb_file_party_take_many(party, places, 1).code == BB_UNINITIALIZED);
     EXPECT(bb_file_party_get(party) == NULL);
     EXPECT(bb_file_party_deallocate(party, got) == BB_UNINITIALIZED);
+    EXPECT(gives_back(party, got, BB_UNINITIALIZED, 0));
+    EXPECT(bb_file_party_wake(party) == BB_UNINITIALIZED);
     EXPECT(bb_file_party_deallocate_many(party, places, 1).code == BB_UNINITIALIZED);
     EXPECT(bb_file_party_cache(party, 1) == BB_UNINITIALIZED);
     EXPECT(bb_file_party_flush(party) == BB_UNINITIALIZED);
@@ -1634,6 +1648,7 @@ static void undone(uint32_t most_cached) {
     const bb_place places[] = {before, message.place, after};
     EXPECT(held_by(party) == 3);
     EXPECT(bb_file_party_deallocate(party, message.place) == BB_FILE_NOT_DONE);
+    EXPECT(gives_back(party, message.place, BB_FILE_NOT_DONE, 0));
     EXPECT(bb_pool_file_post(file, party, 1, message.place, 5) == BB_FILE_NOT_DONE);
     EXPECT(bb_pool_file_post(file, party, 0, message.place, 5) == BB_FILE_NOT_DONE);
     EXPECT(bb_file_party_deallocate_many(party, places + 1, 2).number == 0);
@@ -3272,6 +3287,8 @@ static void forked(void) {
         EXPECT(bb_file_party_take(party).code == BB_UNINITIALIZED);
         EXPECT(bb_file_party_deallocate(party, place) == BB_UNINITIALIZED);
         EXPECT(bb_file_party_deallocate(party, taken) == BB_UNINITIALIZED);
+        EXPECT(gives_back(party, taken, BB_UNINITIALIZED, 0));
+        EXPECT(bb_file_party_wake(party) == BB_UNINITIALIZED);
         EXPECT(bb_file_party_deallocate_many(party, &taken, 1).code == BB_UNINITIALIZED);
         EXPECT(bb_pool_file_info(file, &figures) == BB_UNINITIALIZED);
         EXPECT(bb_pool_file_join(file, &more) == BB_UNINITIALIZED);

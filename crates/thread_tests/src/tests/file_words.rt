@@ -128,6 +128,15 @@ fn a_geometry_is_in_a_row_with_room(rt: HostRuntime) {
     check(
         rt,
         !FileGeometry {
+            first_flag: 17,
+            first_life: 20,
+            ..GEOMETRY
+        }
+        .is_in(56),
+    );
+    check(
+        rt,
+        !FileGeometry {
             first_life: 18,
             ..GEOMETRY
         }

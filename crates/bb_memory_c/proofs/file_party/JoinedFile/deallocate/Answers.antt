@@ -1,23 +1,29 @@
-use Rattle.bb_memory_c.proofs.FileParties.{deallocated-same}
-use Rattle.bb_memory_c.proofs.FileTold.{freed, none-freed, refused}
-use Rattle.bb_memory_c.proofs.file_party.JoinedFile.deallocate.Goals.{in-Err, in-Ok}
+use Rattle.bb_memory_c.proofs.FileParties.{returned-same}
+use Rattle.bb_memory_c.proofs.FileTold.{given-back, not-given-back}
+use Rattle.bb_memory_c.proofs.file_party.JoinedFile.deallocate.Goals.{else-is_free, then-is_free}
 use Rattle.bb_memory_c.proofs.file_party.JoinedFile.deallocate.Goals as goal
-use Rattle.std.proofs.Common.{sym, ◌∙◌}
-
-pub returns-in_default : goal.returns-in_default
-returns-in_default c = none-freed c.args.self.now c.args.place c.in_default.ensures.none
+use Rattle.std.proofs.Common.{arith, sym, ◌∙◌}
 
 pub invariant_of-self : goal.invariant_of-self
 invariant_of-self c = c.self.invariant
-    ∙ sym (deallocated-same c.self.inside.party c.in-Some.number c.deallocate.result c.deallocate.new.self c.deallocate.ensures)
+    ∙ sym (returned-same c.self.inside.party c.in-Ok.number c.give_back-is_free.new.self c.give_back-is_free.ensures.returned)
 
-pub returns : goal.returns
-returns c =
-    let below = rw (← c.self.view_is) at c.in-Some.ensures.below in
-    let there = rw (← c.self.view_is) at c.in-Some.ensures.there in
-    let one = rw (← c.self.view_is) at c.in-Some.ensures.one in
-    rw (← c.self.view_is) (elim c.match-deallocate.branch [
-      | in-Ok w ↦ rw w.result-is (freed _ c.args.place c.in-Some.number below there one c.deallocate.new.self w.in-Ok.ensures)
-      | in-Err w ↦ rw (w.result-is, w.code_of.ensures)
-          (refused _ c.args.place c.in-Some.number below there one w.in-Err.refusal c.deallocate.new.self w.in-Err.ensures)
-    ])
+pub returns-after-is_free : goal.returns-after-is_free
+returns-after-is_free c =
+    let noted = rw (← c.self.view_is) at c.in-Ok.ensures.there in
+    let done = rw (← c.self.view_is) at c.in-Ok.ensures.done in
+    let did = c.give_back-is_free.ensures in
+    rw (← c.self.view_is) (rw c.of.ensures (elim c.if-is_free.branch [
+      | then-is_free w ↦ given-back _ c.args.place c.in-Ok.number _ c.give_back-is_free.new.self noted done
+          (λ _. did.free.0 w.if-is_free.true, λ _. w.free-is) (λ not. absurd (not w.free-is)) did.returned
+      | else-is_free w ↦ given-back _ c.args.place c.in-Ok.number _ c.give_back-is_free.new.self noted done (
+        λ one. let none = w.free-is in absurd (omega (arith, one, none)),
+        λ all. let yes = did.free.1 all in let no = w.if-is_free.false in absurd (cc),
+      )
+          (λ _. w.free-is) did.returned
+    ]))
+
+pub returns-in-Err : goal.returns-in-Err
+returns-in-Err c =
+    let told = c.in-Err.ensures in
+    rw c.refusal.ensures (not-given-back c.args.self.now c.args.place c.in-Err.code told.refused told.not_held told.not_done)

@@ -31,6 +31,6 @@ returns c =
         rw (w.result-is, w.of-in-Ok-false.ensures) refl,
         (at_view (Ok false) (rw (w.in-Ok-false.is, w.in-Ok-false.field-0-test) refl), refl),
       )
-      | in-Err w ↦ single-refused c.args.self.now c.args.slot c.args.number c.args.length c.requires.noted w.in-Err.refusal
-          c.post.new.self (at_view (Err w.in-Err.refusal) w.in-Err.is)
+      | in-Err w ↦ single-refused c.args.self.now c.args.slot c.args.number c.args.length c.requires.noted w.in-Err.field-0
+          c.post.new.self (at_view (Err w.in-Err.field-0) w.in-Err.is)
     ])
