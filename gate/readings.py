@@ -13,6 +13,7 @@ from gate.code import UNREADABLE, sum_of
 LIST = "gate/readings.txt"
 BUMP = "crates/bb_memory_bump/src/shared_bump/"
 POOL = "crates/bb_memory_shared_pools/src/shared_pool/"
+FILE = "crates/bb_memory_file/src/"
 # The files named in PROMISES.md, under "Neither proved nor tested".
 READ = (
     BUMP + "position.rt",
@@ -21,6 +22,7 @@ READ = (
     POOL + "flags.rt",
     POOL + "rule.rt",
     POOL + "stand_in.rt",
+    FILE + "recorded.rt",
 )
 LINE = re.compile(r"([0-9a-f]{16})  (\S+)")
 # The advice on what to read before a new sum is written.
