@@ -16,7 +16,7 @@ use Rattle.bb_memory_file_machine.specs.declared.steps.file.FileStep.{FileStep}
 use Rattle.bb_memory_traits.specs.Geometry.{IsPlaceOfBucket}
 use Rattle.bb_memory_traits.specs.PoolObject.{PoolGeometry}
 use Rattle.std.proofs.Common.{Bool, Err, List, None, Ok, Option, Result, Some, [], ap, arith, false, inl, inr, length, refl, true, ℕ, ◌++◌, ◌<◌, ◌∙◌, ◌∷◌, ◌≡◌, ◌⊎◌}
-use Rattle.std.proofs.lemmas.Bool.{cases_eq, cases_lt}
+use Rattle.std.proofs.lemmas.Bool.{cases_lt}
 use Rattle.std.proofs.lemmas.Option.{slice_get_within}
 use Rattle.std.specs.Prelude.{IfNone}
 

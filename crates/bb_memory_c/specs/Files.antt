@@ -21,8 +21,7 @@ use Rattle.bb_memory_file.specs.FileTables.{FileTable, HasLoaded}
 use Rattle.bb_memory_file.specs.Recorded.{beginning_of}
 use Rattle.bb_memory_file.specs.declared.joined.Note.{Note}
 use Rattle.bb_memory_file.specs.declared.joined.Note.TheVariants.{InUse, Undone}
-use Rattle.bb_memory_file.specs.declared.joined.Refusal.{Refusal}
-use Rattle.bb_memory_file.specs.declared.joined.Refusal.TheVariants.{NotABucket, NotDone, NotHeld}
+use Rattle.bb_memory_file.specs.declared.joined.Refusal.TheVariants.{NotDone}
 use Rattle.bb_memory_file.specs.declared.joined.Taken.{Taken}
 use Rattle.bb_memory_file.specs.declared.joined.Taken.TheVariants as taken
 use Rattle.bb_memory_file.specs.declared.party.FileParty.{FileParty}
@@ -41,7 +40,7 @@ use Rattle.bb_memory_traits.specs.PoolObject.{HasBucket, IsWithin, PoolGeometry,
 use Rattle.bb_memory_traits.specs.declared.allocator.AllocationError.{AllocationError}
 use Rattle.bb_memory_traits.specs.declared.allocator.AllocationError.TheVariants.{AlignmentFailure, OutOfMemory, SizeTooLarge}
 use Rattle.bb_memory_traits.specs.declared.layout.Layout.{Layout}
-use Rattle.std.specs.Prelude.{Bool, Err, IfSome, None, Ok, Option, Result, Some, [], false, if◌then◌else◌, max, min, replicate, slice_get, true, ℕ, ◌-◌, ◌<◌, ◌==◌, ◌^◌, ◌↔◌, ◌≡◌, ◌≢◌, ◌≤◌, ◌⊎◌}
+use Rattle.std.specs.Prelude.{Bool, Err, IfSome, None, Ok, Option, Result, Some, [], false, if◌then◌else◌, max, min, replicate, slice_get, true, ℕ, ◌-◌, ◌<◌, ◌^◌, ◌↔◌, ◌≡◌, ◌≢◌, ◌≤◌, ◌⊎◌}
 
 -- VALUES
 

@@ -5,7 +5,6 @@ use Rattle.bb_memory_file.specs.FileNotes.{JoinedParty, Joins, JoinsNot}
 use Rattle.bb_memory_file.specs.FileParties.{IsUnlocked, log_of}
 use Rattle.bb_memory_file.specs.declared.party.FileParty.{FileParty}
 use Rattle.bb_memory_pool_machine.specs.PoolHints.{first_hint}
-use Rattle.bb_memory_pool_machine.specs.declared.hint.Hint.{Hint}
 use Rattle.std.proofs.Common.{Err, Ok, inl, inr, rules, subst, true, ◌≡◌}
 
 pub returns-in-Ok-Err-clause-over : goal.returns-in-Ok-Err-clause-over
