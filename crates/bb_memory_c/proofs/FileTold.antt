@@ -83,19 +83,6 @@ module _ (file : JoinedFile) (place number : ℕ) (below : number < length file.
   is-there : (note : Note) → slice_get file.party.notes number ≡ Some note → IsNotedAt file place note
   is-there note is = (number, (is, there))
 
-  pub not-used : (note : Note) → slice_get file.party.notes number ≡ Some note → note ≢ Undone → ¬ MayFree file place →
-      ¬ HoldsPlace file place
-  not-used note is whole none = elim [
-    | inl in_use ↦ none in_use
-    | inr undone ↦ other-note note Undone is whole undone
-  ]
-
-  pub not-free : (note : Note) → slice_get file.party.notes number ≡ Some note → note ≢ InUse → ¬ MayFree file place
-  not-free note is idle may = other-note note InUse is idle may
-
-  pub is-done : slice_get file.party.notes number ≡ Some InUse → ¬ IsNotedAt file place Undone
-  is-done is undone = other-note InUse Undone is (λ e. cc) undone
-
   -- DETACHING
 
   pub detached : (after : JoinedParty FileParty) → Detaches log_of file.party number (Ok None) after →
@@ -187,39 +174,7 @@ module _ (file : JoinedFile) (place number : ℕ) (below : number < length file.
 
 -- POSTING
 
-pub may-not-post : (file : JoinedFile) (place len code : ℕ) → ¬ MayFree file place →
-    (code ≢ file_not_done → (code ≡ not_held) × (¬ HoldsPlace file place)) →
-    (code ≡ file_not_done → IsNotedAt file place Undone) → MayNotPost file place len code
-may-not-post file place len code none idle busy = record {
-  not_held = λ free. elim (cases_eq code file_not_done) [
-    | inl same ↦ absurd (free (inr (busy same)))
-    | inr apart ↦ (idle apart).0
-  ];
-  not_done = λ undone. elim (cases_eq code file_not_done) [
-    | inl same ↦ same
-    | inr apart ↦ absurd ((idle apart).1 (inr undone))
-  ];
-  too_large = λ may. absurd (none may);
-}
-
-pub too-large : (file : JoinedFile) (place len number : ℕ) → IsNoted file place number InUse → ¬ IsNotedAt file place Undone →
-    ¬ Fits file len → MayNotPost file place len size_too_large
-too-large file place len number noted done long = record {
-  not_held = λ none. absurd (none (inl (number, noted)));
-  not_done = λ undone. absurd (done undone);
-  too_large = λ _. (long, refl);
-}
-
 module _ (has_slot : Type 0) (posts : ℕ → ℕ → PostedMessage → JoinedFile → Type 0) (file : JoinedFile) (place len : ℕ) where
-  pub post-nowhere : ¬ has_slot → TellsPost has_slot posts file place len (posted_as invalid_argument) file
-  post-nowhere none = record {
-    no_slot = λ _. (refl, refl);
-    not_held = λ has. absurd (none has);
-    not_done = λ has. absurd (none has);
-    too_large = λ has. absurd (none has);
-    tried = λ has. absurd (none has);
-  }
-
   pub post-refused : (code : ℕ) → has_slot → MayNotPost file place len code →
       TellsPost has_slot posts file place len (posted_as code) file
   post-refused code has because = record {
