@@ -94,7 +94,7 @@ struct slot_events {
     char gap[LINE - 3 * sizeof(struct event)];
 };
 
-// It begins with the fields of `struct bb_file_party_head`.
+// It begins with the fields of `bb_file_party_head`.
 struct bb_file_party {
     // The party of this process's table, or an empty handle if it hasn't joined. It is the first
     // member, since the calls that the library exports for a `bb_file_party` use it as the handle.
