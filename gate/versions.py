@@ -100,7 +100,7 @@ def wrong_changes(texts: Mapping[str, str]) -> Iterator[str]:
         if re.fullmatch(r" \(commit [0-9a-f]{8}\)", rest) is None:
             yield f"{CHANGES}: {version} has no `(commit ..)`"
     for page in pages(texts):
-        for number in re.findall(r"(?<![\w.-])[01]\.\d+\.\d+(?![\w.]\w)", texts[page]):
+        for number in re.findall(r"(?<![\w.-])[01]\.\d+\.\d+(?![\w.-]\w)", texts[page]):
             if number not in versions and number not in OTHERS:
                 yield f"{page}: {number} isn't a version of {CHANGES}"
 

@@ -47,7 +47,7 @@ class LastReport(unittest.TestCase):
 
     def test_times_in_readme(self) -> None:
         readme = self.read("README.md")
-        self.assertEqual(self.report.with_times(readme, self.figures, "3.1.0"), readme)
+        self.assertEqual(self.report.with_times(readme, self.figures, "6.1.0"), readme)
 
     def test_time_that_changes(self) -> None:
         """A row's last cell is filled, too, and the version is that of the report."""
@@ -55,7 +55,7 @@ class LastReport(unittest.TestCase):
         figures = {**self.figures, key: Times(77.4, 70.0, 80.0)}
         readme = self.report.with_times(self.read("README.md"), figures, "9.8.7")
         self.assertIn(
-            "| allocate and free, 4 threads that share a pool | 28 | 31 | 27 | 77 |\n", readme
+            "| allocate and free, 4 threads that share a pool | 21 | 16 | 14 | 77 |\n", readme
         )
         self.assertIn("Measured with 9.8.7", readme)
 
@@ -67,7 +67,7 @@ class LastReport(unittest.TestCase):
         self.assertEqual(chart, self.read("docs/costs.svg"))
         # The longest bar of a row has the whole length, and the others are to scale.
         self.assertIn('width="250.0"', chart)
-        self.assertIn(f'width="{250 * 89.21 / 280.62:.1f}"', chart)
+        self.assertIn(f'width="{250 * 87.25 / 255.35:.1f}"', chart)
 
 
 if __name__ == "__main__":
