@@ -307,8 +307,8 @@ class PoolFile:
         compiled = self.work / f"{name}.o"
         if HEADER in changed:
             compiled = folder / f"{name}.o"
-            words = ["-std=c11", "-O2", "-w", f"-iquote{folder}", "-c", "-o", compiled]
-            self.compile([*words, self.sources / f"{name}.c"])
+            words: list[str | Path] = ["-std=c11", "-O2", "-w", f"-iquote{folder}", "-c"]
+            self.compile([*words, "-o", compiled, self.sources / f"{name}.c"])
         program = folder / name
         objects = [compiled, self.work / "bb_memory.o"]
         self.compile(["-std=c99", "-O2", "-w", "-o", program, *sources, *objects])

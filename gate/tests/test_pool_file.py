@@ -20,6 +20,7 @@ CRATE = TOP / pool_file.CRATE
 MUTANTS = sorted((CRATE / "tests/pool_file/mutants").glob("*.mutant"))
 # The functions of the C files that have no mutant, and the reason for each.
 WITHOUT_MUTANT = {
+    "list_after": "only how fast a copy is depends on it",
     "pause_shortly": "it changes nothing but the time that a spin takes",
     "pool_file_each_message": "only bb-pool calls it: shown.txt has what it lists",
     "pool_file_open_to_look": "only bb-pool calls it: the crate's `check` looks as another user",
