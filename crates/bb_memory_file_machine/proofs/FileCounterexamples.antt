@@ -1,7 +1,8 @@
 -- For each wrong protocol, steps with which it goes wrong.
-use Rattle.bb_memory_file_machine.specs.FileMachine.{Allocate, Count, Deallocate, DetachNumber, Done, FileScene, FileStep, Fill, Flags, Kill, Leave, Lock, Next, Outside, Post, Recover, Release, Take}
-use Rattle.bb_memory_file_machine.specs.FileVariants.{DetachesMessage, FreesMessage, IsInTwo, LosesBucket, ReceivesAnothers, SharesLife, SharesNumber, TakesAway, deallocate_undone, detach_undone, done_clears_first, join_counts_not, post_fills_first, post_undone, reaps_the_living, recover_any, send_then_fill, settle_sends_blindly, settle_skips_entries, take_any, unlock_before}
-use Rattle.std.proofs.Common.{List, [], arith, refl, ℕ, ◌++◌, ◌∷◌}
+use Rattle.bb_memory_file_machine.specs.FileMachine.{Allocate, Count, Deallocate, DetachNumber, Done, Empty, FileScene, FileStep, Fill, Flags, Forward, Kill, Leave, Lock, Message, Next, Outside, Post, Recover, Release, Take}
+use Rattle.bb_memory_file_machine.specs.FileVariants.{DetachesMessage, FreesMessage, IsInTwo, LeavesForward, LosesBucket, LosesMessage, ReceivesAnothers, SharesLife, SharesNumber, TakesAway, deallocate_undone, detach_undone, done_clears_first, forward_empties_first, forward_enters_first, join_counts_not, post_fills_first, post_undone, reaps_the_living, recover_any, send_then_fill, settle_sends_blindly, settle_skips_entries, settle_skips_forwards, settle_takes_back_blindly, take_any, unlock_before}
+use Rattle.std.proofs.Common.{List, Some, [], arith, refl, suc, zero, ℕ, ◌++◌, ◌∷◌, ◌≡◌}
+use Rattle.std.specs.Prelude.{slice_get}
 
 -- one bucket, two slots, two numbers and two processes
 abbrev small : FileScene
@@ -77,6 +78,7 @@ undone_doubles = record {
   one = (0, refl);
   two = (0, refl);
   apart = λ same. absurd (omega (arith, same));
+  still = λ forwarded. let flags = forwarded.1.1 in absurd (cc);
 }
 
 -- OTHER CALLS OF A HOLDER
@@ -110,7 +112,64 @@ undone_detaches = record {
   detached = refl;
 }
 
+-- FORWARDS
+
+none_has : (slot lap : ℕ) → ¬ (slice_get (Empty 1 ∷ Empty 0 ∷ []) slot ≡ Some (Message lap 0))
+none_has zero lap same = absurd (cc)
+none_has (suc zero) lap same = absurd (cc)
+none_has (suc (suc slot)) lap same = absurd (cc)
+
+-- the process is killed after slot 0 is emptied, and slot 1 is still empty
+pub emptied_loses : LosesMessage forward_empties_first
+emptied_loses = record {
+  scene = small;
+  steps = taken;
+  step = Forward 0 0 0 1 0;
+  slot = 0;
+  bucket = 0;
+  has = (0, refl);
+  gone = λ has. none_has has.0 has.1.0 has.1.1;
+  undone = λ process party next same. absurd (cc);
+}
+
+-- the entry names slot 1, and slot 0 still has the bucket
+pub entered_doubles : IsInTwo forward_enters_first
+entered_doubles = record {
+  scene = small;
+  steps = taken ++ Forward 0 0 0 1 0 ∷ Fill 0 0 ∷ Next 0 ∷ Next 0 ∷ [];
+  bucket = 0;
+  slot = 0;
+  other = 1;
+  one = (0, refl);
+  two = (0, refl);
+  apart = λ same. absurd (omega (arith, same));
+  still = λ forwarded. let flags = forwarded.1.1 in absurd (cc);
+}
+
 -- SETTLERS
+
+-- process 1 has settled number 0, which forwards the message
+pub skipping_leaves : LeavesForward settle_skips_forwards
+skipping_leaves = record {
+  scene = small;
+  steps = taken ++ Forward 0 0 0 1 0 ∷ settled ++ Next 1 ∷ [];
+  process = 1;
+  party = 0;
+  bucket = 0;
+  settled = refl;
+  forwarder = (1, refl);
+}
+
+-- process 1 takes back the message, which is in both slots, and is done with slot 0
+pub blindly_frees : FreesMessage settle_takes_back_blindly
+blindly_frees = record {
+  scene = small;
+  steps = taken ++ Forward 0 0 0 1 0 ∷ Fill 0 0 ∷ settled ++ Next 1 ∷ Next 1 ∷ Next 1 ∷ Take 1 0 0 0 0 ∷ Done 1 0 0 0 1 ∷ Next 1
+      ∷ Deallocate 1 0 0 ∷ [];
+  bucket = 0;
+  has = (1, (0, refl));
+  free = refl;
+}
 
 -- a settler of number 1 takes back the bucket that number 0 has sent
 pub any_frees : FreesMessage recover_any

@@ -1,10 +1,11 @@
 -- Steps of the machine of a pool in a file, by their kinds.
 use Rattle.bb_memory_file_machine.proofs.FileTests.{clear_there, empty_there, flag_missing, flag_there, free_found, lap_missing, lap_there, less_found, own_there}
-use Rattle.bb_memory_file_machine.specs.FileLaws.{IsEntered, IsEntry, IsFlag, IsHolder, IsIn, IsLife, IsLock, IsSlot}
-use Rattle.bb_memory_file_machine.specs.FileMachine.{Allocate, AttachNumber, Clearing, Count, Counting, Dead, Deallocate, Detach, DetachNumber, DetachedBy, Done, Empty, Entry, FileMove, FileStep, FileWords, Fill, Flags, Free, HeldBy, In, Kill, Leave, Lock, Message, Moves, Next, Nowhere, OnEntry, OnFlag, OnLife, OnLock, OnSlot, Outside, Place, Post, Posting, PutBack, Receives, Recover, Release, Sending, SentTo, Settled, Take, TryAt, Unlock, allocate, attach_number, attaching, clearing, count, deallocate, detach_number, done, done_at, fill, finds_free, finds_less, giving_back, has_clear, is_empty, is_flag, is_own, kill, lap_of, leave, lock, move_at, move_of, next, post, put_back, put_back_at, recover, refused, release, sending, settle_at, settle_entry, take, unlock, with_entry, with_flag, with_life, with_lock, with_slot}
-use Rattle.std.proofs.Common.{None, Option, Some, length, refl, suc, zero, ℕ, ◌+◌, ◌<◌, ◌≡◌, ◌≤◌}
-use Rattle.std.proofs.lemmas.Bool.{cond_both, ltb-false}
-use Rattle.std.specs.Prelude.{nat_lt, slice_get}
+use Rattle.bb_memory_file_machine.specs.FileLaws.{IsEntered, IsEntry, IsFlag, IsHolder, IsIn, IsKeeper, IsLife, IsLock, IsSlot, holder_of}
+use Rattle.bb_memory_file_machine.specs.FileMachine.{Allocate, Arriving, AttachNumber, Clearing, Count, Counting, Dead, Deallocate, Detach, DetachNumber, DetachedBy, Done, Empty, Entry, FileFlag, FileMove, FileStep, FileWords, Fill, Flags, Forward, ForwardedBy, Forwarding, Free, HeldBy, In, Kill, Leave, Lock, Message, Moves, Next, Nowhere, OnEntry, OnFlag, OnLife, OnLock, OnSlot, Outside, Place, Post, Posting, PutBack, Receives, Recover, Release, Sending, SentTo, Settled, Take, TryAt, Unlock, allocate, arrive, attach_number, attaching, clearing, count, deallocate, detach_number, done, done_at, fill, finds_free, finds_less, forward, forward_at, forwarding, giving_back, has_clear, is_empty, is_flag, is_own, kill, lap_of, leave, leave_slot, lock, move_at, move_of, next, next_lap, post, put_back, put_back_at, recover, refused, release, sending, settle_at, settle_entry, settle_forward, settle_forward_at, take, unlock, with_entry, with_flag, with_life, with_lock, with_slot}
+use Rattle.std.proofs.Common.{None, Option, Some, ap, length, refl, suc, sym, zero, ℕ, ◌+◌, ◌<◌, ◌∙◌, ◌≡◌, ◌≢◌, ◌≤◌}
+use Rattle.std.proofs.lemmas.Bool.{cond_both, eqb-false, eqb-true, ltb-false}
+use Rattle.std.proofs.lemmas.Option.{same_Some}
+use Rattle.std.specs.Prelude.{nat_lt, slice_get, ◌==◌}
 
 -- a step that makes this move of a process that has come so far is one of these
 pub data Kind (words : FileWords) : Place → FileStep → FileMove → Type 0 where
@@ -46,9 +47,38 @@ pub data Kind (words : FileWords) : Place → FileStep → FileMove → Type 0 w
   puts_back : (process party slot bucket lap : ℕ) → IsLock words party process → IsHolder words bucket party →
       IsSlot words slot (Message lap bucket) →
       Kind words Outside (PutBack process party slot bucket) (sending words party bucket slot lap Outside)
+  begins_forward : (process party from slot bucket lap : ℕ) → IsLock words party process → IsHolder words bucket party →
+      IsSlot words from (Message lap bucket) → from ≢ slot → Kind words Outside (Forward process party from slot bucket)
+      (forwarding words party bucket (ForwardedBy party slot) (Forwarding party slot bucket))
+  fills_forward : (process party slot bucket lap : ℕ) → IsSlot words slot (Empty lap) →
+      Kind words (Forwarding party slot bucket) (Fill process lap)
+      (move_of (OnSlot slot) (with_slot words slot (Message lap bucket)) (Arriving party slot bucket lap))
+  gives_up_forward : (process party slot bucket : ℕ) →
+      Kind words (Forwarding party slot bucket) (Next process) (forwarding words party bucket (HeldBy party) Outside)
+  vacates : (process party slot bucket lap from old : ℕ) → IsSlot words from (Message old bucket) → from ≢ slot →
+      Kind words (Arriving party slot bucket lap) (Next process)
+      (move_of (OnSlot from) (with_slot words from (Empty (next_lap old))) (Arriving party slot bucket lap))
+  renames : (process party slot bucket lap from size : ℕ) → IsEntry words bucket (In from size) → ¬ IsIn words bucket from →
+      Kind words (Arriving party slot bucket lap) (Next process)
+      (move_of (OnEntry bucket) (with_entry words bucket (In slot size)) (Arriving party slot bucket lap))
+  arrives : (process party slot bucket lap : ℕ) → ((other : ℕ) → IsEntered words bucket other → other ≡ slot) →
+      Kind words (Arriving party slot bucket lap) (Next process) (sending words party bucket slot lap Outside)
+  settles_forward : (process party bucket slot : ℕ) → IsFlag words bucket (ForwardedBy party slot) → ¬ IsIn words bucket slot →
+      Kind words (Flags party bucket) (Next process) (forwarding words party bucket (HeldBy party) (Flags party bucket))
+  settles_vacates : (process party bucket slot lap from old : ℕ) → IsFlag words bucket (ForwardedBy party slot) →
+      IsSlot words slot (Message lap bucket) → IsSlot words from (Message old bucket) → from ≢ slot →
+      Kind words (Flags party bucket) (Next process)
+      (move_of (OnSlot from) (with_slot words from (Empty (next_lap old))) (Flags party bucket))
+  settles_renames : (process party bucket slot lap from size : ℕ) → IsFlag words bucket (ForwardedBy party slot) →
+      IsSlot words slot (Message lap bucket) → IsEntry words bucket (In from size) → ¬ IsIn words bucket from →
+      Kind words (Flags party bucket) (Next process)
+      (move_of (OnEntry bucket) (with_entry words bucket (In slot size)) (Flags party bucket))
+  settles_arrives : (process party bucket slot lap : ℕ) → IsFlag words bucket (ForwardedBy party slot) →
+      IsSlot words slot (Message lap bucket) → ((other : ℕ) → IsEntered words bucket other → other ≡ slot) →
+      Kind words (Flags party bucket) (Next process) (sending words party bucket slot lap (Flags party (bucket + 1)))
   recovers : (process party bucket : ℕ) → IsFlag words bucket (DetachedBy party) →
       Kind words (Flags party bucket) (Recover process) (attaching words party bucket party (Flags party bucket))
-  is_unheld : (process party bucket : ℕ) → ¬ IsHolder words bucket party →
+  is_unheld : (process party bucket : ℕ) → ¬ IsKeeper words bucket party →
       Kind words (Flags party bucket) (Next process) (move_of Moves words (Flags party (bucket + 1)))
   settles : (process party bucket : ℕ) → IsHolder words bucket party → ((slot : ℕ) → ¬ IsEntered words bucket slot) →
       Kind words (Flags party bucket) (Next process) (giving_back words party bucket (Flags party (bucket + 1)))
@@ -67,6 +97,27 @@ pub data Kind (words : FileWords) : Place → FileStep → FileMove → Type 0 w
   releases : (process party : ℕ) → IsLock words party process →
       Kind words Dead (Release process party) (move_of (OnLock party) (with_lock words party None) Dead)
   refuses : (place : Place) (step : FileStep) → Kind words place step (refused words place)
+
+-- the ways in which a forward goes on that has filled its slot
+module _ (words : FileWords) (party bucket slot lap : ℕ) (place there : Place) (P : FileMove → Type 0)
+    (vacating : (from size old : ℕ) → IsEntry words bucket (In from size) → IsSlot words from (Message old bucket) → from ≢ slot →
+    P (move_of (OnSlot from) (with_slot words from (Empty (next_lap old))) place))
+    (renaming : (from size : ℕ) → IsEntry words bucket (In from size) → ¬ IsIn words bucket from → from ≢ slot →
+    P (move_of (OnEntry bucket) (with_entry words bucket (In slot size)) place))
+    (arriving : ((other : ℕ) → IsEntered words bucket other → other ≡ slot) → P (sending words party bucket slot lap there)) where
+  leave_cases : (from size : ℕ) (found : Option ℕ) → IsEntry words bucket (In from size) → from ≢ slot →
+      lap_of words from bucket ≡ found → P (leave_slot words bucket slot from size place found)
+  leave_cases from size None is apart e = renaming from size is (λ has. lap_missing words from bucket e has.0 has.1) apart
+  leave_cases from size (Some old) is apart e = vacating from size old is (lap_there words from bucket old e) apart
+
+  pub arrive_cases : (found : Option Entry) → slice_get words.entries bucket ≡ found →
+      P (arrive words party bucket slot lap place there found)
+  arrive_cases None is = arriving (λ other entered. absurd (let e = entered.1 in cc))
+  arrive_cases (Some Nowhere) is = arriving (λ other entered. absurd (let e = entered.1 in cc))
+  arrive_cases (Some (In from size)) is = cond_both (from == slot) _ _ P
+      (λ e. arriving (λ other entered. let same = eqb-true from slot e in let named = entered.1 in
+      let one : from ≡ other = cc in sym one ∙ same))
+      (λ e. leave_cases from size (lap_of words from bucket) is (eqb-false from slot e) refl)
 
 module _ (words : FileWords) (process : ℕ) where
   kind_of_lock : (place : Place) (party : ℕ) → Kind words place (Lock process party) (lock words process place party)
@@ -156,7 +207,32 @@ module _ (words : FileWords) (process : ℕ) where
       (λ move. Kind words (Posting party slot bucket) (Fill process lap) move)
       (λ e. fills process party slot bucket lap (empty_there words slot lap e))
       (λ e. refuses (Posting party slot bucket) (Fill process lap))
+  kind_of_fill (Forwarding party slot bucket) lap = cond_both (is_empty words slot lap) _ _
+      (λ move. Kind words (Forwarding party slot bucket) (Fill process lap) move)
+      (λ e. fills_forward process party slot bucket lap (empty_there words slot lap e))
+      (λ e. refuses (Forwarding party slot bucket) (Fill process lap))
   kind_of_fill place lap = refuses place (Fill process lap)
+
+  kind_of_forward_at : (party from slot bucket : ℕ) (found : Option ℕ) → IsLock words party process →
+      IsHolder words bucket party → from ≢ slot → lap_of words from bucket ≡ found →
+      Kind words Outside (Forward process party from slot bucket) (forward_at words Outside party slot bucket found)
+  kind_of_forward_at party from slot bucket None own held apart e = refuses Outside (Forward process party from slot bucket)
+  kind_of_forward_at party from slot bucket (Some lap) own held apart e =
+      begins_forward process party from slot bucket lap own held (lap_there words from bucket lap e) apart
+
+  kind_of_forward : (place : Place) (party from slot bucket : ℕ) →
+      Kind words place (Forward process party from slot bucket) (forward words process place party from slot bucket)
+  kind_of_forward Outside party from slot bucket =
+      let step : FileStep = Forward process party from slot bucket in
+      let refusal : Kind words Outside step (refused words Outside) = refuses Outside step in
+      cond_both (is_own words process party) _ _ (λ move. Kind words Outside step move)
+      (λ own. cond_both (is_flag words bucket (HeldBy party)) _ _ (λ move. Kind words Outside step move)
+      (λ held. cond_both (from == slot) _ _ (λ move. Kind words Outside step move)
+      (λ e. refusal)
+      (λ e. kind_of_forward_at party from slot bucket (lap_of words from bucket) (own_there words process party own)
+      (flag_there words bucket (HeldBy party) held) (eqb-false from slot e) refl))
+      (λ e. refusal)) (λ e. refusal)
+  kind_of_forward place party from slot bucket = refuses place (Forward process party from slot bucket)
 
   kind_of_take : (place : Place) (party slot bucket lap : ℕ) →
       Kind words place (Take process party slot bucket lap) (take words process place party slot bucket lap)
@@ -232,11 +308,59 @@ module _ (words : FileWords) (process : ℕ) where
   kind_of_settle_entry party bucket (Some (In slot size)) held is =
       kind_of_settle_at party bucket slot (lap_of words slot bucket) held (size, is) refl
 
+  kind_of_settle_forward_at : (party bucket slot : ℕ) (found : Option ℕ) → IsFlag words bucket (ForwardedBy party slot) →
+      lap_of words slot bucket ≡ found →
+      Kind words (Flags party bucket) (Next process) (settle_forward_at words party bucket slot found)
+  kind_of_settle_forward_at party bucket slot None is e =
+      settles_forward process party bucket slot is (λ has. lap_missing words slot bucket e has.0 has.1)
+  kind_of_settle_forward_at party bucket slot (Some lap) is e =
+      let message : IsSlot words slot (Message lap bucket) = lap_there words slot bucket lap e in
+      arrive_cases words party bucket slot lap (Flags party bucket) (Flags party (bucket + 1))
+      (λ move. Kind words (Flags party bucket) (Next process) move)
+      (λ from size old entry there apart. settles_vacates process party bucket slot lap from old is message there apart)
+      (λ from size entry not_in apart. settles_renames process party bucket slot lap from size is message entry not_in)
+      (λ named. settles_arrives process party bucket slot lap is message named)
+      (slice_get words.entries bucket) refl
+
+  -- a bucket with a flag that names no such holder isn't held by the party
+  kept_by : (party bucket : ℕ) (flag : FileFlag) → IsFlag words bucket flag → ¬ (holder_of flag ≡ Some party) →
+      ¬ IsKeeper words bucket party
+  kept_by party bucket flag is apart keeper =
+      apart (ap holder_of (same_Some flag keeper.0 (sym is ∙ keeper.1)) ∙ keeper.2)
+
+  kind_of_settle_forward : (party bucket : ℕ) (found : Option FileFlag) → slice_get words.flags bucket ≡ found →
+      ¬ IsHolder words bucket party →
+      Kind words (Flags party bucket) (Next process) (settle_forward words party bucket found)
+  kind_of_settle_forward party bucket None is unheld =
+      is_unheld process party bucket (λ keeper. absurd (let e = keeper.1 in cc))
+  kind_of_settle_forward party bucket (Some Free) is unheld =
+      is_unheld process party bucket (λ keeper. absurd (kept_by party bucket Free is (λ e. absurd (cc)) keeper))
+  kind_of_settle_forward party bucket (Some (HeldBy other)) is unheld =
+      is_unheld process party bucket (λ keeper. absurd (kept_by party bucket (HeldBy other) is
+      (λ e. unheld (is ∙ ap (λ (p : ℕ). Some (HeldBy p)) (same_Some other party e))) keeper))
+  kind_of_settle_forward party bucket (Some (DetachedBy other)) is unheld =
+      is_unheld process party bucket (λ keeper. absurd (kept_by party bucket (DetachedBy other) is (λ e. absurd (cc)) keeper))
+  kind_of_settle_forward party bucket (Some (SentTo slot lap)) is unheld =
+      is_unheld process party bucket (λ keeper. absurd (kept_by party bucket (SentTo slot lap) is (λ e. absurd (cc)) keeper))
+  kind_of_settle_forward party bucket (Some (ForwardedBy other slot)) is unheld = cond_both (other == party) _ _
+      (λ move. Kind words (Flags party bucket) (Next process) move)
+      (λ e. kind_of_settle_forward_at party bucket slot (lap_of words slot bucket)
+      (is ∙ ap (λ (p : ℕ). Some (ForwardedBy p slot)) (eqb-true other party e)) refl)
+      (λ e. is_unheld process party bucket (λ keeper. absurd (kept_by party bucket (ForwardedBy other slot) is
+      (λ same. eqb-false other party e (same_Some other party same)) keeper)))
+
   kind_of_next : (place : Place) → Kind words place (Next process) (next words place)
   kind_of_next Outside = refuses Outside (Next process)
   kind_of_next Dead = refuses Dead (Next process)
   kind_of_next (Posting party slot bucket) = gives_up process party slot bucket
   kind_of_next (Sending party slot bucket lap) = sends process party slot bucket lap
+  kind_of_next (Forwarding party slot bucket) = gives_up_forward process party slot bucket
+  kind_of_next (Arriving party slot bucket lap) =
+      arrive_cases words party bucket slot lap (Arriving party slot bucket lap) Outside
+      (λ move. Kind words (Arriving party slot bucket lap) (Next process) move)
+      (λ from size old entry there apart. vacates process party slot bucket lap from old there apart)
+      (λ from size entry not_in apart. renames process party slot bucket lap from size entry not_in)
+      (λ named. arrives process party slot bucket lap named) (slice_get words.entries bucket) refl
   kind_of_next (Clearing party bucket) = clears process party bucket
   kind_of_next (Counting party) = refuses (Counting party) (Next process)
   kind_of_next (Flags party bucket) = cond_both (nat_lt bucket (length words.flags)) _ _
@@ -244,7 +368,8 @@ module _ (words : FileWords) (process : ℕ) where
       (λ below. cond_both (is_flag words bucket (HeldBy party)) _ _
       (λ move. Kind words (Flags party bucket) (Next process) move)
       (λ e. kind_of_settle_entry party bucket (slice_get words.entries bucket) (flag_there words bucket (HeldBy party) e) refl)
-      (λ e. is_unheld process party bucket (flag_missing words bucket (HeldBy party) e)))
+      (λ e. kind_of_settle_forward party bucket (slice_get words.flags bucket) refl
+      (flag_missing words bucket (HeldBy party) e)))
       (λ e. all_flags process party bucket (ltb-false bucket (length words.flags) e))
   kind_of_next (Settled party) = joins process party
 
@@ -271,6 +396,7 @@ kind_of words place (Deallocate process party bucket) = kind_of_deallocate words
 kind_of words place (DetachNumber process party bucket) = kind_of_detach words process place party bucket
 kind_of words place (AttachNumber process party bucket from) = kind_of_attach words process place party bucket from
 kind_of words place (Post process party slot bucket size) = kind_of_post words process place party slot bucket size
+kind_of words place (Forward process party from slot bucket) = kind_of_forward words process place party from slot bucket
 kind_of words place (Fill process lap) = kind_of_fill words process place lap
 kind_of words place (Take process party slot bucket lap) = kind_of_take words process place party slot bucket lap
 kind_of words place (Done process party slot bucket next) = kind_of_done words process place party slot bucket next

@@ -4,7 +4,7 @@ use Rattle.bb_memory_file_machine.proofs.FileSteps.{holds_always, holds_at_openi
 use Rattle.bb_memory_file_machine.proofs.FileTheorem.{effect_in}
 use Rattle.bb_memory_file_machine.specs.FileLaws.{ChangesNone, Effect, IsFlag, IsHolder, IsLock, IsSlot}
 use Rattle.bb_memory_file_machine.specs.FileLaws as laws
-use Rattle.bb_memory_file_machine.specs.FileMachine.{AttachFrom, Detach, Dies, FileChange, FileFlag, FileOutcome, FileScene, FileState, FileStep, FileWords, GiveBack, Message, Moves, OnEntry, OnFlag, OnLife, OnLock, OnSlot, PoolStep, Receives, Refused, Sends, SentTo, TryAt, file_after, file_step, left_by, opening_state, outcomes_of, process_of}
+use Rattle.bb_memory_file_machine.specs.FileMachine.{AttachFrom, Detach, Dies, FileChange, FileFlag, FileOutcome, FileScene, FileState, FileStep, FileWords, ForwardedBy, Forwards, GiveBack, Message, Moves, OnEntry, OnFlag, OnLife, OnLock, OnSlot, PoolStep, Receives, Refused, Sends, SentTo, TryAt, file_after, file_step, left_by, opening_state, outcomes_of, process_of}
 use Rattle.bb_memory_file_machine.specs.FileMachine as machine
 use Rattle.bb_memory_file_machine.specs.FilePool.{IsPool, IsTaken, flag_steps, flag_steps_in, pool_flag, pool_of}
 use Rattle.bb_memory_lists.proofs.SliceGets.{length-set_at, slice_get-replicate, slice_get-set_same}
@@ -21,7 +21,7 @@ use Rattle.std.proofs.Common.{Bool, List, None, Option, Some, [], ap, arith, inl
 use Rattle.std.proofs.lemmas.Bool.{cond_both, ltb-false}
 use Rattle.std.proofs.lemmas.List.{length-replicate}
 use Rattle.std.proofs.lemmas.List.Elements.{All-cons, All-nil}
-use Rattle.std.proofs.lemmas.Option.{slice_get-map, slice_get_within}
+use Rattle.std.proofs.lemmas.Option.{same_Some, slice_get-map, slice_get_within}
 use Rattle.std.specs.Prelude.{if◌then◌else◌, nat_lt, option_map, slice_get, slice_set, ◌⊎◌}
 
 -- STEPS OF THE SHARED POOL
@@ -153,6 +153,15 @@ flag_written nobody (old ∷ flags) zero flag = refl
 flag_written nobody (old ∷ flags) (suc bucket) flag =
     ap (λ (later : List Flag). pool_flag nobody old ∷ later) (flag_written nobody flags bucket flag)
 
+-- a flag is replaced by one that is the same in the shared pool
+flag_same : (nobody : ℕ) (flags : List FileFlag) (bucket : ℕ) (old flag : FileFlag) → slice_get flags bucket ≡ Some old →
+    pool_flag nobody old ≡ pool_flag nobody flag → flags_of nobody (slice_set flags bucket flag) ≡ flags_of nobody flags
+flag_same nobody [] bucket old flag is same = refl
+flag_same nobody (first ∷ flags) zero old flag is same =
+    ap (λ (f : Flag). f ∷ flags_of nobody flags) (sym same ∙ ap (pool_flag nobody) (sym (same_Some first old is)))
+flag_same nobody (first ∷ flags) (suc bucket) old flag is same =
+    ap (λ (later : List Flag). pool_flag nobody first ∷ later) (flag_same nobody flags bucket old flag is same)
+
 flags_at_opening : (nobody buckets : ℕ) → flags_of nobody (replicate buckets machine.Free) ≡ replicate buckets Free
 flags_at_opening nobody zero = refl
 flags_at_opening nobody (suc buckets) = ap (λ (later : List Flag). Free ∷ later) (flags_at_opening nobody buckets)
@@ -211,13 +220,13 @@ module _ (nobody : ℕ) (words : FileWords) (party bucket process : ℕ) (many :
       (attach_leaves (nobody + 1) (flags_of nobody words.flags) party bucket own_party more_parties from
       (flag_there nobody words.flags bucket flag is ∙ ap (λ (found : Flag). Some found) detached))
 
-  agree_sends : (slot lap : ℕ) → IsHolder words bucket party →
+  agree_sends : (slot lap : ℕ) (flag : FileFlag) → IsFlag words bucket flag → pool_flag nobody flag ≡ HeldBy party →
       Agree (nobody + 1) (flags_of nobody (slice_set words.flags bucket (SentTo slot lap))) steps end →
       Agree (nobody + 1) (flags_of nobody words.flags)
       (Detach party bucket ∷ AttachFrom nobody bucket party ∷ Detach nobody bucket ∷ steps) end
-  agree_sends slot lap held rest =
+  agree_sends slot lap flag is held rest =
       agree_passes (nobody + 1) (flags_of nobody words.flags) party bucket nobody steps end own_party (omega arith) more_parties
-      (flag_there nobody words.flags bucket (machine.HeldBy party) held)
+      (flag_there nobody words.flags bucket flag is ∙ ap (λ (found : Flag). Some found) held)
       (subst (λ (later : List Flag). Agree (nobody + 1) later steps end)
       (flag_written nobody words.flags bucket (SentTo slot lap)) rest)
 
@@ -228,6 +237,7 @@ agree_quiet : (nobody parties : ℕ) (flags end : List Flag) (outcome : FileOutc
 agree_quiet nobody parties flags end (OnFlag step) outcomes quiet rest = absurd quiet
 agree_quiet nobody parties flags end (Sends bucket party) outcomes quiet rest = absurd quiet
 agree_quiet nobody parties flags end (Receives slot bucket party) outcomes quiet rest = absurd quiet
+agree_quiet nobody parties flags end (Forwards bucket party) outcomes quiet rest = absurd quiet
 agree_quiet nobody parties flags end (OnEntry bucket) outcomes quiet rest = rest
 agree_quiet nobody parties flags end (OnSlot slot) outcomes quiet rest = rest
 agree_quiet nobody parties flags end (OnLife party) outcomes quiet rest = rest
@@ -258,13 +268,28 @@ agree_effect nobody words later process outcome outcomes end (laws.receives part
     agree_attaches nobody words party bucket process many own (flag_steps_in nobody outcomes) end nobody
     (SentTo slot lap) is refl rest
 agree_effect nobody words later process outcome outcomes end (laws.sends party bucket slot lap own held has) many rest =
-    agree_sends nobody words party bucket process many own (flag_steps_in nobody outcomes) end slot lap held rest
+    agree_sends nobody words party bucket process many own (flag_steps_in nobody outcomes) end slot lap (machine.HeldBy party) held refl
+    rest
 agree_effect nobody words later process outcome outcomes end (laws.enters party bucket slot size own held clear) many rest = rest
 agree_effect nobody words later process outcome outcomes end (laws.clears party bucket own held not_in) many rest = rest
 agree_effect nobody words later process outcome outcomes end
     (laws.fills party slot bucket lap size own held not_in entry empty) many rest = rest
 agree_effect nobody words later process outcome outcomes end (laws.empties party slot bucket lap next own held is) many rest =
     rest
+agree_effect nobody words later process outcome outcomes end (laws.brings party slot bucket lap own is empty) many rest = rest
+agree_effect nobody words later process outcome outcomes end
+    (laws.vacates party slot bucket lap from old own is message there apart) many rest = rest
+agree_effect nobody words later process outcome outcomes end
+    (laws.renames party slot bucket lap from size own is message entry not_in) many rest = rest
+agree_effect nobody words later process outcome outcomes end (laws.forwards party bucket from slot lap own held is apart) many rest =
+    subst (λ (flags : List Flag). Agree (nobody + 1) flags (flag_steps_in nobody outcomes) end)
+    (flag_same nobody words.flags bucket (machine.HeldBy party) (ForwardedBy party slot) held refl) rest
+agree_effect nobody words later process outcome outcomes end (laws.holds_again party bucket slot own is not_in) many rest =
+    subst (λ (flags : List Flag). Agree (nobody + 1) flags (flag_steps_in nobody outcomes) end)
+    (flag_same nobody words.flags bucket (ForwardedBy party slot) (machine.HeldBy party) is refl) rest
+agree_effect nobody words later process outcome outcomes end (laws.arrives party bucket slot lap size own is message entry) many rest =
+    agree_sends nobody words party bucket process many own (flag_steps_in nobody outcomes) end slot lap
+    (ForwardedBy party slot) is refl rest
 
 -- there are always as many locks as numbers
 locks_effect : (words later : FileWords) (process : ℕ) (outcome : FileOutcome) → Effect words process outcome later →
@@ -309,7 +334,8 @@ module _ (nobody : ℕ) (words : FileWords) (bucket : ℕ) where
   taken_in : IsTaken words bucket → IsTakenIn (flags_of nobody words.flags) bucket
   taken_in (inl (party, held)) = inl (party, flag_there nobody words.flags bucket (machine.HeldBy party) held)
   taken_in (inr (inl (party, is))) = inr (party, flag_there nobody words.flags bucket (machine.DetachedBy party) is)
-  taken_in (inr (inr (slot, lap, is, has))) = inr (nobody, flag_there nobody words.flags bucket (SentTo slot lap) is)
+  taken_in (inr (inr (inl (slot, lap, is, has)))) = inr (nobody, flag_there nobody words.flags bucket (SentTo slot lap) is)
+  taken_in (inr (inr (inr (party, (slot, is))))) = inl (party, flag_there nobody words.flags bucket (ForwardedBy party slot) is)
 
   -- a bucket that no flag names isn't taken
   untaken : (found : Option Flag) → slice_get (flags_of nobody words.flags) bucket ≡ found →
@@ -328,7 +354,8 @@ module _ (nobody : ℕ) (words : FileWords) (bucket : ℕ) where
       (flag_there nobody words.flags bucket machine.Free is) (λ party same. absurd (cc)) (λ party same. absurd (cc)) taken)
   taken_by (Some (machine.HeldBy party)) is sent taken = inl (party, is)
   taken_by (Some (machine.DetachedBy party)) is sent taken = inr (inl (party, is))
-  taken_by (Some (SentTo slot lap)) is sent taken = inr (inr (slot, lap, is, sent slot lap is))
+  taken_by (Some (SentTo slot lap)) is sent taken = inr (inr (inl (slot, lap, is, sent slot lap is)))
+  taken_by (Some (ForwardedBy party slot)) is sent taken = inr (inr (inr (party, (slot, is))))
 
 pub taken_always : (scene : FileScene) (steps : List FileStep) (geometry : PoolGeometry) (layouts : List Layout)
     (live : List Chunk) (bucket : ℕ) → IsPoolGeometry geometry → geometry.buckets ≡ scene.buckets →

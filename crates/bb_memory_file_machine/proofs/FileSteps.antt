@@ -1,11 +1,11 @@
 -- The invariant of a state holds after each step.
-use Rattle.bb_memory_file_machine.proofs.FileEffects.{below_end, exact_rests, one_value, place_rests, rests, same_holder, set_cases, stays_apart}
+use Rattle.bb_memory_file_machine.proofs.FileEffects.{below_end, exact_rests, keeper_held, one_value, place_rests, rests, same_holder, set_cases, stays_apart}
 use Rattle.bb_memory_file_machine.proofs.FileInvariant.{AreExact, Holds, IsAtWork, IsGiven, PlaceHas, Sound}
-use Rattle.bb_memory_file_machine.proofs.FileKinds.{Kind, all_flags, allocates, attaches, clears, counts, counts_again, detaches, dies, empties, fills, gives, gives_up, is_unheld, joins, kind_of, leaves, locks, posts, puts_back, receives, recovers, refuses, releases, sends, settles, settles_entry, settles_sent, unlocks, unlocks_first}
-use Rattle.bb_memory_file_machine.proofs.FileSound.{entry_there, not_in_slot, one_slot, sound_after, there_below}
-use Rattle.bb_memory_file_machine.specs.FileLaws.{Effect, IsEntered, IsEntry, IsFlag, IsHolder, IsIn, IsInSome}
+use Rattle.bb_memory_file_machine.proofs.FileKinds.{Kind, all_flags, allocates, arrives, attaches, begins_forward, clears, counts, counts_again, detaches, dies, empties, fills, fills_forward, gives, gives_up, gives_up_forward, is_unheld, joins, kind_of, leaves, locks, posts, puts_back, receives, recovers, refuses, releases, renames, sends, settles, settles_arrives, settles_entry, settles_forward, settles_renames, settles_sent, settles_vacates, unlocks, unlocks_first, vacates}
+use Rattle.bb_memory_file_machine.proofs.FileSound.{entry_there, named_held, named_still, not_in_slot, one_entry, one_slot, sound_after, there_below}
+use Rattle.bb_memory_file_machine.specs.FileLaws.{Effect, IsEntered, IsEntry, IsFlag, IsHolder, IsIn, IsInSome, IsKeeper, holder_of}
 use Rattle.bb_memory_file_machine.specs.FileLaws as laws
-use Rattle.bb_memory_file_machine.specs.FileMachine.{DetachedBy, Dies, Empty, Entry, FileFlag, FileMove, FileScene, FileState, FileStep, FileWords, Flags, Free, HeldBy, In, Message, Moves, Nowhere, Outside, Place, Posting, Refused, SentTo, Settled, change_at, file_after, file_step, left_by, move_at, opening_state, process_of, with_entry, with_flag}
+use Rattle.bb_memory_file_machine.specs.FileMachine.{Arriving, DetachedBy, Dies, Empty, Entry, FileFlag, FileMove, FileScene, FileState, FileStep, FileWords, Flags, ForwardedBy, Forwarding, Free, HeldBy, In, Message, Moves, Nowhere, Outside, Place, Posting, Refused, SentTo, Settled, change_at, file_after, file_step, left_by, move_at, next_lap, opening_state, process_of, with_entry, with_flag, with_slot}
 use Rattle.bb_memory_lists.proofs.SliceGets.{slice_get-replicated, slice_get-set_apart, slice_get-set_at, slice_get-set_same}
 use Rattle.std.proofs.Common.{List, None, Option, Some, [], ap, arith, inl, inr, refl, subst, sym, zero, ℕ, ◌+◌, ◌<◌, ◌∙◌, ◌∷◌, ◌≡◌, ◌≢◌}
 use Rattle.std.proofs.lemmas.Bool.{cases_eq}
@@ -25,18 +25,31 @@ unentered : (words : FileWords) (bucket : ℕ) (flag : FileFlag) → Sound words
 unentered words bucket flag sound is unnamed =
     let there = entry_there words bucket flag sound is in nowhere_if words bucket there.0 unnamed there.1
 
--- the entry of a bucket names one slot
-one_entry : (words : FileWords) (bucket slot other : ℕ) → IsEntered words bucket slot → IsEntered words bucket other →
-    slot ≡ other
-one_entry words bucket slot other one two =
-    let same = one_value words.entries bucket (In slot one.0) (In other two.0) one.1 two.1 in cc
-
 -- a bucket that isn't in the slot that its entry names is in no slot
-left_behind : (words : FileWords) (bucket slot : ℕ) → Sound words → IsEntered words bucket slot → ¬ IsIn words bucket slot →
-    ¬ IsInSome words bucket
-left_behind words bucket slot sound entered not_in (other, has) =
-    let same : other ≡ slot = one_entry words bucket other slot (sound.entered bucket other has) entered in
+left_behind : (words : FileWords) (bucket slot party : ℕ) → Sound words → IsHolder words bucket party →
+    IsEntered words bucket slot → ¬ IsIn words bucket slot → ¬ IsInSome words bucket
+left_behind words bucket slot party sound held entered not_in (other, has) =
+    let same : other ≡ slot =
+    one_entry words bucket other slot (named_held words bucket party sound held other has) entered in
     not_in (has.0, ap (slice_get words.slots) (sym same) ∙ has.1)
+
+-- a bucket that a party forwards to a slot that hasn't it is in the slot that its entry names
+still_there : (words : FileWords) (bucket party slot : ℕ) → Sound words → IsFlag words bucket (ForwardedBy party slot) →
+    ¬ IsIn words bucket slot → (other : ℕ) → IsEntered words bucket other → IsIn words bucket other
+still_there words bucket party slot sound is not_in other entered =
+    let way = sound.forwarded bucket party slot is in
+    let same : way.0 ≡ other = one_entry words bucket way.0 other way.1 entered in
+    elim way.2 [
+      | inl has ↦ subst (λ (s : ℕ). IsIn words bucket s) same has
+      | inr has ↦ absurd (not_in has)
+    ]
+
+-- a bucket that a party forwards, and whose entry names no other slot, is named
+arrived : (words : FileWords) (bucket party slot : ℕ) → Sound words → IsFlag words bucket (ForwardedBy party slot) →
+    ((other : ℕ) → IsEntered words bucket other → other ≡ slot) → IsEntered words bucket slot
+arrived words bucket party slot sound is named =
+    let way = sound.forwarded bucket party slot is in
+    subst (λ (s : ℕ). IsEntered words bucket s) (named way.0 way.1) way.1
 
 -- the effect of a step of a process that has come so far
 pub effect_of : (words : FileWords) (place : Place) (step : FileStep) (move : FileMove) → Kind words place step move →
@@ -74,7 +87,29 @@ effect_of words place step move (settles process party bucket held unnamed) soun
 effect_of words place step move (settles_sent process party bucket slot lap held is) sound (own, given) =
     laws.sends party bucket slot lap own held is
 effect_of words place step move (settles_entry process party bucket slot held entered not_in) sound (own, given) =
-    laws.clears party bucket own held (left_behind words bucket slot sound entered not_in)
+    laws.clears party bucket own held (left_behind words bucket slot party sound held entered not_in)
+effect_of words place step move (begins_forward process party from slot bucket lap own held is apart) sound has =
+    laws.forwards party bucket from slot lap own held is apart
+effect_of words place step move (fills_forward process party slot bucket lap empty) sound (own, flag, not_in) =
+    laws.brings party slot bucket lap own flag empty
+effect_of words place step move (gives_up_forward process party slot bucket) sound (own, flag, not_in) =
+    laws.holds_again party bucket slot own flag not_in
+effect_of words place step move (vacates process party slot bucket lap from old there apart) sound (own, flag, is) =
+    laws.vacates party slot bucket lap from old own flag is there apart
+effect_of words place step move (renames process party slot bucket lap from size entry not_in) sound (own, flag, is) =
+    laws.renames party slot bucket lap from size own flag is entry not_in
+effect_of words place step move (arrives process party slot bucket lap named) sound (own, flag, is) =
+    let entered = arrived words bucket party slot sound flag named in
+    laws.arrives party bucket slot lap entered.0 own flag is entered.1
+effect_of words place step move (settles_forward process party bucket slot flag not_in) sound (own, given) =
+    laws.holds_again party bucket slot own flag not_in
+effect_of words place step move (settles_vacates process party bucket slot lap from old flag is there apart) sound (own, given) =
+    laws.vacates party slot bucket lap from old own flag is there apart
+effect_of words place step move (settles_renames process party bucket slot lap from size flag is entry not_in) sound (own, given) =
+    laws.renames party slot bucket lap from size own flag is entry not_in
+effect_of words place step move (settles_arrives process party bucket slot lap flag is named) sound (own, given) =
+    let entered = arrived words bucket party slot sound flag named in
+    laws.arrives party bucket slot lap entered.0 own flag is entered.1
 effect_of words place step move (unlocks_first process party) sound (own, given) = laws.frees_lock party own
 effect_of words place step move (unlocks process party) sound (own, given) = laws.frees_lock party own
 effect_of words place step move (releases process party own) sound has = laws.frees_lock party own
@@ -92,14 +127,23 @@ below_or_at m n less = grind arith
 
 -- the party holds no bucket up to one that it doesn't hold after a flag was written there
 given_next : (words : FileWords) (party bucket : ℕ) (old flag : FileFlag) → IsFlag words bucket old →
-    ¬ (flag ≡ HeldBy party) → IsGiven words party bucket → IsGiven (with_flag words bucket flag) party (bucket + 1)
-given_next words party bucket old flag is unheld given before less now =
-    elim (set_cases words.flags bucket before flag old (HeldBy party) is now) [
+    ¬ (holder_of flag ≡ Some party) → IsGiven words party bucket → IsGiven (with_flag words bucket flag) party (bucket + 1)
+given_next words party bucket old flag is unheld given before less (now, there, of) =
+    elim (set_cases words.flags bucket before flag old now is there) [
       | inl was ↦ elim (below_or_at before bucket less) [
-        | inl earlier ↦ given before earlier was.1
+        | inl earlier ↦ given before earlier (now, was.1, of)
         | inr same ↦ was.0 same
       ]
-      | inr this ↦ unheld this.1
+      | inr this ↦ unheld (ap holder_of this.1 ∙ of)
+    ]
+
+-- the party holds no bucket before one at which a flag was written
+given_here : (words : FileWords) (party bucket : ℕ) (old flag : FileFlag) → IsFlag words bucket old →
+    IsGiven words party bucket → IsGiven (with_flag words bucket flag) party bucket
+given_here words party bucket old flag is given before less (now, there, of) =
+    elim (set_cases words.flags bucket before flag old now is there) [
+      | inl was ↦ given before less (now, was.1, of)
+      | inr this ↦ let same = this.0 in absurd (omega (arith, less, same))
     ]
 
 -- the invariant of a process after its own step
@@ -111,30 +155,49 @@ place_after words place step move (counts process party life more is less) sound
 place_after words place step move (counts_again process party life more is less) sound has = has
 place_after words place step move (leaves process party own) sound has = (own, no_bucket_before words party)
 place_after words place step move (posts process party slot bucket size own held nowhere) sound has =
-    (own, held, (size, slice_get-set_same words.entries bucket (In slot size) Nowhere nowhere), not_in_slot words bucket sound nowhere)
+    (
+  own,
+  held,
+  (size, slice_get-set_same words.entries bucket (In slot size) Nowhere nowhere),
+  not_in_slot words bucket (named_held words bucket party sound held) nowhere,
+)
 place_after words place step move (fills process party slot bucket lap empty) sound (own, held, entered, not_in) =
     (own, held, slice_get-set_same words.slots slot (Message lap bucket) (Empty lap) empty)
 place_after words place step move (empties process party slot bucket lap next own held is) sound has = (
   own,
   held,
   (λ now. elim (set_cases words.slots slot now.0 (Empty next) (Message lap bucket) (Message now.1.0 bucket) is now.1.1) [
-    | inl before ↦ before.0 (one_slot words bucket slot now.0 sound (lap, is) (now.1.0, before.1))
+    | inl before ↦ before.0 (one_slot words bucket slot now.0 (named_held words bucket party sound held) (lap, is)
+        (now.1.0, before.1))
     | inr this ↦ let e = this.1 in absurd (cc)
   ]),
 )
-place_after words place step move (recovers process party bucket is) sound (own, given) = (
+place_after words place step move (recovers process party bucket is) sound (own, given) =
+    (own, given_here words party bucket (DetachedBy party) (HeldBy party) is given)
+place_after words place step move (begins_forward process party from slot bucket lap own held is apart) sound has = (
   own,
-  (λ before less now.
-      elim (set_cases words.flags bucket before (HeldBy party) (DetachedBy party) (HeldBy party) is now) [
-        | inl was ↦ given before less was.1
-        | inr this ↦ let same = this.0 in absurd (omega (arith, less, same))
-      ]),
+  slice_get-set_same words.flags bucket (ForwardedBy party slot) (HeldBy party) held,
+  (λ there. apart (one_slot words bucket from slot (named_held words bucket party sound held) (lap, is) there)),
 )
+place_after words place step move (fills_forward process party slot bucket lap empty) sound (own, flag, not_in) =
+    (own, flag, slice_get-set_same words.slots slot (Message lap bucket) (Empty lap) empty)
+place_after words place step move (vacates process party slot bucket lap from old there apart) sound (own, flag, is) =
+    (own, flag, slice_get-set_apart words.slots from slot (Empty (next_lap old)) apart ∙ is)
+place_after words place step move (renames process party slot bucket lap from size entry not_in) sound (own, flag, is) =
+    (own, flag, is)
+place_after words place step move (settles_forward process party bucket slot flag not_in) sound (own, given) =
+    (own, given_here words party bucket (ForwardedBy party slot) (HeldBy party) flag given)
+place_after words place step move (settles_vacates process party bucket slot lap from old flag is there apart) sound (own, given) =
+    (own, given)
+place_after words place step move (settles_renames process party bucket slot lap from size flag is entry not_in) sound (own, given) =
+    (own, given)
+place_after words place step move (settles_arrives process party bucket slot lap flag is named) sound (own, given) =
+    (own, given_next words party bucket (ForwardedBy party slot) (SentTo slot lap) flag (λ same. absurd (cc)) given)
 place_after words place step move (is_unheld process party bucket unheld) sound (own, given) = (
   own,
   (λ before less now. elim (below_or_at before bucket less) [
     | inl earlier ↦ given before earlier now
-    | inr same ↦ unheld (ap (slice_get words.flags) same ∙ now)
+    | inr same ↦ unheld (now.0, ap (slice_get words.flags) same ∙ now.1, now.2)
   ]),
 )
 place_after words place step move (settles process party bucket held unnamed) sound (own, given) =
@@ -144,8 +207,8 @@ place_after words place step move (settles_sent process party bucket slot lap he
 place_after words place step move (settles_entry process party bucket slot held entered not_in) sound (own, given) = (own, given)
 place_after words place step move (all_flags process party bucket end) sound (own, given) = (
   own,
-  (λ other held.
-      let below = below_end words.flags other (HeldBy party) held in given other (omega (arith, below, end)) held),
+  (λ other keeper.
+      let below = below_end words.flags other keeper.0 keeper.1 in given other (omega (arith, below, end)) keeper),
 )
 place_after words place step move (refuses at taken) sound has = has
 place_after words place step move _ sound has = tt
@@ -198,6 +261,34 @@ module _ (words : FileWords) (process : ℕ) (place : Place) (exact : AreExact w
         ]
         | inr this ↦ inr (here party bucket slot held this.0 entered.0 this.1)
       ]
+
+  -- a bucket that is forwarded isn't held
+  forwarded_apart : (at number slot bucket party : ℕ) → IsFlag words at (ForwardedBy number slot) →
+      IsHolder words bucket party → at ≢ bucket
+  forwarded_apart at number slot bucket party flag held same =
+      let flags = one_value words.flags bucket (ForwardedBy number slot) (HeldBy party)
+      (ap (slice_get words.flags) (sym same) ∙ flag) held in absurd (cc)
+
+  -- a slot that a message has left is emptied
+  exact_vacated : (at number slot from old : ℕ) → IsFlag words at (ForwardedBy number slot) →
+      slice_get words.slots from ≡ Some (Message old at) →
+      AreExact (with_slot words from (Empty (next_lap old))) process place
+  exact_vacated at number slot from old flag is party bucket other lock held entered =
+      elim (exact party bucket other lock held entered) [
+        | inl there ↦ inl (
+          there.0,
+          stays_apart words.slots from other (Empty (next_lap old)) (Message old at) (Message there.0 bucket) is there.1
+              (λ e. forwarded_apart at number slot bucket party flag held (cc)),
+        )
+        | inr work ↦ inr work
+      ]
+
+  -- the entry of a bucket that is forwarded is written
+  exact_renamed : (at number slot from size : ℕ) → IsFlag words at (ForwardedBy number slot) →
+      IsEntry words at (In from size) → AreExact (with_entry words at (In slot size)) process place
+  exact_renamed at number slot from size flag entry = exact_entry at (In from size) (In slot size) place entry
+      (λ party bucket other held same more e. absurd (forwarded_apart at number slot bucket party flag held same))
+      (λ party bucket apart work. work)
 
 -- a party holds one bucket by one flag
 holder_at : (words : FileWords) (at bucket number party : ℕ) → IsHolder words at number → at ≡ bucket →
@@ -257,7 +348,9 @@ exact_after words place step move (sends process number slot at lap) sound (own,
 exact_after words place step move (receives process number slot at lap own is) sound has exact =
     exact_got words process place exact at number (SentTo slot lap) is (λ other entered.
     let same : slot ≡ other =
-    one_entry words at slot other (sound.entered at slot (lap, sound.sent at slot lap is)) entered in
+    one_entry words at slot other
+    (named_still words at (SentTo slot lap) sound is (λ party to same. absurd (cc)) slot (lap, sound.sent at slot lap is))
+    entered in
     (lap, ap (slice_get words.slots) (sym same) ∙ sound.sent at slot lap is))
 exact_after words place step move (empties process number slot at lap next own mine is) sound has exact =
     λ party bucket other lock held entered. elim (exact party bucket other lock held entered) [
@@ -297,7 +390,8 @@ exact_after words place step move (settles_entry process number at slot held ent
 exact_after words place step move (all_flags process number at end) sound (own, given) exact =
     exact_there words process place exact (Settled number) (λ party bucket held work.
     let below = below_end words.flags bucket (HeldBy party) held in
-    given bucket (omega (arith, below, end)) (held ∙ ap (λ (p : ℕ). Some (HeldBy p)) (sym work)))
+    given bucket (omega (arith, below, end))
+    (keeper_held words bucket number (held ∙ ap (λ (p : ℕ). Some (HeldBy p)) (sym work))))
 exact_after words place step move (joins process number) sound has exact =
     exact_there words process place exact Outside (λ party bucket held work. work)
 exact_after words place step move (unlocks_first process number) sound (own, given) exact =
@@ -315,6 +409,39 @@ exact_after words place step move (unlocks process number) sound (own, given) ex
       | inl before ↦ exact party bucket slot before.1 held entered
       | inr this ↦ let locks = this.1 in absurd (cc)
     ]
+exact_after words place step move (begins_forward process number from slot at lap own held is apart) sound has exact =
+    let left = exact_left words process place exact at (HeldBy number) (ForwardedBy number slot) held (λ party same. absurd (cc)) in
+    exact_there (with_flag words at (ForwardedBy number slot)) process place left (Forwarding number slot at)
+    (λ party bucket mine work. work)
+exact_after words place step move (fills_forward process number slot at lap empty) sound has exact =
+    λ party bucket other lock held entered. elim (exact party bucket other lock held entered) [
+      | inl there ↦ inl (
+        there.0,
+        stays_apart words.slots slot other (Message lap at) (Empty lap) (Message there.0 bucket) empty there.1 (λ same. absurd (cc)),
+      )
+      | inr work ↦ absurd work
+    ]
+exact_after words place step move (gives_up_forward process number slot at) sound (own, flag, not_in) exact =
+    let got = exact_got words process place exact at number (ForwardedBy number slot) flag
+    (still_there words at number slot sound flag not_in) in
+    exact_there (with_flag words at (HeldBy number)) process place got Outside (λ party bucket mine work. work)
+exact_after words place step move (vacates process number slot at lap from old there apart) sound (own, flag, is) exact =
+    exact_vacated words process place exact at number slot from old flag there
+exact_after words place step move (renames process number slot at lap from size entry not_in) sound (own, flag, is) exact =
+    exact_renamed words process place exact at number slot from size flag entry
+exact_after words place step move (arrives process number slot at lap named) sound (own, flag, is) exact =
+    let left = exact_left words process place exact at (ForwardedBy number slot) (SentTo slot lap) flag (λ party same. absurd (cc)) in
+    exact_there (with_flag words at (SentTo slot lap)) process place left Outside (λ party bucket mine work. work)
+exact_after words place step move (settles_forward process number at slot flag not_in) sound (own, given) exact =
+    exact_got words process place exact at number (ForwardedBy number slot) flag
+    (still_there words at number slot sound flag not_in)
+exact_after words place step move (settles_vacates process number at slot lap from old flag is there apart) sound has exact =
+    exact_vacated words process place exact at number slot from old flag there
+exact_after words place step move (settles_renames process number at slot lap from size flag is entry not_in) sound has exact =
+    exact_renamed words process place exact at number slot from size flag entry
+exact_after words place step move (settles_arrives process number at slot lap flag is named) sound has exact =
+    let left = exact_left words process place exact at (ForwardedBy number slot) (SentTo slot lap) flag (λ party same. absurd (cc)) in
+    exact_there (with_flag words at (SentTo slot lap)) process place left (Flags number (at + 1)) (λ party bucket mine work. work)
 exact_after words place step move (dies process at) sound has exact = λ party bucket slot lock held entered. inr tt
 exact_after words place step move (releases process number own) sound has exact =
     λ party bucket slot lock held entered. inr tt
@@ -384,6 +511,7 @@ holds_at_opening scene =
         sent = λ bucket slot lap is. let same = all_free bucket (SentTo slot lap) is in absurd (cc);
         taken = λ bucket slot lap is. absurd (no_message slot lap bucket is);
         entered = λ bucket slot has. absurd (no_message slot has.0 bucket has.1);
+        forwarded = λ bucket party slot is. let same = all_free bucket (ForwardedBy party slot) is in absurd (cc);
         nowhere = λ bucket idle. elim idle [
           | inl free ↦ nowhere_first bucket free
           | inr away ↦ let same = all_free bucket (DetachedBy away.0) away.1 in absurd (cc)

@@ -1,6 +1,6 @@
 -- The machine's tests, and what they find.
 use Rattle.bb_memory_file_machine.specs.FileLaws.{IsEntry, IsFlag, IsHolder, IsLock, IsSlot}
-use Rattle.bb_memory_file_machine.specs.FileMachine.{DetachedBy, Empty, Entry, FileFlag, FileWords, Free, HeldBy, In, Message, Nowhere, SentTo, Slot, finds_empty, finds_flag, finds_free, finds_less, finds_nowhere, finds_own, has_clear, is_empty, is_flag, is_nowhere, is_own, lap_in, lap_of, same_flag}
+use Rattle.bb_memory_file_machine.specs.FileMachine.{DetachedBy, Empty, Entry, FileFlag, FileWords, ForwardedBy, Free, HeldBy, In, Message, Nowhere, SentTo, Slot, finds_empty, finds_flag, finds_free, finds_less, finds_nowhere, finds_own, has_clear, is_empty, is_flag, is_nowhere, is_own, lap_in, lap_of, same_flag}
 use Rattle.bb_memory_pool_machine.proofs.PoolSteps.{test_same}
 use Rattle.std.proofs.Common.{Bool, None, Option, Some, ap, false, refl, true, ℕ, ◌<◌, ◌∙◌, ◌≡◌}
 use Rattle.std.proofs.lemmas.Bool.{eqb-true, ltb-true}
@@ -14,11 +14,18 @@ same_sent slot other lap same false test e = absurd (cc)
 same_sent slot other lap same true test e =
     ap (λ (s : ℕ). SentTo s lap) (eqb-true slot other test) ∙ ap (λ (l : ℕ). SentTo other l) (eqb-true lap same e)
 
+same_forwarded : (party other slot same : ℕ) (here : Bool) → (party == other) ≡ here →
+    (if here then slot == same else false) ≡ true → ForwardedBy party slot ≡ ForwardedBy other same
+same_forwarded party other slot same false test e = absurd (cc)
+same_forwarded party other slot same true test e =
+    ap (λ (p : ℕ). ForwardedBy p slot) (eqb-true party other test) ∙ ap (λ (s : ℕ). ForwardedBy other s) (eqb-true slot same e)
+
 same_flags : (one other : FileFlag) → same_flag one other ≡ true → one ≡ other
 same_flags Free Free e = refl
 same_flags (HeldBy party) (HeldBy other) e = ap HeldBy (eqb-true party other e)
 same_flags (DetachedBy party) (DetachedBy other) e = ap DetachedBy (eqb-true party other e)
 same_flags (SentTo slot lap) (SentTo other same) e = same_sent slot other lap same (slot == other) refl e
+same_flags (ForwardedBy party slot) (ForwardedBy other same) e = same_forwarded party other slot same (party == other) refl e
 same_flags Free (HeldBy other) e = absurd (cc)
 same_flags Free (DetachedBy other) e = absurd (cc)
 same_flags Free (SentTo other same) e = absurd (cc)
@@ -31,6 +38,14 @@ same_flags (DetachedBy party) (SentTo other same) e = absurd (cc)
 same_flags (SentTo slot lap) Free e = absurd (cc)
 same_flags (SentTo slot lap) (HeldBy other) e = absurd (cc)
 same_flags (SentTo slot lap) (DetachedBy other) e = absurd (cc)
+same_flags (ForwardedBy party slot) Free e = absurd (cc)
+same_flags (ForwardedBy party slot) (HeldBy other) e = absurd (cc)
+same_flags (ForwardedBy party slot) (DetachedBy other) e = absurd (cc)
+same_flags (ForwardedBy party slot) (SentTo other same) e = absurd (cc)
+same_flags Free (ForwardedBy other same) e = absurd (cc)
+same_flags (HeldBy party) (ForwardedBy other same) e = absurd (cc)
+same_flags (DetachedBy party) (ForwardedBy other same) e = absurd (cc)
+same_flags (SentTo slot lap) (ForwardedBy other same) e = absurd (cc)
 
 sent_itself : (slot lap : ℕ) (here : Bool) → (slot == slot) ≡ here → (if here then lap == lap else false) ≡ true
 sent_itself slot lap true test = test_same lap lap refl
@@ -41,6 +56,7 @@ flag_itself Free = refl
 flag_itself (HeldBy party) = test_same party party refl
 flag_itself (DetachedBy party) = test_same party party refl
 flag_itself (SentTo slot lap) = sent_itself slot lap (slot == slot) refl
+flag_itself (ForwardedBy party slot) = sent_itself party slot (party == party) refl
 
 flag_found : (flag : FileFlag) (found : Option FileFlag) → finds_flag flag found ≡ true → found ≡ Some flag
 flag_found flag None e = absurd (cc)

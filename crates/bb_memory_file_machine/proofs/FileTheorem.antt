@@ -1,12 +1,12 @@
 -- Consequences of the invariant that holds for every state.
 use Rattle.bb_memory_file_machine.proofs.FileEffects.{below_end, one_value, other_number, rests, same_process, set_cases, stays_apart}
 use Rattle.bb_memory_file_machine.proofs.FileInvariant.{Holds, PlaceHas}
-use Rattle.bb_memory_file_machine.proofs.FileKinds.{Kind, allocates, attaches, detaches, empties, fills, gives, kind_of, puts_back, receives, recovers, sends, settles, settles_sent}
-use Rattle.bb_memory_file_machine.proofs.FileSound.{there_below}
+use Rattle.bb_memory_file_machine.proofs.FileKinds.{Kind, allocates, arrives, attaches, begins_forward, detaches, empties, fills, fills_forward, gives, gives_up_forward, kind_of, puts_back, receives, recovers, sends, settles, settles_arrives, settles_forward, settles_sent, settles_vacates, vacates}
+use Rattle.bb_memory_file_machine.proofs.FileSound.{named_still, there_below}
 use Rattle.bb_memory_file_machine.proofs.FileSteps.{effect_of, holds_always, holds_at_opening, holds_step}
-use Rattle.bb_memory_file_machine.specs.FileLaws.{AreSettled, CanCount, Effect, HasReceived, IsAccountedFor, IsEntered, IsEntry, IsFlag, IsHolder, IsIn, IsInCallBy, IsLife, IsLock, IsPlace, IsSlot, SaysDone, number_of}
+use Rattle.bb_memory_file_machine.specs.FileLaws.{AreSettled, CanCount, Effect, HasReceived, IsAccountedFor, IsEntered, IsEntry, IsFlag, IsForwardedFrom, IsHolder, IsIn, IsInCallBy, IsKeeper, IsLife, IsLock, IsPlace, IsSlot, SaysDone, holder_of, number_of}
 use Rattle.bb_memory_file_machine.specs.FileLaws as laws
-use Rattle.bb_memory_file_machine.specs.FileMachine.{Clearing, Counting, DetachNumber, DetachedBy, Done, Empty, Entry, FileChange, FileFlag, FileMove, FileOutcome, FileScene, FileState, FileStep, FileWords, Flags, Free, HeldBy, Message, Outside, Place, Posting, Receives, Refused, Sending, SentTo, Settled, change_at, file_after, file_step, left_by, move_at, opening_state, process_of, with_flag}
+use Rattle.bb_memory_file_machine.specs.FileMachine.{Arriving, Clearing, Counting, DetachNumber, DetachedBy, Done, Empty, Entry, FileChange, FileFlag, FileMove, FileOutcome, FileScene, FileState, FileStep, FileWords, Flags, ForwardedBy, Forwarding, Free, HeldBy, Message, Outside, Place, Posting, Receives, Refused, Sending, SentTo, Settled, change_at, file_after, file_step, left_by, move_at, next_lap, opening_state, process_of, with_flag, with_slot}
 use Rattle.bb_memory_lists.proofs.SliceGets.{length-set_at, slice_get-set_apart, slice_get-set_same}
 use Rattle.std.proofs.Common.{List, None, Option, Some, [], ap, arith, inl, inr, length, refl, sym, ℕ, ◌+◌, ◌<◌, ◌∙◌, ◌∷◌, ◌≡◌, ◌≢◌, ◌≤◌}
 use Rattle.std.proofs.lemmas.Bool.{cases_eq, lt-ltb}
@@ -32,17 +32,18 @@ pub effect_always : (scene : FileScene) (steps : List FileStep) (step : FileStep
     let change = file_step state step in Effect state.words (process_of step) change.outcome change.state.words
 effect_always scene steps step place there = effect_in (left_by scene steps) step (holds_always scene steps)
 
-pub kept_always : (scene : FileScene) (steps : List FileStep) (step : FileStep) (process party bucket : ℕ) →
-    IsLock (left_by scene steps).words party process → IsHolder (left_by scene steps).words bucket party →
-    process_of step ≢ process → IsHolder (file_step (left_by scene steps) step).state.words bucket party
-kept_always scene steps step process party bucket lock held apart =
+pub kept_always : (scene : FileScene) (steps : List FileStep) (step : FileStep) (process party bucket : ℕ) (flag : FileFlag) →
+    IsLock (left_by scene steps).words party process → IsFlag (left_by scene steps).words bucket flag →
+    holder_of flag ≡ Some party → process_of step ≢ process →
+    IsFlag (file_step (left_by scene steps) step).state.words bucket flag
+kept_always scene steps step process party bucket flag lock is of apart =
     let state : FileState = left_by scene steps in
     let change : FileChange = file_step state step in
     (rests state.words change.state.words (process_of step) change.outcome party process
-    (effect_in state step (holds_always scene steps)) lock apart).kept bucket held
+    (effect_in state step (holds_always scene steps)) lock apart).kept bucket flag of is
 
 pub kept_entry_always : (scene : FileScene) (steps : List FileStep) (step : FileStep) (process party bucket : ℕ)
-    (entry : Entry) → IsLock (left_by scene steps).words party process → IsHolder (left_by scene steps).words bucket party →
+    (entry : Entry) → IsLock (left_by scene steps).words party process → IsKeeper (left_by scene steps).words bucket party →
     process_of step ≢ process → IsEntry (left_by scene steps).words bucket entry →
     IsEntry (file_step (left_by scene steps) step).state.words bucket entry
 kept_entry_always scene steps step process party bucket entry lock held apart is =
@@ -52,7 +53,7 @@ kept_entry_always scene steps step process party bucket entry lock held apart is
     (effect_in state step (holds_always scene steps)) lock apart).entries bucket held ∙ is
 
 pub kept_slot_always : (scene : FileScene) (steps : List FileStep) (step : FileStep) (process party bucket slot lap : ℕ) →
-    IsLock (left_by scene steps).words party process → IsHolder (left_by scene steps).words bucket party →
+    IsLock (left_by scene steps).words party process → IsKeeper (left_by scene steps).words bucket party →
     process_of step ≢ process → IsSlot (left_by scene steps).words slot (Message lap bucket) →
     IsSlot (file_step (left_by scene steps) step).state.words slot (Message lap bucket)
 kept_slot_always scene steps step process party bucket slot lap lock held apart is =
@@ -80,7 +81,8 @@ received_by state place step slot bucket party holds there kind said =
         let sent : IsFlag state.words bucket (SentTo slot lap) =
         ap (slice_get state.words.flags) (sym buckets) ∙ is ∙ ap (λ (s : ℕ). Some (SentTo s lap)) slots in
         let message : IsSlot state.words slot (Message lap bucket) = holds.sound.sent bucket slot lap sent in
-        let entered : IsEntered state.words bucket slot = holds.sound.entered bucket slot (lap, message) in
+        let entered : IsEntered state.words bucket slot =
+        named_still state.words bucket (SentTo slot lap) holds.sound sent (λ party to same. absurd (cc)) slot (lap, message) in
         record {
           lap = lap;
           size = entered.0;
@@ -110,43 +112,88 @@ received_always scene steps step slot bucket party said =
 
 -- STAYS
 
+-- what becomes of a message by a step
+abbrev Stays : FileState → FileStep → FileWords → ℕ → ℕ → ℕ → Type 0
+Stays state step later slot bucket lap = IsSlot later slot (Message lap bucket)
+    ⊎ (SaysDone state step slot bucket ⊎ IsForwardedFrom state step slot bucket)
+
+-- a message leaves its slot when it is forwarded, or stays if another slot is emptied
+stays_vacated : (state : FileState) (step : FileStep) (slot bucket lap party other found from old at : ℕ) →
+    (file_step state step).state.words ≡ with_slot state.words from (Empty (next_lap old)) →
+    IsLock state.words party (process_of step) → IsFlag state.words at (ForwardedBy party other) →
+    IsSlot state.words other (Message found at) → IsSlot state.words from (Message old at) → from ≢ other →
+    IsSlot state.words slot (Message lap bucket) →
+    Stays state step (with_slot state.words from (Empty (next_lap old))) slot bucket lap
+stays_vacated state step slot bucket lap party other found from old at same own flag there is apart message =
+    elim (cases_eq from slot) [
+      | inl here ↦
+          let words = one_value state.words.slots slot (Message old at) (Message lap bucket)
+          (ap (slice_get state.words.slots) (sym here) ∙ is) message in
+          let one : at ≡ bucket = cc in
+          inr (inr record {
+            party = party;
+            other = other;
+            lap = found;
+            lock = own;
+            flag = ap (slice_get state.words.flags) (sym one) ∙ flag;
+            there = ap (λ (w : FileWords). slice_get w.slots other) same
+                ∙ slice_get-set_apart state.words.slots from other (Empty (next_lap old)) apart ∙ there
+                ∙ ap (λ (b : ℕ). Some (Message found b)) one;
+            apart = λ e. apart (here ∙ e);
+          })
+      | inr away ↦ inl (slice_get-set_apart state.words.slots from slot (Empty (next_lap old)) away ∙ message)
+    ]
+
 stays_by : (state : FileState) (place : Place) (step : FileStep) (move : FileMove) (slot bucket lap : ℕ) →
-    Kind state.words place step move → IsSlot state.words slot (Message lap bucket) →
-    IsSlot move.words slot (Message lap bucket) ⊎ SaysDone state step slot bucket
-stays_by state place step move slot bucket lap (fills process party at other found empty) is =
+    Kind state.words place step move → PlaceHas state.words (process_of step) place →
+    (file_step state step).state.words ≡ move.words → IsSlot state.words slot (Message lap bucket) →
+    Stays state step move.words slot bucket lap
+stays_by state place step move slot bucket lap (fills process party at other found empty) has same is =
     inl (stays_apart state.words.slots at slot (Message found other) (Empty found) (Message lap bucket) empty is
-    (λ same. absurd (cc)))
-stays_by state place step move slot bucket lap (empties process party at other found next own held message) is =
+    (λ e. absurd (cc)))
+stays_by state place step move slot bucket lap (fills_forward process party at other found empty) has same is =
+    inl (stays_apart state.words.slots at slot (Message found other) (Empty found) (Message lap bucket) empty is
+    (λ e. absurd (cc)))
+stays_by state place step move slot bucket lap (empties process party at other found next own held message) has words_are is =
     elim (cases_eq at slot) [
       | inl same ↦
           let words = one_value state.words.slots slot (Message found other) (Message lap bucket)
           (ap (slice_get state.words.slots) (sym same) ∙ message) is in
           let one : other ≡ bucket = cc in
-          inr record {
+          inr (inl record {
             party = party;
             next = next;
             done = ap (λ (s : ℕ). Done process party s other next) same ∙ ap (λ (b : ℕ). Done process party slot b next) one;
             lock = own;
             holder = ap (slice_get state.words.flags) (sym one) ∙ held;
-          }
+          })
       | inr apart ↦ inl (slice_get-set_apart state.words.slots at slot (Empty next) apart ∙ is)
     ]
-stays_by state place step move slot bucket lap _ is = inl is
+stays_by state place step move slot bucket lap (vacates process party other at found from old there apart) (own, flag, message)
+    same is =
+    stays_vacated state step slot bucket lap party other found from old at same own flag message there apart is
+stays_by state place step move slot bucket lap (settles_vacates process party at other found from old flag message there apart)
+    (own, given) same is =
+    stays_vacated state step slot bucket lap party other found from old at same own flag message there apart is
+stays_by state place step move slot bucket lap _ has same is = inl is
 
 stays_at : (state : FileState) (step : FileStep) (slot bucket lap : ℕ) (found : Option Place) →
+    slice_get state.places (process_of step) ≡ found → Holds state →
     IsSlot state.words slot (Message lap bucket) →
-    IsSlot (change_at state step found).state.words slot (Message lap bucket) ⊎ SaysDone state step slot bucket
-stays_at state step slot bucket lap None is = inl is
-stays_at state step slot bucket lap (Some place) is =
-    stays_by state place step (move_at state.words place step) slot bucket lap (kind_of state.words place step) is
+    Stays state step (change_at state step found).state.words slot bucket lap
+stays_at state step slot bucket lap None there holds is = inl is
+stays_at state step slot bucket lap (Some place) there holds is =
+    stays_by state place step (move_at state.words place step) slot bucket lap (kind_of state.words place step)
+    (holds.each (process_of step) place there)
+    (ap (λ (found : Option Place). (change_at state step found).state.words) there) is
 
 pub stays_always : (scene : FileScene) (steps : List FileStep) (step : FileStep) (slot bucket lap : ℕ) →
     IsSlot (left_by scene steps).words slot (Message lap bucket) →
     IsSlot (file_step (left_by scene steps) step).state.words slot (Message lap bucket)
-    ⊎ SaysDone (left_by scene steps) step slot bucket
+    ⊎ (SaysDone (left_by scene steps) step slot bucket ⊎ IsForwardedFrom (left_by scene steps) step slot bucket)
 stays_always scene steps step slot bucket lap is =
     let state : FileState = left_by scene steps in
-    stays_at state step slot bucket lap (slice_get state.places (process_of step)) is
+    stays_at state step slot bucket lap (slice_get state.places (process_of step)) refl (holds_always scene steps) is
 
 -- BY NUMBER
 
@@ -189,6 +236,16 @@ module _ (state : FileState) (bucket party : ℕ) where
       inl (detached_before at (HeldBy number) Free held (λ same. absurd (cc)) now)
   numbered_by place step move has (settles_sent process number at slot lap held is) now =
       inl (detached_before at (HeldBy number) (SentTo slot lap) held (λ same. absurd (cc)) now)
+  numbered_by place step move has (begins_forward process number from slot at lap own held is apart) now =
+      inl (detached_before at (HeldBy number) (ForwardedBy number slot) held (λ same. absurd (cc)) now)
+  numbered_by place step move (own, flag, not_in) (gives_up_forward process number slot at) now =
+      inl (detached_before at (ForwardedBy number slot) (HeldBy number) flag (λ same. absurd (cc)) now)
+  numbered_by place step move (own, flag, is) (arrives process number slot at lap named) now =
+      inl (detached_before at (ForwardedBy number slot) (SentTo slot lap) flag (λ same. absurd (cc)) now)
+  numbered_by place step move has (settles_forward process number at slot flag not_in) now =
+      inl (detached_before at (ForwardedBy number slot) (HeldBy number) flag (λ same. absurd (cc)) now)
+  numbered_by place step move has (settles_arrives process number at slot lap flag is named) now =
+      inl (detached_before at (ForwardedBy number slot) (SentTo slot lap) flag (λ same. absurd (cc)) now)
   numbered_by place step move has _ now = inl now
 
   numbered_at : (step : FileStep) (found : Option Place) → slice_get state.places (process_of step) ≡ found → Holds state →
@@ -221,7 +278,7 @@ exact_always scene steps process party bucket slot there lock held entered =
 -- SETTLED
 
 pub settled_always : (scene : FileScene) (steps : List FileStep) (process party bucket : ℕ) →
-    IsPlace (left_by scene steps) process (Settled party) → ¬ IsHolder (left_by scene steps).words bucket party
+    IsPlace (left_by scene steps) process (Settled party) → ¬ IsKeeper (left_by scene steps).words bucket party
 settled_always scene steps process party bucket there =
     ((holds_always scene steps).each process (Settled party) there).1 bucket
 
@@ -240,6 +297,12 @@ buckets_effect words later process outcome (laws.receives party bucket slot lap 
     length-set_at words.flags bucket (HeldBy party)
 buckets_effect words later process outcome (laws.sends party bucket slot lap own held is) =
     length-set_at words.flags bucket (SentTo slot lap)
+buckets_effect words later process outcome (laws.forwards party bucket from slot lap own held is apart) =
+    length-set_at words.flags bucket (ForwardedBy party slot)
+buckets_effect words later process outcome (laws.holds_again party bucket slot own is not_in) =
+    length-set_at words.flags bucket (HeldBy party)
+buckets_effect words later process outcome (laws.arrives party bucket slot lap size own is message entry) =
+    length-set_at words.flags bucket (SentTo slot lap)
 buckets_effect words later process outcome _ = refl
 
 buckets_after : (state : FileState) (steps : List FileStep) → Holds state →
@@ -257,7 +320,10 @@ buckets_always scene steps =
 accounted : (state : FileState) (bucket : ℕ) (flag : FileFlag) → Holds state → AreSettled state →
     IsFlag state.words bucket flag → IsAccountedFor state bucket
 accounted state bucket Free holds settled is = inl is
-accounted state bucket (HeldBy party) holds settled is = inr (inl (party, is, settled bucket party is))
+accounted state bucket (HeldBy party) holds settled is =
+    inr (inl (party, (HeldBy party, is, refl), settled bucket party (HeldBy party, is, refl)))
+accounted state bucket (ForwardedBy party slot) holds settled is =
+    inr (inl (party, (ForwardedBy party slot, is, refl), settled bucket party (ForwardedBy party slot, is, refl)))
 accounted state bucket (SentTo slot lap) holds settled is = inr (inr (inl (slot, lap, is, holds.sound.sent bucket slot lap is)))
 accounted state bucket (DetachedBy party) holds settled is = inr (inr (inr (party, is)))
 
@@ -280,6 +346,8 @@ lock_of_place : (words : FileWords) (process party : ℕ) (place : Place) → Pl
     number_of place ≡ Some party → IsLock words party process
 lock_of_place words process party (Posting number slot bucket) has is = own_number words process number party has.0 is
 lock_of_place words process party (Sending number slot bucket lap) has is = own_number words process number party has.0 is
+lock_of_place words process party (Forwarding number slot bucket) has is = own_number words process number party has.0 is
+lock_of_place words process party (Arriving number slot bucket lap) has is = own_number words process number party has.0 is
 lock_of_place words process party (Clearing number bucket) has is = own_number words process number party has.0 is
 lock_of_place words process party (Counting number) has is = own_number words process number party has is
 lock_of_place words process party (Flags number bucket) has is = own_number words process number party has.0 is

@@ -3,7 +3,7 @@ use Rattle.bb_memory_file_machine.proofs.FileEffects.{one_value}
 use Rattle.bb_memory_file_machine.proofs.QueueCounts.{contained_filter, order_filter, order_push}
 use Rattle.bb_memory_file_machine.proofs.QueueInvariant.{IsListed, IsPlaced, IsQueue, at_opening, next_ticket, same_slot, slot_in_queue, slot_of_turn, turn}
 use Rattle.bb_memory_file_machine.proofs.QueueLaps.{Fits, follows_below, round_after}
-use Rattle.bb_memory_file_machine.proofs.QueueSteps.{Leaves, QueueChange, ends_one, may_empty, may_fill, posts_one, queue_change, rests, without}
+use Rattle.bb_memory_file_machine.proofs.QueueSteps.{Leaves, QueueChange, ends_one, lap_follows, may_fill, posts_one, queue_change, rests, without}
 use Rattle.bb_memory_file_machine.specs.FileLaws.{IsSlot}
 use Rattle.bb_memory_file_machine.specs.FileMachine.{Empty, FileStep, FileWords, Message, Slot}
 use Rattle.bb_memory_file_machine.specs.FileQueues.{AreInOrder, FileQueue, History, IsMoment, IsSlotOf, Obey, Posted, StepObeys, earlier, fills, lap_of, messages, next_lap, now, posts, queue_rules, slot_of, state_after, words_at}
@@ -273,9 +273,9 @@ module _ (queue : FileQueue) (positive : 0 < queue.depth) (history : History) (h
         after_post slot lap bucket its empty there leaves count next held
         (next_ticket queue positive history holds moments slot lap its empty
         (may_fill queue history step process slot lap step_is said obeys its))
-    after_step moments obeys (ends_one process party slot lap bucket next its step_is said was there leaves count same held) =
+    after_step moments obeys (ends_one slot lap bucket next its how said was there leaves count same held) =
         after_end slot lap bucket next its was there leaves count same held
-        (may_empty queue history step process party slot bucket next step_is said obeys its lap bucket was)
+        (lap_follows queue history step slot lap bucket next how said obeys its was)
 
 module _ (queue : FileQueue) (positive : 0 < queue.depth) where
   pub queue_moments : (history : History) → Obey queue_rules queue history → (moment : History) → IsMoment moment history →

@@ -25,7 +25,7 @@ slots_changed : (scene : FileScene) (history : History) (step : FileStep) →
 slots_changed scene history step (keeps slots other) = ap length slots
 slots_changed scene history step (fills_one process slot bucket lap step_is said empty slots) =
     ap length slots ∙ length-set_at (state_after scene history).words.slots slot (Message lap bucket)
-slots_changed scene history step (empties_one process party slot bucket lap next step_is said is held slots) =
+slots_changed scene history step (empties_one slot bucket lap next how said is slots) =
     ap length slots ∙ length-set_at (state_after scene history).words.slots slot (Empty next)
 
 slots_always : (scene : FileScene) (history : History) → length (state_after scene history).words.slots ≡ scene.slots

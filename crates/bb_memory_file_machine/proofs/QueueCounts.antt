@@ -1,11 +1,11 @@
 -- How often the slots of a queue are filled, and which messages the queue holds: what a step changes.
-use Rattle.bb_memory_file_machine.proofs.QueueHistories.{SlotChange, change_after, empties_one, fills_one, keeps, sent_in, sent_or_received}
-use Rattle.bb_memory_file_machine.specs.FileLaws.{IsFlag, IsHolder, IsSlot}
-use Rattle.bb_memory_file_machine.specs.FileMachine.{Done, Empty, FileOutcome, FileScene, FileStep, FileWords, Fill, Message, OnSlot, Receives, SentTo, Slot}
+use Rattle.bb_memory_file_machine.proofs.QueueHistories.{Empties, SlotChange, change_after, empties_one, fills_one, keeps, sent_in, sent_or_received}
+use Rattle.bb_memory_file_machine.specs.FileLaws.{IsFlag, IsSlot}
+use Rattle.bb_memory_file_machine.specs.FileMachine.{Empty, FileOutcome, FileScene, FileStep, FileWords, Fill, Message, OnSlot, Receives, SentTo, Slot}
 use Rattle.bb_memory_file_machine.specs.FileQueues.{AreInOrder, FileQueue, HasHappened, History, IsMoment, Posted, counted, earlier, filled_after, filled_by, fills, if_filled, is_filling, now, outcome_after, posts, state_after, words_at}
 use Rattle.bb_memory_lists.proofs.ListEntries.{contains-behind, contains-first, contains-none}
 use Rattle.bb_memory_lists.proofs.SliceGets.{slice_get-set_apart, slice_get-set_same}
-use Rattle.std.proofs.Common.{Bool, Contains, List, None, Option, Some, [], ap, arith, false, filter, inl, inr, length, refl, suc, sym, true, zero, ℕ, ◌++◌, ◌+◌, ◌/◌, ◌<◌, ◌∙◌, ◌∷◌, ◌≡◌, ◌≢◌, ◌≤◌}
+use Rattle.std.proofs.Common.{Bool, Contains, List, None, Option, Some, [], ap, arith, false, filter, inl, inr, length, refl, subst, suc, sym, true, zero, ℕ, ◌++◌, ◌+◌, ◌/◌, ◌<◌, ◌∙◌, ◌∷◌, ◌≡◌, ◌≢◌, ◌≤◌}
 use Rattle.std.proofs.lemmas.Bool.{cases_eq, cond_both, eq-eqb, ne_eqb}
 use Rattle.std.specs.Prelude.{if◌then◌else◌, slice_get, slice_set, ◌==◌, ◌⊎◌}
 
@@ -118,8 +118,7 @@ module _ (scene : FileScene) (history : History) (step : FileStep) where
     filled : (process lap bucket : ℕ) → step ≡ Fill process lap → outcome_after scene history step ≡ OnSlot slot →
         IsSlot words slot (Empty lap) → IsSlot later slot (Message lap bucket) →
         fills (words_at scene) slot (step ∷ history) ≡ fills (words_at scene) slot history + 1 → OneChange slot
-    emptied : (process party lap bucket next : ℕ) → step ≡ Done process party slot bucket next →
-        outcome_after scene history step ≡ OnSlot slot → IsHolder words bucket party →
+    emptied : (lap bucket next : ℕ) → Empties step slot lap next → outcome_after scene history step ≡ OnSlot slot →
         IsSlot words slot (Message lap bucket) → IsSlot later slot (Empty next) →
         fills (words_at scene) slot (step ∷ history) ≡ fills (words_at scene) slot history → OneChange slot
 
@@ -139,14 +138,13 @@ module _ (scene : FileScene) (history : History) (step : FileStep) where
             apart_from at slot (Message lap bucket) slots apart in
             kept same (fills_kept slot same)
       ]
-  one_of slot (empties_one process party at bucket lap next step_is outcome is held slots) =
+  one_of slot (empties_one at bucket lap next how outcome is slots) =
       let there : IsSlot later at (Empty next) = replaced at (Message lap bucket) (Empty next) is slots in
       elim (cases_eq at slot) [
         | inl same ↦
             let was : IsSlot words slot (Message lap bucket) = ap (slice_get words.slots) (sym same) ∙ is in
             let now_is : IsSlot later slot (Empty next) = ap (slice_get later.slots) (sym same) ∙ there in
-            emptied process party lap bucket next
-            (step_is ∙ ap (λ (s : ℕ). Done process party s bucket next) same) (outcome ∙ ap OnSlot same) held was now_is
+            emptied lap bucket next (subst (λ (s : ℕ). Empties step s lap next) same how) (outcome ∙ ap OnSlot same) was now_is
             (fills_emptied slot lap bucket next was now_is)
         | inr apart ↦
             let same : slice_get later.slots slot ≡ slice_get words.slots slot =
@@ -168,7 +166,7 @@ same_message scene slot lap bucket moment _ (earlier step history past) most is 
     elim (change_at scene history step slot) [
       | kept same count ↦ same_message scene slot lap bucket moment history past (omega (arith, count, most)) (sym same ∙ is)
       | filled process other found step_is outcome empty there count ↦ absurd (omega (arith, count, most, grown))
-      | emptied process party other found next step_is outcome held was there count ↦
+      | emptied other found next how outcome was there count ↦
           let words = sym there ∙ is in absurd (cc)
     ]
 
@@ -202,7 +200,7 @@ waits_or_received scene slot lap bucket moment _ (earlier step history past) sen
               | kept same count ↦ inl (after, count ∙ still.1)
               | filled process other found step_is outcome empty there count ↦
                   let words = sym empty ∙ message in absurd (cc)
-              | emptied process party other found next step_is outcome held was there count ↦ inl (after, count ∙ still.1)
+              | emptied other found next how outcome was there count ↦ inl (after, count ∙ still.1)
             ]
       ]
     ]

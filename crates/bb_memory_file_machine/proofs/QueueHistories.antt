@@ -1,12 +1,12 @@
 -- Histories of the machine: their moments, and what a step changes.
 use Rattle.bb_memory_file_machine.proofs.FileEffects.{one_value, set_cases, stays_apart}
 use Rattle.bb_memory_file_machine.proofs.FileInvariant.{Holds, PlaceHas}
-use Rattle.bb_memory_file_machine.proofs.FileKinds.{Kind, dies, empties, fills, kind_of, receives, refuses, releases, sends}
+use Rattle.bb_memory_file_machine.proofs.FileKinds.{Kind, arrives, dies, empties, fills, fills_forward, kind_of, receives, refuses, releases, renames, sends, settles_vacates, vacates}
 use Rattle.bb_memory_file_machine.proofs.FileSteps.{holds_at_opening, holds_step}
 use Rattle.bb_memory_file_machine.proofs.FileTheorem.{effect_in, received_at}
-use Rattle.bb_memory_file_machine.specs.FileLaws.{Effect, HasReceived, IsFlag, IsHolder, IsPlace, IsSlot}
+use Rattle.bb_memory_file_machine.specs.FileLaws.{Effect, HasReceived, IsFlag, IsPlace, IsSlot}
 use Rattle.bb_memory_file_machine.specs.FileLaws as laws
-use Rattle.bb_memory_file_machine.specs.FileMachine.{Dead, DetachedBy, Done, Empty, FileMove, FileOutcome, FileScene, FileState, FileStep, FileWords, Fill, Free, HeldBy, Message, OnSlot, Place, Posting, Receives, Sending, Sends, SentTo, Slot, Take, change_at, change_by, file_after, left_by, move_at, process_of}
+use Rattle.bb_memory_file_machine.specs.FileMachine.{Arriving, Dead, DetachedBy, Done, Empty, FileMove, FileOutcome, FileScene, FileState, FileStep, FileWords, Fill, ForwardedBy, Forwarding, Free, HeldBy, Message, OnSlot, Place, Posting, Receives, Sending, Sends, SentTo, Slot, Take, change_at, change_by, file_after, left_by, move_at, next_lap, process_of}
 use Rattle.bb_memory_file_machine.specs.FileQueues.{FileQueue, HasHappened, History, IsMoment, Obey, Rules, earlier, now, outcome_after, state_after}
 use Rattle.bb_memory_lists.proofs.SliceGets.{slice_get-set_apart, slice_get-set_same}
 use Rattle.std.proofs.Common.{List, None, Option, Some, [], ap, append-nil, append_assoc, inl, inr, refl, reverse, sym, ℕ, ◌++◌, ◌∙◌, ◌∷◌, ◌≡◌}
@@ -57,22 +57,33 @@ happened scene first second third fourth outcome before has after = record {
 
 -- SLOTS
 
+-- the step says that a message of this lap is done with, after which its slot goes on with the lap `next`;
+-- or the message has left the slot for another one, and the slot goes on with the lap that follows
+abbrev pub Empties : FileStep → ℕ → ℕ → ℕ → Type 0
+Empties step slot lap next = ((process : ℕ) × (party : ℕ) × (bucket : ℕ) × (step ≡ Done process party slot bucket next))
+    ⊎ (next ≡ next_lap lap)
+
 -- what a step with this outcome does to the words of the slots
 pub data SlotChange (words : FileWords) (step : FileStep) (outcome : FileOutcome) (slots : List Slot) : Type 0 where
   keeps : slots ≡ words.slots → ((slot : ℕ) → ¬ (outcome ≡ OnSlot slot)) → SlotChange words step outcome slots
   fills_one : (process slot bucket lap : ℕ) → step ≡ Fill process lap → outcome ≡ OnSlot slot →
       IsSlot words slot (Empty lap) → slots ≡ slice_set words.slots slot (Message lap bucket) →
       SlotChange words step outcome slots
-  empties_one : (process party slot bucket lap next : ℕ) → step ≡ Done process party slot bucket next →
-      outcome ≡ OnSlot slot → IsSlot words slot (Message lap bucket) → IsHolder words bucket party →
-      slots ≡ slice_set words.slots slot (Empty next) → SlotChange words step outcome slots
+  empties_one : (slot bucket lap next : ℕ) → Empties step slot lap next → outcome ≡ OnSlot slot →
+      IsSlot words slot (Message lap bucket) → slots ≡ slice_set words.slots slot (Empty next) → SlotChange words step outcome slots
 
 change_of_kind : (words : FileWords) (place : Place) (step : FileStep) (move : FileMove) → Kind words place step move →
     SlotChange words step move.outcome move.words.slots
 change_of_kind words place step move (fills process party slot bucket lap empty) =
     fills_one process slot bucket lap refl refl empty refl
 change_of_kind words place step move (empties process party slot bucket lap next own held is) =
-    empties_one process party slot bucket lap next refl refl is held refl
+    empties_one slot bucket lap next (inl (process, party, bucket, refl)) refl is refl
+change_of_kind words place step move (fills_forward process party slot bucket lap empty) =
+    fills_one process slot bucket lap refl refl empty refl
+change_of_kind words place step move (vacates process party slot bucket lap from old is apart) =
+    empties_one from bucket old (next_lap old) (inr refl) refl is refl
+change_of_kind words place step move (settles_vacates process party bucket slot lap from old flag message is apart) =
+    empties_one from bucket old (next_lap old) (inr refl) refl is refl
 change_of_kind words place step move _ = keeps refl (λ slot e. absurd (cc))
 
 change_there : (state : FileState) (step : FileStep) (found : Option Place) →
@@ -116,6 +127,15 @@ sent_kept words later process outcome bucket slot lap (laws.receives party other
           inr (party, ap (λ (s : ℕ). Receives s other party) slots ∙ ap (λ (b : ℕ). Receives slot b party) same)
       | inr apart ↦ inl (slice_get-set_apart words.flags other bucket (HeldBy party) apart ∙ is)
     ]
+sent_kept words later process outcome bucket slot lap (laws.forwards party other from to found own held there apart) is =
+    inl (stays_apart words.flags other bucket (ForwardedBy party to) (HeldBy party) (SentTo slot lap) held is
+    (λ same. absurd (cc)))
+sent_kept words later process outcome bucket slot lap (laws.holds_again party other to own flag not_in) is =
+    inl (stays_apart words.flags other bucket (HeldBy party) (ForwardedBy party to) (SentTo slot lap) flag is
+    (λ same. absurd (cc)))
+sent_kept words later process outcome bucket slot lap (laws.arrives party other at found size own flag there entry) is =
+    inl (stays_apart words.flags other bucket (SentTo at found) (ForwardedBy party at) (SentTo slot lap) flag is
+    (λ same. absurd (cc)))
 sent_kept words later process outcome bucket slot lap _ is = inl is
 
 -- a bucket that is sent after an effect was sent before, or the effect is that a party sends it
@@ -149,6 +169,21 @@ sent_before words later process outcome bucket slot lap (laws.receives party oth
     ]
 sent_before words later process outcome bucket slot lap (laws.sends party other at found own held there) is =
     elim (set_cases words.flags other bucket (SentTo at found) (HeldBy party) (SentTo slot lap) held is) [
+      | inl before ↦ inl before.1
+      | inr this ↦ inr (party, ap (λ (b : ℕ). Sends b party) this.0)
+    ]
+sent_before words later process outcome bucket slot lap (laws.forwards party other from to found own held there apart) is =
+    elim (set_cases words.flags other bucket (ForwardedBy party to) (HeldBy party) (SentTo slot lap) held is) [
+      | inl before ↦ inl before.1
+      | inr this ↦ let flags = this.1 in absurd (cc)
+    ]
+sent_before words later process outcome bucket slot lap (laws.holds_again party other to own flag not_in) is =
+    elim (set_cases words.flags other bucket (HeldBy party) (ForwardedBy party to) (SentTo slot lap) flag is) [
+      | inl before ↦ inl before.1
+      | inr this ↦ let flags = this.1 in absurd (cc)
+    ]
+sent_before words later process outcome bucket slot lap (laws.arrives party other at found size own flag there entry) is =
+    elim (set_cases words.flags other bucket (SentTo at found) (ForwardedBy party at) (SentTo slot lap) flag is) [
       | inl before ↦ inl before.1
       | inr this ↦ inr (party, ap (λ (b : ℕ). Sends b party) this.0)
     ]
@@ -245,12 +280,22 @@ take_of scene history step slot bucket party said =
     let state : FileState = state_after scene history in
     take_there state step slot bucket party (slice_get state.places (process_of step)) said
 
--- a process fills a slot: it is in a post, and sends the bucket next
+-- the process fills the slot next, in a post or in a forward
+abbrev pub IsFilling : FileState → ℕ → ℕ → ℕ → ℕ → Type 0
+IsFilling state process party slot bucket =
+    IsPlace state process (Posting party slot bucket) ⊎ IsPlace state process (Forwarding party slot bucket)
+
+-- the process has filled the slot, in a post or in a forward
+abbrev pub HasFilled : FileState → ℕ → ℕ → ℕ → ℕ → ℕ → Type 0
+HasFilled state process party slot bucket lap =
+    IsPlace state process (Sending party slot bucket lap) ⊎ IsPlace state process (Arriving party slot bucket lap)
+
+-- a process fills a slot: it is in a post, or in a forward, and sends the bucket later
 pub record Posts (state : FileState) (after : FileState) (process slot lap : ℕ) : Type 0 where
   pub party : ℕ
   pub bucket : ℕ
-  pub posting : slice_get state.places process ≡ Some (Posting party slot bucket)
-  pub sending : slice_get after.places process ≡ Some (Sending party slot bucket lap)
+  pub posting : IsFilling state process party slot bucket
+  pub sending : HasFilled after process party slot bucket lap
   pub empty : IsSlot state.words slot (Empty lap)
 
 posting_kind : (state : FileState) (place : Place) (step : FileStep) (move : FileMove) (process slot lap : ℕ) →
@@ -262,15 +307,26 @@ posting_kind state place step move process slot lap there (fills actor party at 
     let laps : found ≡ lap = cc in record {
       party = party;
       bucket = bucket;
-      posting = ap (slice_get state.places) (sym same) ∙ there ∙ ap (λ (s : ℕ). Some (Posting party s bucket)) slots;
-      sending = ap (slice_get (slice_set state.places actor (Sending party at bucket found))) (sym same)
+      posting = inl (ap (slice_get state.places) (sym same) ∙ there ∙ ap (λ (s : ℕ). Some (Posting party s bucket)) slots);
+      sending = inl (ap (slice_get (slice_set state.places actor (Sending party at bucket found))) (sym same)
           ∙ slice_get-set_same state.places actor (Sending party at bucket found) (Posting party at bucket) there
           ∙ ap (λ (s : ℕ). Some (Sending party s bucket found)) slots
-          ∙ ap (λ (l : ℕ). Some (Sending party slot bucket l)) laps;
+          ∙ ap (λ (l : ℕ). Some (Sending party slot bucket l)) laps);
       empty = ap (slice_get state.words.slots) (sym slots) ∙ empty ∙ ap (λ (l : ℕ). Some (Empty l)) laps;
     }
-posting_kind state place step move process slot lap there (empties actor party at bucket found next own held is) step_is said =
-    absurd (cc)
+posting_kind state place step move process slot lap there (fills_forward actor party at bucket found empty) step_is said =
+    let same : actor ≡ process = cc in
+    let slots : at ≡ slot = cc in
+    let laps : found ≡ lap = cc in record {
+      party = party;
+      bucket = bucket;
+      posting = inr (ap (slice_get state.places) (sym same) ∙ there ∙ ap (λ (s : ℕ). Some (Forwarding party s bucket)) slots);
+      sending = inr (ap (slice_get (slice_set state.places actor (Arriving party at bucket found))) (sym same)
+          ∙ slice_get-set_same state.places actor (Arriving party at bucket found) (Forwarding party at bucket) there
+          ∙ ap (λ (s : ℕ). Some (Arriving party s bucket found)) slots
+          ∙ ap (λ (l : ℕ). Some (Arriving party slot bucket l)) laps);
+      empty = ap (slice_get state.words.slots) (sym slots) ∙ empty ∙ ap (λ (l : ℕ). Some (Empty l)) laps;
+    }
 posting_kind state place step move process slot lap there _ step_is said = absurd (cc)
 
 posting_there : (state : FileState) (step : FileStep) (process slot lap : ℕ) (found : Option Place) →
@@ -293,7 +349,7 @@ posting_of scene history step process slot lap step_is said =
 module _ (process party slot bucket lap : ℕ) where
   -- what becomes of a process that has filled the slot
   pub data Sender (state : FileState) : Type 0 where
-    is_sending : IsPlace state process (Sending party slot bucket lap) → Sender state
+    is_sending : HasFilled state process party slot bucket lap → Sender state
     is_dead : IsPlace state process Dead → Sender state
     has_sent : IsFlag state.words bucket (SentTo slot lap) → Sender state
 
@@ -312,24 +368,60 @@ module _ (process party slot bucket lap : ℕ) where
       is_dead (ap (slice_get (slice_set state.places actor Dead)) (sym same)
       ∙ slice_get-set_same state.places actor Dead place there)
   sender_moved state place step move there (refuses at taken) has same is =
-      is_sending (ap (slice_get (slice_set state.places (process_of step) place)) (sym same)
-      ∙ slice_get-set_same state.places (process_of step) place place there ∙ ap Some is)
+      is_sending (inl (ap (slice_get (slice_set state.places (process_of step) place)) (sym same)
+      ∙ slice_get-set_same state.places (process_of step) place place there ∙ ap Some is))
   sender_moved state place step move there _ has same is = absurd (cc)
+
+  -- a process that goes on with its forward
+  brings_still : (state : FileState) (actor : ℕ) (place : Place) → slice_get state.places actor ≡ Some place →
+      actor ≡ process → place ≡ Arriving party slot bucket lap →
+      slice_get (slice_set state.places actor place) process ≡ Some (Arriving party slot bucket lap)
+  brings_still state actor place there same is = ap (slice_get (slice_set state.places actor place)) (sym same)
+      ∙ slice_get-set_same state.places actor place place there ∙ ap Some is
+
+  bringer_moved : (state : FileState) (place : Place) (step : FileStep) (move : FileMove) →
+      slice_get state.places (process_of step) ≡ Some place → Kind state.words place step move →
+      PlaceHas state.words (process_of step) place → process_of step ≡ process → place ≡ Arriving party slot bucket lap →
+      Sender (change_by state (process_of step) move).state
+  bringer_moved state place step move there (vacates actor number at other found from old has_it apart) has same is =
+      is_sending (inr (brings_still state actor (Arriving number at other found) there same is))
+  bringer_moved state place step move there (renames actor number at other found from size entry not_in) has same is =
+      is_sending (inr (brings_still state actor (Arriving number at other found) there same is))
+  bringer_moved state place step move there (arrives actor number at other found named) has same is =
+      let buckets : other ≡ bucket = cc in
+      let slots : at ≡ slot = cc in
+      let laps : found ≡ lap = cc in
+      has_sent (ap (slice_get (slice_set state.words.flags other (SentTo at found))) (sym buckets)
+      ∙ slice_get-set_same state.words.flags other (SentTo at found) (ForwardedBy number at) has.1
+      ∙ ap (λ (s : ℕ). Some (SentTo s found)) slots ∙ ap (λ (l : ℕ). Some (SentTo slot l)) laps)
+  bringer_moved state place step move there (dies actor at) has same is =
+      is_dead (ap (slice_get (slice_set state.places actor Dead)) (sym same)
+      ∙ slice_get-set_same state.places actor Dead place there)
+  bringer_moved state place step move there (refuses at taken) has same is =
+      is_sending (inr (brings_still state (process_of step) place there same is))
+  bringer_moved state place step move there _ has same is = absurd (cc)
 
   sender_there : (state : FileState) (step : FileStep) (found : Option Place) →
       slice_get state.places (process_of step) ≡ found → Holds state →
-      IsPlace state process (Sending party slot bucket lap) → Sender (change_at state step found).state
+      HasFilled state process party slot bucket lap → Sender (change_at state step found).state
   sender_there state step None is holds there = is_sending there
-  sender_there state step (Some place) is holds there = elim (cases_eq (process_of step) process) [
+  sender_there state step (Some place) is holds (inr there) = elim (cases_eq (process_of step) process) [
+    | inl same ↦ bringer_moved state place step (move_at state.words place step) is (kind_of state.words place step)
+        (holds.each (process_of step) place is) same
+        (one_value state.places process place (Arriving party slot bucket lap) (ap (slice_get state.places) (sym same) ∙ is) there)
+    | inr apart ↦ is_sending (inr
+        (slice_get-set_apart state.places (process_of step) process (move_at state.words place step).place apart ∙ there))
+  ]
+  sender_there state step (Some place) is holds (inl there) = elim (cases_eq (process_of step) process) [
     | inl same ↦ sender_moved state place step (move_at state.words place step) is (kind_of state.words place step)
         (holds.each (process_of step) place is) same
         (one_value state.places process place (Sending party slot bucket lap) (ap (slice_get state.places) (sym same) ∙ is) there)
-    | inr apart ↦ is_sending
-        (slice_get-set_apart state.places (process_of step) process (move_at state.words place step).place apart ∙ there)
+    | inr apart ↦ is_sending (inl
+        (slice_get-set_apart state.places (process_of step) process (move_at state.words place step).place apart ∙ there))
   ]
 
   pub sender_after : (scene : FileScene) (history : History) (step : FileStep) →
-      IsPlace (state_after scene history) process (Sending party slot bucket lap) → Sender (state_after scene (step ∷ history))
+      HasFilled (state_after scene history) process party slot bucket lap → Sender (state_after scene (step ∷ history))
   sender_after scene history step there =
       let state : FileState = state_after scene history in
       sender_there state step (slice_get state.places (process_of step)) refl (holds_after scene history) there

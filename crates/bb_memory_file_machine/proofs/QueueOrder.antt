@@ -2,12 +2,12 @@
 use Rattle.bb_memory_file_machine.proofs.FileEffects.{one_value}
 use Rattle.bb_memory_file_machine.proofs.QueueAlways.{queue_always, queue_moments}
 use Rattle.bb_memory_file_machine.proofs.QueueCounts.{change_at, emptied, filled, fills_grow, kept, order_below, order_least, order_length, posts_grow, same_message, waits_or_received}
-use Rattle.bb_memory_file_machine.proofs.QueueHistories.{cases_moment, dead_after, happened, has_sent, holds_after, is_dead, is_sending, moment_of, posting_of, received_after, sender_after, sent_in, take_of}
+use Rattle.bb_memory_file_machine.proofs.QueueHistories.{HasFilled, IsFilling, cases_moment, dead_after, happened, has_sent, holds_after, is_dead, is_sending, moment_of, posting_of, received_after, sender_after, sent_in, take_of}
 use Rattle.bb_memory_file_machine.proofs.QueueInvariant.{IsPlaced, IsQueue, less_in_turn, most_in_turn, next_ticket, slot_in_queue, slot_in_turn, slot_of_turn}
 use Rattle.bb_memory_file_machine.proofs.QueueLaps.{Bounds, due_above, due_at, due_below, fewer_rounds, follows_before, follows_below, message_then, over_then, round_after}
 use Rattle.bb_memory_file_machine.proofs.QueueSteps.{may_fill}
 use Rattle.bb_memory_file_machine.specs.FileLaws.{IsFlag, IsPlace, IsSlot}
-use Rattle.bb_memory_file_machine.specs.FileMachine.{Dead, Empty, FileStep, Fill, Message, OnSlot, Posting, Receives, Sending, SentTo, Take}
+use Rattle.bb_memory_file_machine.specs.FileMachine.{Arriving, Dead, Empty, FileState, FileStep, Fill, Forwarding, Message, OnSlot, Posting, Receives, Sending, SentTo, Take}
 use Rattle.bb_memory_file_machine.specs.FileQueues.{AreInOrder, FileQueue, HasSeen, History, IsMoment, IsPost, IsReceipt, IsReceived, IsSlotOf, MayTake, Obey, Posted, StepObeys, Waits, earlier, fills, lap_before, lap_of, messages, now, outcome_after, over, posts, queue_rules, slot_of, state_after, unsent, words_at}
 use Rattle.std.proofs.Common.{Contains, Some, ap, arith, div-add-mod', inl, inr, length, lt_of_mul-lt-mul_right, refl, subst, sym, ℕ, ◌%◌, ◌*◌, ◌+◌, ◌-◌, ◌/◌, ◌<◌, ◌∙◌, ◌∷◌, ◌≡◌, ◌≢◌, ◌≤◌}
 use Rattle.std.proofs.lemmas.Bool.{cases_order}
@@ -375,14 +375,42 @@ module _ (queue : FileQueue) (positive : 0 < queue.depth) where
   count_kept history step slot lap bucket is = elim (change_at queue.scene history step slot) [
     | kept same count ↦ count
     | filled process other found step_is outcome empty there count ↦ let words = sym empty ∙ is in absurd (cc)
-    | emptied process party other found next step_is outcome held was there count ↦ count
+    | emptied other found next how outcome was there count ↦ count
   ]
+
+  -- a slot that a process has filled has the message until the process has sent it
+  filled_slot : (history : History) (process party slot bucket lap : ℕ) →
+      HasFilled (state_after queue.scene history) process party slot bucket lap →
+      IsSlot (state_after queue.scene history).words slot (Message lap bucket)
+  filled_slot history process party slot bucket lap (inl place) =
+      ((holds_after queue.scene history).each process (Sending party slot bucket lap) place).2
+  filled_slot history process party slot bucket lap (inr place) =
+      ((holds_after queue.scene history).each process (Arriving party slot bucket lap) place).2
+
+  -- a process that fills a slot has filled no other, and isn't dead
+  not_filled : (state : FileState) (process party slot bucket number other at lap : ℕ) →
+      IsFilling state process party slot bucket → ¬ HasFilled state process number other at lap
+  not_filled state process party slot bucket number other at lap (inl one) (inl two) =
+      let places = one_value state.places process (Posting party slot bucket) (Sending number other at lap) one two in absurd (cc)
+  not_filled state process party slot bucket number other at lap (inl one) (inr two) =
+      let places = one_value state.places process (Posting party slot bucket) (Arriving number other at lap) one two in absurd (cc)
+  not_filled state process party slot bucket number other at lap (inr one) (inl two) =
+      let places = one_value state.places process (Forwarding party slot bucket) (Sending number other at lap) one two in absurd (cc)
+  not_filled state process party slot bucket number other at lap (inr one) (inr two) =
+      let places = one_value state.places process (Forwarding party slot bucket) (Arriving number other at lap) one two in absurd (cc)
+
+  not_dead : (state : FileState) (process party slot bucket : ℕ) → IsFilling state process party slot bucket →
+      ¬ IsPlace state process Dead
+  not_dead state process party slot bucket (inl one) two =
+      let places = one_value state.places process (Posting party slot bucket) Dead one two in absurd (cc)
+  not_dead state process party slot bucket (inr one) two =
+      let places = one_value state.places process (Forwarding party slot bucket) Dead one two in absurd (cc)
 
   -- since a process has filled a slot, it has sent the bucket, or it still sends it, or is dead
   module _ (start : History) (process party slot bucket lap : ℕ)
-      (there : IsPlace (state_after queue.scene start) process (Sending party slot bucket lap)) where
+      (there : HasFilled (state_after queue.scene start) process party slot bucket lap) where
     data Since (history : History) : Type 0 where
-      sends_still : IsPlace (state_after queue.scene history) process (Sending party slot bucket lap) →
+      sends_still : HasFilled (state_after queue.scene history) process party slot bucket lap →
           fills (words_at queue.scene) slot history ≡ fills (words_at queue.scene) slot start → Since history
       dead : IsPlace (state_after queue.scene history) process Dead → Since history
       sent_at : (moment : History) → IsMoment start moment → IsMoment moment history →
@@ -393,7 +421,7 @@ module _ (queue : FileQueue) (positive : 0 < queue.depth) where
     since _ now = sends_still there refl
     since _ (earlier step history past) = elim (since history past) [
       | sends_still place count ↦
-          let message = ((holds_after queue.scene history).each process (Sending party slot bucket lap) place).2 in
+          let message = filled_slot history process party slot bucket lap place in
           let same = count_kept history step slot lap bucket message ∙ count in
           elim (sender_after process party slot bucket lap queue.scene history step place) [
             | is_sending still ↦ sends_still still same
@@ -451,8 +479,8 @@ module _ (queue : FileQueue) (positive : 0 < queue.depth) where
       let start_holds = moments (post ∷ first) start_past in
       let posting = posting_of queue.scene first post process (slot_of queue older.ticket) one.lap one.fills one.outcome in
       let twice = posting_of queue.scene second again process (slot_of queue younger.ticket) two.lap two.fills two.outcome in
-      let message = ((holds_after queue.scene (post ∷ first)).each process
-      (Sending posting.party (slot_of queue older.ticket) posting.bucket one.lap) posting.sending).2 in
+      let message = filled_slot (post ∷ first) process posting.party (slot_of queue older.ticket) posting.bucket one.lap
+      posting.sending in
       let placed = start_holds.placed older one.listed in
       let words = one_value (state_after queue.scene (post ∷ first)).words.slots (slot_of queue older.ticket)
       (Message one.lap posting.bucket) (Message (lap_of queue older.ticket) older.bucket) message placed.word in
@@ -460,11 +488,11 @@ module _ (queue : FileQueue) (positive : 0 < queue.depth) where
       let buckets : posting.bucket ≡ older.bucket = cc in
       elim (since (post ∷ first) process posting.party (slot_of queue older.ticket) posting.bucket one.lap posting.sending second
       between) [
-        | sends_still place count ↦ let places = one_value (state_after queue.scene second).places process
-            (Sending posting.party (slot_of queue older.ticket) posting.bucket one.lap)
-            (Posting twice.party (slot_of queue younger.ticket) twice.bucket) place twice.posting in absurd (cc)
-        | dead place ↦ let places = one_value (state_after queue.scene second).places process Dead
-            (Posting twice.party (slot_of queue younger.ticket) twice.bucket) place twice.posting in absurd (cc)
+        | sends_still place count ↦ absurd (not_filled (state_after queue.scene second) process twice.party
+            (slot_of queue younger.ticket) twice.bucket posting.party (slot_of queue older.ticket) posting.bucket one.lap
+            twice.posting place)
+        | dead place ↦ absurd (not_dead (state_after queue.scene second) process twice.party (slot_of queue younger.ticket)
+            twice.bucket twice.posting place)
         | sent_at moment from to sent count ↦
             let past : IsMoment moment history = moment_of moment second history to second_past in
             let flag = ap (slice_get (state_after queue.scene moment).words.flags) (sym buckets) ∙ sent

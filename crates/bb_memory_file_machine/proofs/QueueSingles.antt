@@ -2,11 +2,11 @@
 use Rattle.bb_memory_file_machine.proofs.FileEffects.{one_value}
 use Rattle.bb_memory_file_machine.proofs.QueueChances.{look_now}
 use Rattle.bb_memory_file_machine.proofs.QueueCounts.{change_at, emptied, filled, kept}
-use Rattle.bb_memory_file_machine.proofs.QueueHistories.{posting_of, sent_in, take_of}
+use Rattle.bb_memory_file_machine.proofs.QueueHistories.{Empties, posting_of, sent_in, take_of}
 use Rattle.bb_memory_file_machine.proofs.QueueInvariant.{before_of}
 use Rattle.bb_memory_file_machine.specs.FileLaws.{IsSlot}
 use Rattle.bb_memory_file_machine.specs.FileMachine.{Done, Empty, FileStep, Fill, Message, OnSlot, Receives, Slot, Take}
-use Rattle.bb_memory_file_machine.specs.FileQueues.{FileQueue, History, IsLater, IsSlotOf, MayEmpty, MayFill, MayTake, Obey, StepObeys, lap_rule, lap_said, next_lap, outcome_after, queue_rules, slot_before, state_after, words_at}
+use Rattle.bb_memory_file_machine.specs.FileQueues.{FileQueue, History, IsLater, IsSlotOf, MayFill, MayTake, Obey, StepObeys, lap_rule, lap_said, next_lap, outcome_after, queue_rules, slot_before, state_after, words_at}
 use Rattle.bb_memory_lists.proofs.SliceGets.{slice_get-replicated}
 use Rattle.std.proofs.Common.{Bool, Some, [], ap, arith, false, refl, subst, sym, true, ℕ, ◌%◌, ◌+◌, ◌-◌, ◌/◌, ◌<◌, ◌∙◌, ◌∷◌, ◌≡◌}
 use Rattle.std.proofs.lemmas.Bool.{le-ltb}
@@ -22,12 +22,13 @@ module _ (queue : FileQueue) (single : queue.depth ≡ 1) where
       let two = ap (λ (n : ℕ). other / n) single in
       omega (arith, its, others, one, two)
 
-  may_empty : (history : History) (step : FileStep) (process party slot bucket next : ℕ) → step ≡ Done process party slot bucket next →
+  lap_follows : (history : History) (step : FileStep) (slot lap bucket next : ℕ) → Empties step slot lap next →
       outcome_after queue.scene history step ≡ OnSlot slot → StepObeys lap_rule queue history step → IsSlotOf queue slot →
-      MayEmpty (words_at queue.scene history) slot next
-  may_empty history step process party slot bucket next step_is said obeys its =
+      IsSlot (state_after queue.scene history).words slot (Message lap bucket) → next ≡ next_lap lap
+  lap_follows history step slot lap bucket next (inl (process, party, other, step_is)) said obeys its is =
       subst (StepObeys lap_rule queue history) step_is obeys its
-      (sym (ap (outcome_after queue.scene history) step_is) ∙ said)
+      (sym (ap (outcome_after queue.scene history) step_is) ∙ said) lap bucket is
+  lap_follows history step slot lap bucket next (inr same) said obeys its is = same
 
   -- the laps are those that come round
   laps_always : (history : History) → Obey lap_rule queue history → (slot : ℕ) → IsSlotOf queue slot → (word : Slot) →
@@ -40,10 +41,10 @@ module _ (queue : FileQueue) (single : queue.depth ≡ 1) where
     | filled process lap bucket step_is said empty there count ↦
         let same = one_value (state_after queue.scene (step ∷ history)).words.slots slot (Message lap bucket) word there is in
         subst (λ (w : Slot). lap_said w < 2 ^ 30) same (laps_always history obey slot its (Empty lap) empty)
-    | emptied process party lap bucket next step_is said held was there count ↦
+    | emptied lap bucket next how said was there count ↦
         let same = one_value (state_after queue.scene (step ∷ history)).words.slots slot (Empty next) word there is in
         let next_is : next ≡ next_lap lap =
-        may_empty history step process party slot bucket next step_is said last its lap bucket was in
+        lap_follows history step slot lap bucket next how said last its was in
         subst (λ (w : Slot). lap_said w < 2 ^ 30) same (omega (arith, next_is))
   ]
 

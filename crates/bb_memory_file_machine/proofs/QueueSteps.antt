@@ -1,9 +1,9 @@
 -- Each step that obeys the rules of a queue keeps what holds for the queue.
 use Rattle.bb_memory_file_machine.proofs.QueueCounts.{apart_from, counted_none, counted_not, counted_one, filled_no, filled_on, fills_emptied, fills_kept, fills_more, replaced}
-use Rattle.bb_memory_file_machine.proofs.QueueHistories.{SlotChange, change_after, empties_one, fills_one, keeps}
+use Rattle.bb_memory_file_machine.proofs.QueueHistories.{Empties, SlotChange, change_after, empties_one, fills_one, keeps}
 use Rattle.bb_memory_file_machine.specs.FileLaws.{IsSlot}
-use Rattle.bb_memory_file_machine.specs.FileMachine.{Done, Empty, FileOutcome, FileStep, FileWords, Fill, Message, OnSlot, Slot}
-use Rattle.bb_memory_file_machine.specs.FileQueues.{FileQueue, History, IsSlotOf, MayEmpty, MayFill, Posted, StepObeys, changed_by, changed_in, filled_after, fills, messages, outcome_after, posts, queue_rules, slot_of, state_after, words_at}
+use Rattle.bb_memory_file_machine.specs.FileMachine.{Empty, FileOutcome, FileStep, FileWords, Fill, Message, OnSlot, Slot}
+use Rattle.bb_memory_file_machine.specs.FileQueues.{FileQueue, History, IsSlotOf, MayFill, Posted, StepObeys, changed_by, changed_in, filled_after, fills, messages, next_lap, outcome_after, posts, queue_rules, slot_of, state_after, words_at}
 use Rattle.std.proofs.Common.{Bool, List, None, Option, Some, [], ap, filter, inl, inr, not, refl, subst, sym, ℕ, ◌++◌, ◌+◌, ◌/◌, ◌∙◌, ◌∷◌, ◌≡◌, ◌≢◌}
 use Rattle.std.proofs.lemmas.Bool.{cases_eq, eq-eqb, ne_eqb}
 use Rattle.std.specs.Prelude.{if◌then◌else◌, slice_get, ◌==◌}
@@ -69,7 +69,7 @@ module _ (queue : FileQueue) where
           messages queue (step ∷ history)
           ≡ messages queue history ++ record { ticket = posts queue history; bucket = bucket } ∷ [] → QueueChange
       -- a slot is emptied
-      ends_one : (process party slot lap bucket next : ℕ) → IsSlotOf queue slot → step ≡ Done process party slot bucket next →
+      ends_one : (slot lap bucket next : ℕ) → IsSlotOf queue slot → Empties step slot lap next →
           outcome_after queue.scene history step ≡ OnSlot slot → IsSlot words slot (Message lap bucket) →
           IsSlot later slot (Empty next) → Leaves slot →
           fills (words_at queue.scene) slot (step ∷ history) ≡ fills (words_at queue.scene) slot history →
@@ -111,7 +111,7 @@ module _ (queue : FileQueue) where
               (counted_not is_its (posts queue history) at found one (ne_eqb (at / queue.depth) queue.number not_its))
               (changed_off (posts queue history) at later outcome (messages queue history) said not_its)
         ]
-    queue_change_of (empties_one process party at bucket lap next step_is said is held slots) =
+    queue_change_of (empties_one at bucket lap next how said is slots) =
         let there : IsSlot later at (Empty next) =
         replaced queue.scene history step at (Message lap bucket) (Empty next) is slots in
         let none : found ≡ None = filled_on queue.scene history step at (Empty next) said there in
@@ -126,7 +126,7 @@ module _ (queue : FileQueue) where
         let next_is : posts queue (step ∷ history) ≡ posts queue history =
         counted_none is_its (posts queue history) found none in
         elim (cases_eq (at / queue.depth) queue.number) [
-          | inl its ↦ ends_one process party at lap bucket next its step_is said is there
+          | inl its ↦ ends_one at lap bucket next its how said is there
               record { words = λ slot in_queue. apart slot; counts = λ slot in_queue other. count slot } (count at) next_is
               (changed_on (posts queue history) at (Empty next) later outcome (messages queue history) said there its)
           | inr not_its ↦ rests (λ slot its. apart slot (other_slot at slot not_its its)) (λ slot its. count slot) next_is
@@ -144,8 +144,11 @@ module _ (queue : FileQueue) where
         subst (StepObeys queue_rules queue history) step_is obeys slot its
         (sym (ap (outcome_after queue.scene history) step_is) ∙ said)
 
-    pub may_empty : (process party slot bucket next : ℕ) → step ≡ Done process party slot bucket next → outcome ≡ OnSlot slot →
-        StepObeys queue_rules queue history step → IsSlotOf queue slot → MayEmpty (words_at queue.scene history) slot next
-    may_empty process party slot bucket next step_is said obeys its =
+    -- a slot that is emptied goes on with the lap that follows
+    pub lap_follows : (slot lap bucket next : ℕ) → Empties step slot lap next → outcome ≡ OnSlot slot →
+        StepObeys queue_rules queue history step → IsSlotOf queue slot → IsSlot words slot (Message lap bucket) →
+        next ≡ next_lap lap
+    lap_follows slot lap bucket next (inl (process, party, other, step_is)) said obeys its is =
         subst (StepObeys queue_rules queue history) step_is obeys its
-        (sym (ap (outcome_after queue.scene history) step_is) ∙ said)
+        (sym (ap (outcome_after queue.scene history) step_is) ∙ said) lap bucket is
+    lap_follows slot lap bucket next (inr same) said obeys its is = same

@@ -1,5 +1,5 @@
 -- The terms of the theorem about the words of a pool in a file, and about its processes.
-use Rattle.bb_memory_file_machine.specs.FileMachine.{AttachFrom, Clearing, Count, Counting, Dead, Detach, DetachedBy, Done, Empty, Entry, FileFlag, FileOutcome, FileScene, FileState, FileStep, FileWords, Flags, Free, GiveBack, HeldBy, In, Message, Next, Nowhere, OnEntry, OnFlag, OnLife, OnLock, OnSlot, Place, Posting, Receives, Sending, Sends, SentTo, Settled, Slot, TryAt, file_after, file_step, left_by, process_of, with_entry, with_flag, with_life, with_lock, with_slot}
+use Rattle.bb_memory_file_machine.specs.FileMachine.{Arriving, AttachFrom, Clearing, Count, Counting, Dead, Detach, DetachedBy, Done, Empty, Entry, FileFlag, FileOutcome, FileScene, FileState, FileStep, FileWords, Flags, ForwardedBy, Forwarding, Forwards, Free, GiveBack, HeldBy, In, Message, Next, Nowhere, OnEntry, OnFlag, OnLife, OnLock, OnSlot, Place, Posting, Receives, Sending, Sends, SentTo, Settled, Slot, TryAt, file_after, file_step, left_by, next_lap, process_of, with_entry, with_flag, with_life, with_lock, with_slot}
 use Rattle.std.specs.Prelude.{Contains, List, None, Option, Some, [], replicate, slice_get, ℕ, ◌<◌, ◌∷◌, ◌≡◌, ◌≢◌, ◌⊎◌}
 
 -- there is such a bucket, and its flag is this one
@@ -30,6 +30,29 @@ IsHolder words bucket party = IsFlag words bucket (HeldBy party)
 abbrev pub IsHeld : FileWords → ℕ → Type 0
 IsHeld words bucket = (party : ℕ) × IsHolder words bucket party
 
+-- the party that a flag says to hold its bucket, or None: a party that forwards a message holds its
+-- bucket, too
+abbrev pub holder_of : FileFlag → Option ℕ
+holder_of (HeldBy party) = Some party
+holder_of (ForwardedBy party slot) = Some party
+holder_of _ = None
+
+-- the party holds the bucket, and may be forwarding its message
+abbrev pub IsKeeper : FileWords → ℕ → ℕ → Type 0
+IsKeeper words bucket party = (flag : FileFlag) × IsFlag words bucket flag × (holder_of flag ≡ Some party)
+
+-- the party holds the bucket, and forwards its message to some slot
+abbrev pub IsForwarder : FileWords → ℕ → ℕ → Type 0
+IsForwarder words bucket party = (slot : ℕ) × IsFlag words bucket (ForwardedBy party slot)
+
+-- some party forwards the message in the bucket to this slot
+abbrev pub IsForwardedTo : FileWords → ℕ → ℕ → Type 0
+IsForwardedTo words bucket slot = (party : ℕ) × IsFlag words bucket (ForwardedBy party slot)
+
+-- some party forwards the message in the bucket
+abbrev pub IsForwarded : FileWords → ℕ → Type 0
+IsForwarded words bucket = (party : ℕ) × IsForwarder words bucket party
+
 -- some party has detached the bucket by its number
 abbrev pub IsDetached : FileWords → ℕ → Type 0
 IsDetached words bucket = (party : ℕ) × IsFlag words bucket (DetachedBy party)
@@ -51,6 +74,12 @@ IsSent words bucket =
 abbrev pub IsEntered : FileWords → ℕ → ℕ → Type 0
 IsEntered words bucket slot = (size : ℕ) × IsEntry words bucket (In slot size)
 
+-- the message in the bucket, which is forwarded to this slot, is in the slot that the entry names, or
+-- in this slot, or in both
+abbrev pub IsOnWay : FileWords → ℕ → ℕ → Type 0
+IsOnWay words bucket slot =
+    (from : ℕ) × IsEntered words bucket from × (IsIn words bucket from ⊎ IsIn words bucket slot)
+
 -- the bucket is free, or some party has detached it by its number
 abbrev pub IsIdle : FileWords → ℕ → Type 0
 IsIdle words bucket = IsFlag words bucket Free ⊎ IsDetached words bucket
@@ -63,6 +92,8 @@ IsPlace state process place = slice_get state.places process ≡ Some place
 abbrev pub number_of : Place → Option ℕ
 number_of (Posting party slot bucket) = Some party
 number_of (Sending party slot bucket lap) = Some party
+number_of (Forwarding party slot bucket) = Some party
+number_of (Arriving party slot bucket lap) = Some party
 number_of (Clearing party bucket) = Some party
 number_of (Counting party) = Some party
 number_of (Flags party bucket) = Some party
@@ -76,6 +107,7 @@ abbrev pub ChangesNone : FileOutcome → Type 0
 ChangesNone (OnFlag step) = ⊥
 ChangesNone (Sends bucket party) = ⊥
 ChangesNone (Receives slot bucket party) = ⊥
+ChangesNone (Forwards bucket party) = ⊥
 ChangesNone (OnEntry bucket) = ⊥
 ChangesNone (OnSlot slot) = ⊥
 ChangesNone (OnLock party) = ⊥
@@ -129,6 +161,34 @@ pub data Effect (words : FileWords) (process : ℕ) : FileOutcome → FileWords 
   -- the party empties a slot whose bucket it holds
   empties : (party slot bucket lap next : ℕ) → IsLock words party process → IsHolder words bucket party →
       IsSlot words slot (Message lap bucket) → Effect words process (OnSlot slot) (with_slot words slot (Empty next))
+  -- the party begins to forward the message in its bucket from the slot that has it to another one
+  forwards : (party bucket from slot lap : ℕ) → IsLock words party process → IsHolder words bucket party →
+      IsSlot words from (Message lap bucket) → from ≢ slot →
+      Effect words process (Forwards bucket party) (with_flag words bucket (ForwardedBy party slot))
+  -- the party forwards the message in its bucket no more, as the slot hasn't the bucket
+  holds_again : (party bucket slot : ℕ) → IsLock words party process → IsFlag words bucket (ForwardedBy party slot) →
+      ¬ IsIn words bucket slot → Effect words process (Forwards bucket party) (with_flag words bucket (HeldBy party))
+  -- the party fills an empty slot with the bucket whose message it forwards there
+  brings : (party slot bucket lap : ℕ) → IsLock words party process → IsFlag words bucket (ForwardedBy party slot) →
+      IsSlot words slot (Empty lap) → Effect words process (OnSlot slot) (with_slot words slot (Message lap bucket))
+  -- the slot that had the message before is emptied, and goes on with the next lap: the slot to which
+  -- the party forwards the message has it, too
+  vacates : (party slot bucket lap from old : ℕ) → IsLock words party process →
+      IsFlag words bucket (ForwardedBy party slot) → IsSlot words slot (Message lap bucket) →
+      IsSlot words from (Message old bucket) → from ≢ slot →
+      Effect words process (OnSlot from) (with_slot words from (Empty (next_lap old)))
+  -- the entry of the bucket, which named a slot that hasn't the bucket any more, names the slot to which
+  -- the party forwards the message, and which has it
+  renames : (party slot bucket lap from size : ℕ) → IsLock words party process →
+      IsFlag words bucket (ForwardedBy party slot) → IsSlot words slot (Message lap bucket) →
+      IsEntry words bucket (In from size) → ¬ IsIn words bucket from →
+      Effect words process (OnEntry bucket) (with_entry words bucket (In slot size))
+  -- the bucket whose message the party forwards is sent to the slot, which has it, and which its entry
+  -- names
+  arrives : (party bucket slot lap size : ℕ) → IsLock words party process →
+      IsFlag words bucket (ForwardedBy party slot) → IsSlot words slot (Message lap bucket) →
+      IsEntry words bucket (In slot size) →
+      Effect words process (Sends bucket party) (with_flag words bucket (SentTo slot lap))
 
 -- PROMISES
 
@@ -153,6 +213,17 @@ pub record SaysDone (state : FileState) (step : FileStep) (slot bucket : ℕ) : 
   pub lock : IsLock state.words party (process_of step)
   pub holder : IsHolder state.words bucket party
 
+-- By this step the message leaves the slot for another one, which already has it: one of the
+-- process's parties forwards the message there.
+pub record IsForwardedFrom (state : FileState) (step : FileStep) (slot bucket : ℕ) : Type 0 where
+  pub party : ℕ
+  pub other : ℕ
+  pub lap : ℕ
+  pub lock : IsLock state.words party (process_of step)
+  pub flag : IsFlag state.words bucket (ForwardedBy party other)
+  pub there : IsSlot (file_step state step).state.words other (Message lap bucket)
+  pub apart : slot ≢ other
+
 -- some process that isn't dead has the number's lock
 abbrev pub IsAlive : FileState → ℕ → Type 0
 IsAlive state party = (process : ℕ) × IsLock state.words party process × (¬ IsPlace state process Dead)
@@ -160,11 +231,11 @@ IsAlive state party = (process : ℕ) × IsLock state.words party process × (¬
 -- Each number that holds a bucket is alive: its lock belongs to its own process, or to a settler
 -- that may not have come to the bucket yet.
 abbrev pub AreSettled : FileState → Type 0
-AreSettled state = (bucket party : ℕ) → IsHolder state.words bucket party → IsAlive state party
+AreSettled state = (bucket party : ℕ) → IsKeeper state.words bucket party → IsAlive state party
 
--- a living party holds the bucket
+-- a living party holds the bucket, and may be forwarding its message
 abbrev pub IsHeldAlive : FileState → ℕ → Type 0
-IsHeldAlive state bucket = (party : ℕ) × IsHolder state.words bucket party × IsAlive state party
+IsHeldAlive state bucket = (party : ℕ) × IsKeeper state.words bucket party × IsAlive state party
 
 -- the bucket is free, held by a living party, sent to a slot that has it, or detached by its number
 abbrev pub IsAccountedFor : FileState → ℕ → Type 0

@@ -3,18 +3,18 @@
 pub use Rattle.bb_memory_file_machine.specs.declared.steps.file.Entry.{Entry}
 pub use Rattle.bb_memory_file_machine.specs.declared.steps.file.Entry.TheVariants.{In, Nowhere}
 pub use Rattle.bb_memory_file_machine.specs.declared.steps.file.FileFlag.{FileFlag}
-pub use Rattle.bb_memory_file_machine.specs.declared.steps.file.FileFlag.TheVariants.{DetachedBy, Free, HeldBy, SentTo}
+pub use Rattle.bb_memory_file_machine.specs.declared.steps.file.FileFlag.TheVariants.{DetachedBy, ForwardedBy, Free, HeldBy, SentTo}
 pub use Rattle.bb_memory_file_machine.specs.declared.steps.file.FileOutcome.{FileOutcome}
-pub use Rattle.bb_memory_file_machine.specs.declared.steps.file.FileOutcome.TheVariants.{Dies, Moves, OnEntry, OnFlag, OnLife, OnLock, OnSlot, Receives, Refused, Sends}
+pub use Rattle.bb_memory_file_machine.specs.declared.steps.file.FileOutcome.TheVariants.{Dies, Forwards, Moves, OnEntry, OnFlag, OnLife, OnLock, OnSlot, Receives, Refused, Sends}
 pub use Rattle.bb_memory_file_machine.specs.declared.steps.file.FileStep.{FileStep}
-pub use Rattle.bb_memory_file_machine.specs.declared.steps.file.FileStep.TheVariants.{Allocate, AttachNumber, Count, Deallocate, DetachNumber, Done, Fill, Kill, Leave, Lock, Next, Post, PutBack, Recover, Release, Take, Unlock}
+pub use Rattle.bb_memory_file_machine.specs.declared.steps.file.FileStep.TheVariants.{Allocate, AttachNumber, Count, Deallocate, DetachNumber, Done, Fill, Forward, Kill, Leave, Lock, Next, Post, PutBack, Recover, Release, Take, Unlock}
 pub use Rattle.bb_memory_file_machine.specs.declared.steps.file.Place.{Place}
-pub use Rattle.bb_memory_file_machine.specs.declared.steps.file.Place.TheVariants.{Clearing, Counting, Dead, Flags, Outside, Posting, Sending, Settled}
+pub use Rattle.bb_memory_file_machine.specs.declared.steps.file.Place.TheVariants.{Arriving, Clearing, Counting, Dead, Flags, Forwarding, Outside, Posting, Sending, Settled}
 pub use Rattle.bb_memory_file_machine.specs.declared.steps.file.Slot.{Slot}
 pub use Rattle.bb_memory_file_machine.specs.declared.steps.file.Slot.TheVariants.{Empty, Message}
 pub use Rattle.bb_memory_pool_machine.specs.declared.steps.pool.PoolStep.{PoolStep}
 pub use Rattle.bb_memory_pool_machine.specs.declared.steps.pool.PoolStep.TheVariants.{AttachFrom, Detach, GiveBack, TryAt}
-use Rattle.std.specs.Prelude.{Bool, List, None, Option, Some, [], false, if◌then◌else◌, length, nat_lt, replicate, slice_get, slice_set, true, zero, ℕ, ◌+◌, ◌==◌, ◌∷◌}
+use Rattle.std.specs.Prelude.{Bool, List, None, Option, Some, [], false, if◌then◌else◌, length, nat_lt, replicate, slice_get, slice_set, true, zero, ℕ, ◌%◌, ◌+◌, ◌==◌, ◌^◌, ◌∷◌}
 
 -- WORDS
 
@@ -85,6 +85,7 @@ same_flag Free Free = true
 same_flag (HeldBy party) (HeldBy other) = party == other
 same_flag (DetachedBy party) (DetachedBy other) = party == other
 same_flag (SentTo slot lap) (SentTo other same) = if slot == other then lap == same else false
+same_flag (ForwardedBy party slot) (ForwardedBy other same) = if party == other then slot == same else false
 same_flag _ _ = false
 
 -- the flag that was found is this one
@@ -113,6 +114,10 @@ finds_empty lap _ = false
 -- there is such a slot, and it is empty at this lap
 abbrev pub is_empty : FileWords → ℕ → ℕ → Bool
 is_empty words slot lap = finds_empty lap (slice_get words.slots slot)
+
+-- the lap that follows this one
+abbrev pub next_lap : ℕ → ℕ
+next_lap lap = (lap + 1) % 2 ^ 30
 
 -- the lap at which the slot with this word has the bucket, or None if it hasn't
 abbrev pub lap_in : ℕ → Option Slot → Option ℕ
@@ -176,6 +181,10 @@ giving_back words party bucket next = move_of (OnFlag (GiveBack party bucket)) (
 -- the party sends a bucket to a slot that has it
 abbrev pub sending : FileWords → ℕ → ℕ → ℕ → ℕ → Place → FileMove
 sending words party bucket slot lap next = move_of (Sends bucket party) (with_flag words bucket (SentTo slot lap)) next
+
+-- the party, which forwards the message in a bucket, or doesn't any more, writes the bucket's flag
+abbrev pub forwarding : FileWords → ℕ → ℕ → FileFlag → Place → FileMove
+forwarding words party bucket flag next = move_of (Forwards bucket party) (with_flag words bucket flag) next
 
 -- the bucket's entry says from now on that the bucket is in no slot
 abbrev pub clearing : FileWords → ℕ → Place → FileMove
@@ -258,12 +267,16 @@ post words process place party slot bucket length =
     then move_of (OnEntry bucket) (with_entry words bucket (In slot length)) (Posting party slot bucket)
     else refused words place) else refused words place
 
--- a post fills its slot, which is empty at this lap
+-- a post, or a forward, fills its slot, which is empty at this lap
 abbrev pub fill : FileWords → Place → ℕ → FileMove
 fill words (Posting party slot bucket) lap =
     if is_empty words slot lap
     then move_of (OnSlot slot) (with_slot words slot (Message lap bucket)) (Sending party slot bucket lap)
     else refused words (Posting party slot bucket)
+fill words (Forwarding party slot bucket) lap =
+    if is_empty words slot lap
+    then move_of (OnSlot slot) (with_slot words slot (Message lap bucket)) (Arriving party slot bucket lap)
+    else refused words (Forwarding party slot bucket)
 fill words place lap = refused words place
 
 -- a party takes a message, `bb_pool_file_take`: it takes the bucket that is sent to this slot at this
@@ -301,6 +314,40 @@ put_back words process place party slot bucket =
     then put_back_at words place party slot bucket (lap_of words slot bucket)
     else refused words place) else refused words place
 
+-- FORWARDS
+
+-- a party marks a bucket in whose slot it has found this lap: it forwards the message to another slot
+abbrev pub forward_at : FileWords → Place → ℕ → ℕ → ℕ → Option ℕ → FileMove
+forward_at words place party slot bucket (Some lap) =
+    forwarding words party bucket (ForwardedBy party slot) (Forwarding party slot bucket)
+forward_at words place party slot bucket None = refused words place
+
+-- A party begins to forward a message that it has taken, and isn't done with, from its slot to another
+-- one: `bb_pool_file_forward`. From now on the flag says where the message is to go. No other call does
+-- anything with the bucket until the forward ends.
+abbrev pub forward : FileWords → ℕ → Place → ℕ → ℕ → ℕ → ℕ → FileMove
+forward words process place party from slot bucket =
+    if may_call words process place party then (if is_flag words bucket (HeldBy party)
+    then (if from == slot then refused words place
+    else forward_at words place party slot bucket (lap_of words from bucket))
+    else refused words place) else refused words place
+
+-- A forward, or a settler that ends it, has filled the slot with the bucket, and has found whether
+-- another slot, which the entry names, has the bucket, too. If so, that slot is emptied, and goes on
+-- with the next lap. If not, the entry is written, so that it names the slot.
+abbrev pub leave_slot : FileWords → ℕ → ℕ → ℕ → ℕ → Place → Option ℕ → FileMove
+leave_slot words bucket slot from length place (Some lap) =
+    move_of (OnSlot from) (with_slot words from (Empty (next_lap lap))) place
+leave_slot words bucket slot from length place None = move_of (OnEntry bucket) (with_entry words bucket (In slot length)) place
+
+-- A forward, or a settler that ends it, has filled the slot with the bucket at this lap, and has found
+-- this entry. If the entry names the slot, the bucket is sent there, and the process goes on at `next`.
+abbrev pub arrive : FileWords → ℕ → ℕ → ℕ → ℕ → Place → Place → Option Entry → FileMove
+arrive words party bucket slot lap place next (Some (In from length)) =
+    if from == slot then sending words party bucket slot lap next
+    else leave_slot words bucket slot from length place (lap_of words from bucket)
+arrive words party bucket slot lap place next _ = sending words party bucket slot lap next
+
 -- SETTLERS
 
 -- A settler attaches a bucket that the settled number had detached: `bb_pool_file_reap`, if it is to
@@ -323,26 +370,44 @@ abbrev pub settle_entry : FileWords → ℕ → ℕ → Option Entry → FileMov
 settle_entry words party bucket (Some (In slot length)) = settle_at words party bucket slot (lap_of words slot bucket)
 settle_entry words party bucket _ = giving_back words party bucket (Flags party (bucket + 1))
 
+-- A settler has found that the number forwards the message in this bucket to this slot. If the slot
+-- has the bucket, the settler ends the forward. If not, the number holds the bucket as before.
+abbrev pub settle_forward_at : FileWords → ℕ → ℕ → ℕ → Option ℕ → FileMove
+settle_forward_at words party bucket slot (Some lap) =
+    arrive words party bucket slot lap (Flags party bucket) (Flags party (bucket + 1)) (slice_get words.entries bucket)
+settle_forward_at words party bucket slot None = forwarding words party bucket (HeldBy party) (Flags party bucket)
+
+-- a settler has found this flag, which doesn't say that the number holds the bucket
+abbrev pub settle_forward : FileWords → ℕ → ℕ → Option FileFlag → FileMove
+settle_forward words party bucket (Some (ForwardedBy other slot)) =
+    if other == party then settle_forward_at words party bucket slot (lap_of words slot bucket)
+    else move_of Moves words (Flags party (bucket + 1))
+settle_forward words party bucket _ = move_of Moves words (Flags party (bucket + 1))
+
 -- A settler gives back the bucket if the settled number holds it, and it is in no slot; if a slot
--- has it, the settler sends it there. It may test several words, and write one, since nobody else
--- writes the flag or the entry of a bucket that the settled number holds, or the word of a slot that
--- has it.
+-- has it, the settler sends it there. It ends a forward of the settled number. It may test several
+-- words, and write one, since nobody else writes the flag or the entry of a bucket that the settled
+-- number holds, or the word of a slot that has it.
 abbrev pub settle_flag : FileWords → ℕ → ℕ → FileMove
 settle_flag words party bucket =
     if is_flag words bucket (HeldBy party) then settle_entry words party bucket (slice_get words.entries bucket)
-    else move_of Moves words (Flags party (bucket + 1))
+    else settle_forward words party bucket (slice_get words.flags bucket)
 
 -- THE NEXT STEP
 
 -- The next step of the call that the process is in. `Posting` and `Sending` are places in
--- `bb_pool_file_post`, and `Clearing` is one in `bb_pool_file_done`; the others are places of a
--- settler. A process at `Posting` that can't fill its slot clears the entry. A process at `Counting`
--- takes no next step: it counts.
+-- `bb_pool_file_post`, `Forwarding` and `Arriving` are places in `bb_pool_file_forward`, and `Clearing`
+-- is one in `bb_pool_file_done`; the others are places of a settler. A process at `Posting` that can't
+-- fill its slot clears the entry, and one at `Forwarding` holds the bucket as before. A process at
+-- `Counting` takes no next step: it counts.
 abbrev pub next : FileWords → Place → FileMove
 next words Outside = refused words Outside
 next words Dead = refused words Dead
 next words (Posting party slot bucket) = clearing words bucket Outside
 next words (Sending party slot bucket lap) = sending words party bucket slot lap Outside
+next words (Forwarding party slot bucket) = forwarding words party bucket (HeldBy party) Outside
+next words (Arriving party slot bucket lap) =
+    arrive words party bucket slot lap (Arriving party slot bucket lap) Outside (slice_get words.entries bucket)
 next words (Clearing party bucket) = clearing words bucket Outside
 next words (Counting party) = refused words (Counting party)
 next words (Flags party bucket) =
@@ -380,6 +445,7 @@ process_of (Deallocate process party bucket) = process
 process_of (DetachNumber process party bucket) = process
 process_of (AttachNumber process party bucket from) = process
 process_of (Post process party slot bucket length) = process
+process_of (Forward process party from slot bucket) = process
 process_of (Fill process lap) = process
 process_of (Take process party slot bucket lap) = process
 process_of (Done process party slot bucket lap) = process
@@ -400,6 +466,7 @@ move_at words place (Deallocate process party bucket) = deallocate words process
 move_at words place (DetachNumber process party bucket) = detach_number words process place party bucket
 move_at words place (AttachNumber process party bucket from) = attach_number words process place party bucket from
 move_at words place (Post process party slot bucket length) = post words process place party slot bucket length
+move_at words place (Forward process party from slot bucket) = forward words process place party from slot bucket
 move_at words place (Fill process lap) = fill words place lap
 move_at words place (Take process party slot bucket lap) = take words process place party slot bucket lap
 move_at words place (Done process party slot bucket next) = done words process place party slot bucket next

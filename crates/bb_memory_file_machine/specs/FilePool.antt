@@ -1,6 +1,6 @@
 -- The flags of a pool in a file are those of a shared pool, whose parties are the file's numbers.
-use Rattle.bb_memory_file_machine.specs.FileLaws.{IsDetached, IsHeld, IsSent}
-use Rattle.bb_memory_file_machine.specs.FileMachine.{AttachFrom, Detach, DetachedBy, FileFlag, FileOutcome, FileScene, FileStep, FileWords, Free, HeldBy, OnFlag, PoolStep, Receives, Sends, SentTo, left_by, opening_state, outcomes_of}
+use Rattle.bb_memory_file_machine.specs.FileLaws.{IsDetached, IsForwarded, IsHeld, IsSent}
+use Rattle.bb_memory_file_machine.specs.FileMachine.{AttachFrom, Detach, DetachedBy, FileFlag, FileOutcome, FileScene, FileStep, FileWords, ForwardedBy, Free, HeldBy, OnFlag, PoolStep, Receives, Sends, SentTo, left_by, opening_state, outcomes_of}
 use Rattle.bb_memory_pool_machine.specs.PoolLogs.{AllAllowed, history_of}
 use Rattle.bb_memory_pool_machine.specs.PoolMachine.{PoolScene}
 use Rattle.bb_memory_pool_machine.specs.PoolMachine as pools
@@ -30,6 +30,7 @@ pool_flag nobody Free = flags.Free
 pool_flag nobody (HeldBy party) = flags.HeldBy party
 pool_flag nobody (DetachedBy party) = flags.DetachedBy party
 pool_flag nobody (SentTo slot lap) = flags.DetachedBy nobody
+pool_flag nobody (ForwardedBy party slot) = flags.HeldBy party
 
 -- The shared pool over the file's flags. Its parties are the file's numbers and one more, which no
 -- party has: messages in slots are detached by it.
@@ -43,6 +44,7 @@ pub record IsPool (scene : FileScene) (steps : List FileStep) (geometry : PoolGe
   pub flags : (pools.left_by (pool_of scene geometry) (flag_steps scene steps)).flags
       ≡ map (pool_flag scene.parties) (left_by scene steps).words.flags
 
--- some party holds the bucket, or has detached it, or it is sent to a slot
+-- some party holds the bucket, or forwards its message, or has detached it, or it is sent to a slot
 abbrev pub IsTaken : FileWords → ℕ → Type 0
-IsTaken words bucket = IsHeld words bucket ⊎ (IsDetached words bucket ⊎ IsSent words bucket)
+IsTaken words bucket =
+    IsHeld words bucket ⊎ (IsDetached words bucket ⊎ (IsSent words bucket ⊎ IsForwarded words bucket))

@@ -6,6 +6,7 @@
 -- the slot. No word of the file says which ticket is next: senders and receivers look at the slots.
 use Rattle.bb_memory_file_machine.specs.FileLaws.{IsFlag, IsSlot}
 use Rattle.bb_memory_file_machine.specs.FileMachine.{Done, Empty, FileOutcome, FileScene, FileState, FileStep, FileWords, Fill, Message, OnSlot, Receives, Sends, SentTo, Slot, Take, file_step, opening_state}
+pub use Rattle.bb_memory_file_machine.specs.FileMachine.{next_lap}
 use Rattle.std.specs.Prelude.{Bool, Contains, List, None, Option, Some, [], false, filter, if◌then◌else◌, nat_lt, not, slice_get, true, ℕ, ◌%◌, ◌*◌, ◌++◌, ◌+◌, ◌-◌, ◌/◌, ◌<◌, ◌==◌, ◌^◌, ◌∷◌, ◌≡◌, ◌≢◌, ◌≤◌, ◌⊎◌}
 
 -- HISTORIES
@@ -121,10 +122,6 @@ AreInOrder low [] high = low ≤ high
 AreInOrder low (posted ∷ held) high = (low ≤ posted.ticket) × AreInOrder (posted.ticket + 1) held high
 
 -- LAPS
-
--- the lap that follows this one
-abbrev pub next_lap : ℕ → ℕ
-next_lap lap = (lap + 1) % 2 ^ 30
 
 -- the other lap is later: it is in the half of all laps that follows this one
 abbrev pub IsLater : ℕ → ℕ → Type 0

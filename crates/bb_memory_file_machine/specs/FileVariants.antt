@@ -1,8 +1,8 @@
 -- Protocols that differ from the machine's at one step, and what goes wrong with each.
-use Rattle.bb_memory_file_machine.specs.FileLaws.{HasCounted, IsFlag, IsHolder, IsIn, IsInCallBy, IsInSome, IsLock}
-use Rattle.bb_memory_file_machine.specs.FileMachine.{Deallocate, Detach, DetachNumber, DetachedBy, Done, Entry, FileChange, FileFlag, FileMove, FileOutcome, FileScene, FileState, FileStep, FileWords, Fill, Flags, Free, HeldBy, In, Leave, Lock, Moves, Next, OnEntry, OnFlag, OnLock, OnSlot, Outside, Place, Post, Posting, Receives, Recover, Refused, SentTo, Take, attaching, change_by, clearing, done, fill, finds_free, giving_back, is_flag, may_call, move_at, move_of, opening_state, process_of, sending, with_entry, with_flag, with_lock}
+use Rattle.bb_memory_file_machine.specs.FileLaws.{HasCounted, IsFlag, IsForwarded, IsForwarder, IsHolder, IsIn, IsInCallBy, IsInSome, IsLock, IsPlace}
+use Rattle.bb_memory_file_machine.specs.FileMachine.{Arriving, Deallocate, Detach, DetachNumber, DetachedBy, Done, Empty, Entry, FileChange, FileFlag, FileMove, FileOutcome, FileScene, FileState, FileStep, FileWords, Fill, Flags, Forward, ForwardedBy, Forwards, Free, HeldBy, In, Leave, Lock, Moves, Next, OnEntry, OnFlag, OnLock, OnSlot, Outside, Place, Post, Posting, Receives, Recover, Refused, SentTo, Take, attaching, change_by, clearing, done, fill, finds_free, forward, forwarding, giving_back, is_flag, may_call, move_at, move_of, opening_state, process_of, sending, with_entry, with_flag, with_lock, with_slot}
 use Rattle.bb_memory_file_machine.specs.FileMachine as machine
-use Rattle.std.specs.Prelude.{Bool, List, None, Option, Some, [], false, if◌then◌else◌, slice_get, true, ℕ, ◌∷◌, ◌≡◌, ◌≢◌}
+use Rattle.std.specs.Prelude.{Bool, List, None, Option, Some, [], false, if◌then◌else◌, slice_get, true, ℕ, ◌+◌, ◌==◌, ◌∷◌, ◌≡◌, ◌≢◌}
 
 -- a protocol: its move at each step at which it differs from the machine, and None at all other
 -- steps
@@ -87,7 +87,61 @@ detach_undone words Outside (DetachNumber process party bucket) =
     (move_of (OnFlag (Detach party bucket)) (with_flag words bucket (DetachedBy party)) Outside)
 detach_undone words place step = None
 
+-- FORWARDS
+
+-- the outcome says that a party begins to forward a message
+abbrev pub begins_forward : FileOutcome → Bool
+begins_forward (Forwards bucket party) = true
+begins_forward outcome = false
+
+-- the move of a forward that empties the slot that has the message before it has filled the other one, if
+-- its process is killed next; `marking` is the machine's move, whose tests stay
+abbrev pub empty_before : FileWords → ℕ → FileMove → FileMove
+empty_before words from marking =
+    if begins_forward marking.outcome then move_of (OnSlot from) (with_slot words from (Empty 1)) machine.Dead else marking
+
+-- a forward empties the slot that has the message before it fills the other one, and its process is killed
+-- in between
+abbrev pub forward_empties_first : Variant
+forward_empties_first words Outside (Forward process party from slot bucket) =
+    Some (empty_before words from (forward words process Outside party from slot bucket))
+forward_empties_first words place step = None
+
+-- the move by which a forward writes the entry, if it names another slot than this one
+abbrev pub enter_before : FileWords → ℕ → ℕ → Place → Option Entry → Option FileMove
+enter_before words bucket slot place (Some (In from size)) =
+    if from == slot then None else Some (move_of (OnEntry bucket) (with_entry words bucket (In slot size)) place)
+enter_before words bucket slot place _ = None
+
+-- a forward writes the entry before it empties the slot that the entry names
+abbrev pub forward_enters_first : Variant
+forward_enters_first words (Arriving party slot bucket lap) (Next process) =
+    enter_before words bucket slot (Arriving party slot bucket lap) (slice_get words.entries bucket)
+forward_enters_first words place step = None
+
 -- SETTLERS
+
+-- the move by which a settler passes a bucket with this flag, if a party forwards its message
+abbrev pub skip_forward : FileWords → ℕ → ℕ → Option FileFlag → Option FileMove
+skip_forward words party bucket (Some (ForwardedBy other slot)) = Some (move_of Moves words (Flags party (bucket + 1)))
+skip_forward words party bucket _ = None
+
+-- a settler doesn't end the forwards of the number
+abbrev pub settle_skips_forwards : Variant
+settle_skips_forwards words (Flags party bucket) (Next process) = skip_forward words party bucket (slice_get words.flags bucket)
+settle_skips_forwards words place step = None
+
+-- the move by which a settler takes back a bucket with this flag, if a party forwards its message, without
+-- a look at the slot
+abbrev pub take_back : FileWords → ℕ → ℕ → Option FileFlag → Option FileMove
+take_back words party bucket (Some (ForwardedBy other slot)) =
+    Some (forwarding words party bucket (HeldBy party) (Flags party bucket))
+take_back words party bucket _ = None
+
+-- a settler takes back each message that the number forwards, without a look at the slot
+abbrev pub settle_takes_back_blindly : Variant
+settle_takes_back_blindly words (Flags party bucket) (Next process) = take_back words party bucket (slice_get words.flags bucket)
+settle_takes_back_blindly words place step = None
 
 -- The move by which a settler takes back a bucket with this flag, whoever has sent or detached it.
 -- The settler frees a bucket that is sent, and attaches one that is detached, which it frees next.
@@ -180,7 +234,7 @@ pub record DetachesMessage (variant : Variant) : Type 0 where
   pub has : IsInSome (wrong_left_by variant scene steps).words bucket
   pub detached : IsFlag (wrong_left_by variant scene steps).words bucket (DetachedBy party)
 
--- after some steps of the variant a bucket is in two slots
+-- after some steps of the variant a bucket is in two slots, and nobody forwards its message
 pub record IsInTwo (variant : Variant) : Type 0 where
   pub scene : FileScene
   pub steps : List FileStep
@@ -190,6 +244,29 @@ pub record IsInTwo (variant : Variant) : Type 0 where
   pub one : IsIn (wrong_left_by variant scene steps).words bucket slot
   pub two : IsIn (wrong_left_by variant scene steps).words bucket other
   pub apart : slot ≢ other
+  pub still : ¬ IsForwarded (wrong_left_by variant scene steps).words bucket
+
+-- by a step of the variant, which doesn't say that a party is done with the message in a slot, the message
+-- leaves the slot, and then no slot has it
+pub record LosesMessage (variant : Variant) : Type 0 where
+  pub scene : FileScene
+  pub steps : List FileStep
+  pub step : FileStep
+  pub slot : ℕ
+  pub bucket : ℕ
+  pub has : IsIn (wrong_left_by variant scene steps).words bucket slot
+  pub gone : ¬ IsInSome (wrong_step variant (wrong_left_by variant scene steps) step).state.words bucket
+  pub undone : (process party next : ℕ) → step ≢ Done process party slot bucket next
+
+-- after some steps of the variant a settler is done, and the settled number still forwards a message
+pub record LeavesForward (variant : Variant) : Type 0 where
+  pub scene : FileScene
+  pub steps : List FileStep
+  pub process : ℕ
+  pub party : ℕ
+  pub bucket : ℕ
+  pub settled : IsPlace (wrong_left_by variant scene steps) process (machine.Settled party)
+  pub forwarder : IsForwarder (wrong_left_by variant scene steps).words bucket party
 
 -- after some steps of the variant a process receives a message from a slot that hasn't its bucket
 pub record ReceivesAnothers (variant : Variant) : Type 0 where

@@ -1,13 +1,13 @@
 //! The steps of the machine of a pool in a file, and the theorem about every list of them.
-ghost use Rattle.bb_memory_file_machine.specs.FileLaws.{AreSettled, CanCount, CanSettle, Effect, HasCounted, HasReceived, HasTaken, IsAccountedFor, IsEntered, IsEntry, IsFlag, IsHeld, IsHolder, IsIdle, IsIn, IsInCallBy, IsLife, IsLock, IsPlace, IsSettling, IsSlot, SaysDone, StaysIn, after_fill};
-ghost use Rattle.bb_memory_file_machine.specs.FileMachine.{Counting, DetachNumber, DetachedBy, Done, Entry, FileScene, FileStep, Fill, Lock, Message, Nowhere, OnLock, OnSlot, Outside, Place, Receives, SentTo, Settled, file_after, file_step, left_by, outcomes_of, process_of};
+ghost use Rattle.bb_memory_file_machine.specs.FileLaws.{AreSettled, CanCount, CanSettle, Effect, HasCounted, HasReceived, HasTaken, IsAccountedFor, IsEntered, IsEntry, IsFlag, IsForwarded, IsForwardedFrom, IsForwardedTo, IsHeld, IsHolder, IsIdle, IsIn, IsInCallBy, IsKeeper, IsLife, IsLock, IsOnWay, IsPlace, IsSettling, IsSlot, SaysDone, StaysIn, after_fill, holder_of};
+ghost use Rattle.bb_memory_file_machine.specs.FileMachine.{Counting, DetachNumber, DetachedBy, Done, Entry, FileFlag, FileScene, FileStep, Fill, ForwardedBy, Lock, Message, Nowhere, OnLock, OnSlot, Outside, Place, Receives, SentTo, Settled, file_after, file_step, left_by, outcomes_of, process_of};
 ghost use Rattle.bb_memory_file_machine.specs.FilePool.{IsPool, IsTaken, flag_steps, pool_of};
-ghost use Rattle.bb_memory_file_machine.specs.FileVariants.{DetachesMessage, FreesMessage, IsInTwo, LosesBucket, ReceivesAnothers, SharesLife, SharesNumber, TakesAway, deallocate_undone, detach_undone, done_clears_first, join_counts_not, post_fills_first, post_undone, reaps_the_living, recover_any, send_then_fill, settle_sends_blindly, settle_skips_entries, take_any, unlock_before};
+ghost use Rattle.bb_memory_file_machine.specs.FileVariants.{DetachesMessage, FreesMessage, IsInTwo, LeavesForward, LosesBucket, LosesMessage, ReceivesAnothers, SharesLife, SharesNumber, TakesAway, deallocate_undone, detach_undone, done_clears_first, forward_empties_first, forward_enters_first, join_counts_not, post_fills_first, post_undone, reaps_the_living, recover_any, send_then_fill, settle_sends_blindly, settle_skips_entries, settle_skips_forwards, settle_takes_back_blindly, take_any, unlock_before};
 ghost use Rattle.bb_memory_pool_machine.specs.PoolLogs.{AreAsked, IsPoolRun, Layout};
 ghost use Rattle.bb_memory_traits.specs.Chunk.{Chunk, IsSound};
 ghost use Rattle.bb_memory_traits.specs.PoolObject.{IsPoolGeometry, PoolGeometry};
 ghost use Rattle.bb_memory_traits.specs.PoolObject as objects;
-ghost use Rattle.std.specs.Prelude.{List, ℕ, ◌<◌, ◌↔◌, ◌≡◌, ◌≢◌, ◌≤◌, ◌⊎◌};
+ghost use Rattle.std.specs.Prelude.{List, Some, ℕ, ◌<◌, ◌↔◌, ◌≡◌, ◌≢◌, ◌≤◌, ◌⊎◌};
 
 use bb_memory_pool_machine::steps::PoolStep;
 
@@ -22,6 +22,9 @@ pub enum FileFlag {
     DetachedBy(u32),
     /// The bucket has a message, which is sent to this slot at this lap.
     SentTo { slot: u32, lap: u32 },
+    /// The party with this number holds the bucket, and forwards its message to this slot. The
+    /// message is in the slot that the entry names, or in this slot, or in both.
+    ForwardedBy { party: u32, slot: u32 },
 }
 
 /// The entry of a bucket, which whoever holds the bucket writes.
@@ -60,6 +63,21 @@ pub enum Place {
     },
     /// A post has filled the slot at this lap. Next it sends the bucket there.
     Sending {
+        party: u32,
+        slot: u32,
+        bucket: u32,
+        lap: u32,
+    },
+    /// A forward has written the bucket's flag. Next it fills the slot, or holds the bucket as
+    /// before if the slot is full.
+    Forwarding {
+        party: u32,
+        slot: u32,
+        bucket: u32,
+    },
+    /// A forward has filled the slot at this lap. Next it empties the slot that the entry names,
+    /// then writes the entry, and then sends the bucket.
+    Arriving {
         party: u32,
         slot: u32,
         bucket: u32,
@@ -143,7 +161,16 @@ pub enum FileStep {
         bucket: u32,
         length: u32,
     },
-    /// In a post the process fills the slot, which is empty at this lap.
+    /// The party begins to forward the message in its bucket from one slot to another: it writes
+    /// the bucket's flag.
+    Forward {
+        process: u32,
+        party: u32,
+        from: u32,
+        slot: u32,
+        bucket: u32,
+    },
+    /// In a post, or in a forward, the process fills the slot, which is empty at this lap.
     Fill {
         process: u32,
         lap: u32,
@@ -210,6 +237,9 @@ pub enum FileOutcome {
     /// A flag changed: the party has received the message in this bucket, which is in the slot, and
     /// now holds the bucket.
     Receives { slot: u32, bucket: u32, party: u32 },
+    /// A flag changed: the party, which holds the bucket, begins to forward its message, or doesn't
+    /// forward it any more.
+    Forwards { bucket: u32, party: u32 },
     /// The entry of this bucket changed.
     OnEntry(u32),
     /// The word of this slot changed.
@@ -239,20 +269,22 @@ pub fn file_theorem()
 
     // A bucket has at most one holder.
     ensures one_holder { (scene : FileScene) (steps : List FileStep) (bucket party other : ℕ)
-        → IsHolder (left_by scene steps).words bucket party
-        → IsHolder (left_by scene steps).words bucket other → party ≡ other }
+        → IsKeeper (left_by scene steps).words bucket party
+        → IsKeeper (left_by scene steps).words bucket other → party ≡ other }
 
-    // If a process has a party's lock, no step of another process takes a bucket from that party.
+    // If a process has a party's lock, no step of another process changes the flag of a bucket that
+    // the party holds.
     ensures kept { (scene : FileScene) (steps : List FileStep) (step : FileStep) (process party bucket : ℕ)
-        → IsLock (left_by scene steps).words party process
-        → IsHolder (left_by scene steps).words bucket party → process_of step ≢ process
-        → IsHolder (file_step (left_by scene steps) step).state.words bucket party }
+        (flag : FileFlag) → IsLock (left_by scene steps).words party process
+        → IsFlag (left_by scene steps).words bucket flag → holder_of flag ≡ Some party
+        → process_of step ≢ process
+        → IsFlag (file_step (left_by scene steps) step).state.words bucket flag }
 
     // If a process has a party's lock, no step of another process changes the entry of a bucket that
     // the party holds.
     ensures kept_entry { (scene : FileScene) (steps : List FileStep) (step : FileStep) (process party bucket : ℕ)
         (entry : Entry) → IsLock (left_by scene steps).words party process
-        → IsHolder (left_by scene steps).words bucket party → process_of step ≢ process
+        → IsKeeper (left_by scene steps).words bucket party → process_of step ≢ process
         → IsEntry (left_by scene steps).words bucket entry
         → IsEntry (file_step (left_by scene steps) step).state.words bucket entry }
 
@@ -260,7 +292,7 @@ pub fn file_theorem()
     // has a bucket which the party holds.
     ensures kept_slot { (scene : FileScene) (steps : List FileStep) (step : FileStep)
         (process party bucket slot lap : ℕ) → IsLock (left_by scene steps).words party process
-        → IsHolder (left_by scene steps).words bucket party → process_of step ≢ process
+        → IsKeeper (left_by scene steps).words bucket party → process_of step ≢ process
         → IsSlot (left_by scene steps).words slot (Message lap bucket)
         → IsSlot (file_step (left_by scene steps) step).state.words slot (Message lap bucket) }
 
@@ -271,11 +303,12 @@ pub fn file_theorem()
         → HasReceived (left_by scene steps) step slot bucket party }
 
     // A message stays in its slot until a process whose party holds the bucket says that it is done
-    // with the message.
+    // with the message, or has forwarded it to another slot, which then has the message, too.
     ensures stays { (scene : FileScene) (steps : List FileStep) (step : FileStep) (slot bucket lap : ℕ)
         → IsSlot (left_by scene steps).words slot (Message lap bucket)
         → (IsSlot (file_step (left_by scene steps) step).state.words slot (Message lap bucket)
-        ⊎ SaysDone (left_by scene steps) step slot bucket) }
+        ⊎ (SaysDone (left_by scene steps) step slot bucket
+        ⊎ IsForwardedFrom (left_by scene steps) step slot bucket)) }
 
     // The party by which a process says that it is done with a message has received it since it was
     // posted: until a party has taken it, a message stays in its slot.
@@ -288,27 +321,37 @@ pub fn file_theorem()
         → (file_step (file_after filled after) (Done other party slot bucket next)).outcome ≡ OnSlot slot
         → HasTaken (outcomes_of filled after) slot bucket party) }
 
-    // A bucket is in at most one slot.
+    // A bucket is in at most one slot, unless a party forwards its message to one of them.
     ensures one_slot { (scene : FileScene) (steps : List FileStep) (bucket slot other : ℕ)
         → IsIn (left_by scene steps).words bucket slot
-        → IsIn (left_by scene steps).words bucket other → slot ≡ other }
+        → IsIn (left_by scene steps).words bucket other
+        → ((slot ≡ other) ⊎ (IsForwardedTo (left_by scene steps).words bucket slot
+        ⊎ IsForwardedTo (left_by scene steps).words bucket other)) }
 
-    // A bucket in a slot is held by a party, or is sent to this slot: it is never free, and never
-    // detached by its number.
+    // A message that a party forwards is in the slot that the entry names, or in the slot to which the
+    // party forwards it, or in both: at no moment is it in neither.
+    ensures forwarded { (scene : FileScene) (steps : List FileStep) (bucket party slot : ℕ)
+        → IsFlag (left_by scene steps).words bucket (ForwardedBy party slot)
+        → IsOnWay (left_by scene steps).words bucket slot }
+
+    // A bucket in a slot is held by a party, which may be forwarding its message, or is sent to this
+    // slot: it is never free, and never detached by its number.
     ensures in_slot { (scene : FileScene) (steps : List FileStep) (bucket slot lap : ℕ)
         → IsSlot (left_by scene steps).words slot (Message lap bucket)
         → (IsHeld (left_by scene steps).words bucket
-        ⊎ IsFlag (left_by scene steps).words bucket (SentTo slot lap)) }
+        ⊎ (IsFlag (left_by scene steps).words bucket (SentTo slot lap)
+        ⊎ IsForwarded (left_by scene steps).words bucket)) }
 
     // A bucket that is sent to a slot is in it.
     ensures sent { (scene : FileScene) (steps : List FileStep) (bucket slot lap : ℕ)
         → IsFlag (left_by scene steps).words bucket (SentTo slot lap)
         → IsSlot (left_by scene steps).words slot (Message lap bucket) }
 
-    // The entry of a bucket in a slot names the slot.
+    // The entry of a bucket in a slot names the slot, unless a party forwards the message to the slot.
     ensures entered { (scene : FileScene) (steps : List FileStep) (bucket slot : ℕ)
         → IsIn (left_by scene steps).words bucket slot
-        → IsEntered (left_by scene steps).words bucket slot }
+        → (IsEntered (left_by scene steps).words bucket slot
+        ⊎ IsForwardedTo (left_by scene steps).words bucket slot) }
 
     // If a process is in no call, the entry of a bucket that one of its parties holds names a slot
     // only if that slot has the bucket.
@@ -332,7 +375,7 @@ pub fn file_theorem()
     // When a settler is done, the settled number holds no bucket.
     ensures settled { (scene : FileScene) (steps : List FileStep) (process party bucket : ℕ)
         → IsPlace (left_by scene steps) process (Settled party)
-        → ¬ IsHolder (left_by scene steps).words bucket party }
+        → ¬ IsKeeper (left_by scene steps).words bucket party }
 
     // A settler is never stuck: however far it has come, some further steps of its own complete it.
     ensures settles { (scene : FileScene) (steps : List FileStep) (process party : ℕ)
@@ -435,6 +478,21 @@ pub fn file_variants_theorem()
     // A party that detaches a bucket by its number before it is done with it detaches one that is in
     // a slot.
     ensures detach_undone { DetachesMessage detach_undone }
+
+    // If a forward empties the slot that has the message before it fills the other slot, and its
+    // process is killed in between, the message is lost.
+    ensures forward_empties_first { LosesMessage forward_empties_first }
+
+    // A forward that writes the entry before it empties the slot that the entry names leaves the
+    // bucket in two slots.
+    ensures forward_enters_first { IsInTwo forward_enters_first }
+
+    // A settler that passes a bucket whose message the settled number forwards leaves it so.
+    ensures settle_skips_forwards { LeavesForward settle_skips_forwards }
+
+    // A settler that takes back each message that the settled number forwards leaves the bucket in two
+    // slots, so that it is freed while a slot has it.
+    ensures settle_takes_back_blindly { FreesMessage settle_takes_back_blindly }
 
     // A settler that takes back a bucket whoever has sent or detached it gives back one that is in a
     // slot.

@@ -1,8 +1,8 @@
 //! The law about the kinds of steps of the machine of a pool in a file: each is possible.
-ghost use Rattle.bb_memory_file_machine.specs.FileLaws.{IsEntry, IsFlag, IsHolder, IsIn, IsLife, IsLock, IsPlace, IsSlot};
-ghost use Rattle.bb_memory_file_machine.specs.FileMachine.{Allocate, AttachFrom, AttachNumber, Clearing, Count, Counting, Dead, Deallocate, Detach, DetachNumber, DetachedBy, Dies, Done, Empty, FileState, Fill, Flags, Free, GiveBack, HeldBy, In, Kill, Leave, Lock, Message, Moves, Next, Nowhere, OnEntry, OnFlag, OnLife, OnLock, OnSlot, Outside, Place, Post, Posting, PutBack, Receives, Recover, Release, Sending, Sends, SentTo, Settled, Take, TryAt, Unlock, with_entry, with_flag, with_life, with_lock, with_slot};
+ghost use Rattle.bb_memory_file_machine.specs.FileLaws.{IsEntry, IsFlag, IsHolder, IsIn, IsKeeper, IsLife, IsLock, IsPlace, IsSlot};
+ghost use Rattle.bb_memory_file_machine.specs.FileMachine.{Allocate, Arriving, AttachFrom, AttachNumber, Clearing, Count, Counting, Dead, Deallocate, Detach, DetachNumber, DetachedBy, Dies, Done, Empty, FileState, Fill, Flags, Forward, ForwardedBy, Forwarding, Forwards, Free, GiveBack, HeldBy, In, Kill, Leave, Lock, Message, Moves, Next, Nowhere, OnEntry, OnFlag, OnLife, OnLock, OnSlot, Outside, Place, Post, Posting, PutBack, Receives, Recover, Release, Sending, Sends, SentTo, Settled, Take, TryAt, Unlock, next_lap, with_entry, with_flag, with_life, with_lock, with_slot};
 ghost use Rattle.bb_memory_file_machine.specs.FileMoves.{IsUnlocked, Makes, MayBegin};
-ghost use Rattle.std.specs.Prelude.{None, Some, length, ℕ, ◌+◌, ◌<◌, ◌≤◌};
+ghost use Rattle.std.specs.Prelude.{None, Some, length, ℕ, ◌+◌, ◌<◌, ◌≢◌, ◌≤◌};
 
 /// States that each kind of step is possible: if the places, locks and words are as its clause
 /// requires, the step makes the change of its clause, and no other. The function does nothing: its
@@ -109,6 +109,49 @@ pub fn file_steps_law()
         → IsPlace state process (Clearing party bucket)
         → Makes state (Next process) (OnEntry bucket) (with_entry state.words bucket Nowhere) Outside }
 
+    // FORWARDS
+
+    // A party begins to forward the message in a bucket that it holds from the slot that has it to
+    // another one: it writes the bucket's flag.
+    ensures forwards { (state : FileState) (process party from slot bucket lap : ℕ) → MayBegin state process party
+        → IsHolder state.words bucket party → IsSlot state.words from (Message lap bucket) → from ≢ slot
+        → Makes state (Forward process party from slot bucket)
+        (Forwards bucket party) (with_flag state.words bucket (ForwardedBy party slot)) (Forwarding party slot bucket) }
+
+    // A forward fills its slot, which is empty, at the slot's lap.
+    ensures forward_fills { (state : FileState) (process party slot bucket lap : ℕ)
+        → IsPlace state process (Forwarding party slot bucket) → IsSlot state.words slot (Empty lap)
+        → Makes state (Fill process lap)
+        (OnSlot slot) (with_slot state.words slot (Message lap bucket)) (Arriving party slot bucket lap) }
+
+    // A forward that hasn't filled its slot, as the slot is full, writes the bucket's flag: the party
+    // holds the bucket as before. It ends.
+    ensures forward_gives_up { (state : FileState) (process party slot bucket : ℕ)
+        → IsPlace state process (Forwarding party slot bucket)
+        → Makes state (Next process) (Forwards bucket party) (with_flag state.words bucket (HeldBy party)) Outside }
+
+    // A forward that has filled its slot empties the slot that the entry names, if this is another
+    // one, and has the bucket. That slot goes on with the next lap.
+    ensures forward_empties { (state : FileState) (process party slot bucket lap from size old : ℕ)
+        → IsPlace state process (Arriving party slot bucket lap) → IsEntry state.words bucket (In from size)
+        → from ≢ slot → IsSlot state.words from (Message old bucket)
+        → Makes state (Next process)
+        (OnSlot from) (with_slot state.words from (Empty (next_lap old))) (Arriving party slot bucket lap) }
+
+    // A forward that has emptied the slot that the entry names writes the entry: it names the slot
+    // that has the bucket now.
+    ensures forward_enters { (state : FileState) (process party slot bucket lap from size : ℕ)
+        → IsPlace state process (Arriving party slot bucket lap) → IsEntry state.words bucket (In from size)
+        → from ≢ slot → ¬ IsIn state.words bucket from
+        → Makes state (Next process)
+        (OnEntry bucket) (with_entry state.words bucket (In slot size)) (Arriving party slot bucket lap) }
+
+    // A forward that has written the entry sends the bucket to its slot, at the slot's lap, and ends.
+    ensures forward_sends { (state : FileState) (process party slot bucket lap size : ℕ)
+        → IsPlace state process (Arriving party slot bucket lap) → IsEntry state.words bucket (In slot size)
+        → Makes state (Next process)
+        (Sends bucket party) (with_flag state.words bucket (SentTo slot lap)) Outside }
+
     // SETTLERS
 
     // A settler sends a bucket that the settled number holds to the slot that the entry names, if
@@ -134,9 +177,43 @@ pub fn file_steps_law()
         → Makes state (Next process)
         (OnFlag (GiveBack party bucket)) (with_flag state.words bucket Free) (Flags party (bucket + 1)) }
 
+    // If the settled number forwards a message to a slot that hasn't it, a settler writes the flag, by
+    // which the number holds the bucket as before, and stays at the bucket.
+    ensures settler_takes_back { (state : FileState) (process party bucket slot : ℕ)
+        → IsPlace state process (Flags party bucket) → IsFlag state.words bucket (ForwardedBy party slot)
+        → ¬ IsIn state.words bucket slot
+        → Makes state (Next process)
+        (Forwards bucket party) (with_flag state.words bucket (HeldBy party)) (Flags party bucket) }
+
+    // If the settled number forwards a message to a slot that has it, a settler empties the slot that
+    // the entry names, if this is another one, and has the bucket, too. It stays at the bucket.
+    ensures settler_empties { (state : FileState) (process party bucket slot lap from size old : ℕ)
+        → IsPlace state process (Flags party bucket) → IsFlag state.words bucket (ForwardedBy party slot)
+        → IsSlot state.words slot (Message lap bucket) → IsEntry state.words bucket (In from size)
+        → from ≢ slot → IsSlot state.words from (Message old bucket)
+        → Makes state (Next process)
+        (OnSlot from) (with_slot state.words from (Empty (next_lap old))) (Flags party bucket) }
+
+    // If the settled number forwards a message to a slot that has it, and the slot that the entry names
+    // hasn't, a settler writes the entry, and stays at the bucket.
+    ensures settler_enters { (state : FileState) (process party bucket slot lap from size : ℕ)
+        → IsPlace state process (Flags party bucket) → IsFlag state.words bucket (ForwardedBy party slot)
+        → IsSlot state.words slot (Message lap bucket) → IsEntry state.words bucket (In from size)
+        → from ≢ slot → ¬ IsIn state.words bucket from
+        → Makes state (Next process)
+        (OnEntry bucket) (with_entry state.words bucket (In slot size)) (Flags party bucket) }
+
+    // If the settled number forwards a message to the slot that the entry names, and that has it, a
+    // settler sends the bucket there, at the slot's lap.
+    ensures settler_ends_forward { (state : FileState) (process party bucket slot lap size : ℕ)
+        → IsPlace state process (Flags party bucket) → IsFlag state.words bucket (ForwardedBy party slot)
+        → IsSlot state.words slot (Message lap bucket) → IsEntry state.words bucket (In slot size)
+        → Makes state (Next process)
+        (Sends bucket party) (with_flag state.words bucket (SentTo slot lap)) (Flags party (bucket + 1)) }
+
     // A settler passes a bucket that the settled number doesn't hold.
     ensures settler_passes_unheld { (state : FileState) (process party bucket : ℕ)
-        → IsPlace state process (Flags party bucket) → ¬ IsHolder state.words bucket party
+        → IsPlace state process (Flags party bucket) → ¬ IsKeeper state.words bucket party
         → bucket < length state.words.flags
         → Makes state (Next process) Moves state.words (Flags party (bucket + 1)) }
 

@@ -1,8 +1,8 @@
 //! A machine of a pool in a file that can be run: the words and locks, and the progress of each
 //! process.
-ghost use Rattle.bb_memory_file_machine.specs.FileMachine.{Flags, allocate, attach_number, attaching, clearing, count, counting, deallocate, detach_number, done, fill, giving_back, has_clear, is_flag, is_nowhere, is_own, lap_of, leave, lock, may_call, move_at, next, opening_state, post, process_of, put_back, recover, release, same_flag, sending, take, unlock, with_entry, with_flag, with_slot};
+ghost use Rattle.bb_memory_file_machine.specs.FileMachine.{Flags, Message, OnSlot, allocate, arrive, attach_number, attaching, clearing, count, counting, deallocate, detach_number, done, fill, forward, forwarding, giving_back, has_clear, is_empty, is_flag, is_nowhere, is_own, lap_of, leave, leave_slot, lock, may_call, move_at, move_of, next, next_lap, opening_state, post, process_of, put_back, recover, refused, release, same_flag, sending, settle_forward, take, unlock, with_entry, with_flag, with_slot};
 ghost use Rattle.bb_memory_file_machine.specs.FileWorld.{FileWorld, IsFileWorld, IsMove, Replays, Steps, world_of};
-ghost use Rattle.std.specs.Prelude.{IfOk, IsSome, length, slice_get, slice_set, ◌<◌, ◌≡◌};
+ghost use Rattle.std.specs.Prelude.{IfOk, IsSome, if◌then◌else◌, length, slice_get, slice_set, ◌<◌, ◌≡◌};
 
 use super::{Entry, FileFlag, FileOutcome, FileStep, Place, Slot};
 use bb_memory_pool_machine::steps::PoolStep;
@@ -172,6 +172,13 @@ impl FileWorld {
                 bucket,
                 length,
             } => self.post(process, place, party, slot, bucket, length),
+            FileStep::Forward {
+                process,
+                party,
+                from,
+                slot,
+                bucket,
+            } => self.forward(process, place, party, from, slot, bucket),
             FileStep::Fill { process: _, lap } => self.fill(place, lap),
             FileStep::Take {
                 process,
@@ -375,33 +382,98 @@ impl FileWorld {
         )
     }
 
-    /// Makes a process in a post fill its slot, if the slot is empty at this lap.
+    /// Makes a process in a post, or in a forward, fill its slot, if the slot is empty at this lap.
     fn fill(&mut self, place: Place, lap: u32) -> (FileOutcome, Place)
         ensures { IsMove self.old (fill self.old.words place lap) result.0 result.1 self.new }
     {
-        let Place::Posting {
-            party,
-            slot,
-            bucket,
-        } = place
-        else {
-            return (FileOutcome::Refused, place);
-        };
-        match found_at(&self.slots, slot as usize) {
-            Some(Slot::Empty { lap: found }) if found == lap => {
-                self.set_slot(slot, Slot::Message { lap, bucket });
-                (
-                    FileOutcome::OnSlot(slot),
-                    Place::Sending {
-                        party,
-                        slot,
-                        bucket,
-                        lap,
-                    },
-                )
+        match place {
+            Place::Posting {
+                party,
+                slot,
+                bucket,
+            } => {
+                let next = Place::Sending {
+                    party,
+                    slot,
+                    bucket,
+                    lap,
+                };
+                self.fill_slot(slot, bucket, lap, place, next)
+            }
+            Place::Forwarding {
+                party,
+                slot,
+                bucket,
+            } => {
+                let next = Place::Arriving {
+                    party,
+                    slot,
+                    bucket,
+                    lap,
+                };
+                self.fill_slot(slot, bucket, lap, place, next)
             }
             _ => (FileOutcome::Refused, place),
         }
+    }
+
+    /// Fills the slot with the bucket, if the slot is empty at this lap, and moves the process from
+    /// `place` to `next`.
+    fn fill_slot(
+        &mut self,
+        slot: u32,
+        bucket: u32,
+        lap: u32,
+        place: Place,
+        next: Place,
+    ) -> (FileOutcome, Place)
+        ensures { IsMove self.old (if is_empty self.old.words slot lap
+            then move_of (OnSlot slot) (with_slot self.old.words slot (Message lap bucket)) next
+            else refused self.old.words place) result.0 result.1 self.new }
+    {
+        match found_at(&self.slots, slot as usize) {
+            Some(Slot::Empty { lap: found }) if found == lap => {
+                self.set_slot(slot, Slot::Message { lap, bucket });
+                (FileOutcome::OnSlot(slot), next)
+            }
+            _ => (FileOutcome::Refused, place),
+        }
+    }
+
+    /// Makes a party begin to forward the message in its bucket from one slot to another.
+    fn forward(
+        &mut self,
+        process: u32,
+        place: Place,
+        party: u32,
+        from: u32,
+        slot: u32,
+        bucket: u32,
+    ) -> (FileOutcome, Place)
+        ensures { IsMove self.old (forward self.old.words process place party from slot bucket) result.0 result.1 self.new }
+    {
+        if !self.may_call(process, place, party) {
+            return (FileOutcome::Refused, place);
+        }
+        if !self.is_flag(bucket, FileFlag::HeldBy(party)) {
+            return (FileOutcome::Refused, place);
+        }
+        if from == slot {
+            return (FileOutcome::Refused, place);
+        }
+        if self.lap_of(from, bucket).is_none() {
+            return (FileOutcome::Refused, place);
+        }
+        self.mark(
+            party,
+            bucket,
+            FileFlag::ForwardedBy { party, slot },
+            Place::Forwarding {
+                party,
+                slot,
+                bucket,
+            },
+        )
     }
 
     /// Makes a party take the message in a bucket, if the bucket is sent to this slot at this lap.
@@ -512,6 +584,15 @@ impl FileWorld {
                 bucket,
                 lap,
             } => self.send(party, bucket, slot, lap, Place::Outside),
+            Place::Forwarding { party, bucket, .. } => {
+                self.mark(party, bucket, FileFlag::HeldBy(party), Place::Outside)
+            }
+            Place::Arriving {
+                party,
+                slot,
+                bucket,
+                lap,
+            } => self.arrive(party, bucket, slot, lap, place, Place::Outside),
             Place::Flags { party, bucket } => self.settle_flag(party, bucket),
             Place::Settled { .. } => (FileOutcome::Moves, Place::Outside),
         }
@@ -561,7 +642,7 @@ impl FileWorld {
             bucket: bucket + 1,
         };
         if !self.is_flag(bucket, FileFlag::HeldBy(party)) {
-            return (FileOutcome::Moves, next);
+            return self.settle_forward(party, bucket);
         }
         let Some(Entry::In { slot, length: _ }) = found_at(&self.entries, bucket as usize) else {
             return self.give_back(party, bucket, next);
@@ -570,6 +651,91 @@ impl FileWorld {
             Some(lap) => self.send(party, bucket, slot, lap, next),
             None => self.clear(bucket, Place::Flags { party, bucket }),
         }
+    }
+
+    /// Makes a settler end a forward of the bucket to which it has come, if the settled number
+    /// forwards its message.
+    fn settle_forward(&mut self, party: u32, bucket: u32) -> (FileOutcome, Place)
+        requires { bucket < length self.old.words.flags }
+        ensures { IsMove self.old (settle_forward self.old.words party bucket (slice_get self.old.words.flags bucket))
+            result.0 result.1 self.new }
+    {
+        let here = Place::Flags { party, bucket };
+        let next = Place::Flags {
+            party,
+            bucket: bucket + 1,
+        };
+        match found_at(&self.flags, bucket as usize) {
+            Some(FileFlag::ForwardedBy { party: other, slot }) if other == party => {
+                match self.lap_of(slot, bucket) {
+                    Some(lap) => self.arrive(party, bucket, slot, lap, here, next),
+                    None => self.mark(party, bucket, FileFlag::HeldBy(party), here),
+                }
+            }
+            _ => (FileOutcome::Moves, next),
+        }
+    }
+
+    /// Makes a forward that has filled its slot at this lap, or a settler that ends it, empty the
+    /// slot that the entry names, or write the entry, or send the bucket.
+    fn arrive(
+        &mut self,
+        party: u32,
+        bucket: u32,
+        slot: u32,
+        lap: u32,
+        place: Place,
+        next: Place,
+    ) -> (FileOutcome, Place)
+        ensures { IsMove self.old (arrive self.old.words party bucket slot lap place next (slice_get self.old.words.entries bucket))
+            result.0 result.1 self.new }
+    {
+        match found_at(&self.entries, bucket as usize) {
+            Some(Entry::In { slot: from, length }) if from != slot => {
+                self.leave_slot(bucket, slot, from, length, place)
+            }
+            _ => self.send(party, bucket, slot, lap, next),
+        }
+    }
+
+    /// Empties the slot `from`, if it has the bucket, and otherwise makes the bucket's entry name
+    /// `slot`.
+    fn leave_slot(
+        &mut self,
+        bucket: u32,
+        slot: u32,
+        from: u32,
+        size: u32,
+        place: Place,
+    ) -> (FileOutcome, Place)
+        ensures { IsMove self.old (leave_slot self.old.words bucket slot from size place (lap_of self.old.words from bucket))
+            result.0 result.1 self.new }
+    {
+        match self.lap_of(from, bucket) {
+            Some(lap) => {
+                let next = Slot::Empty { lap: next_lap(lap) };
+                self.set_slot(from, next);
+                (FileOutcome::OnSlot(from), place)
+            }
+            None => {
+                self.set_entry(bucket, Entry::In { slot, length: size });
+                (FileOutcome::OnEntry(bucket), place)
+            }
+        }
+    }
+
+    /// Writes the flag of a bucket whose message a party forwards, or doesn't any more.
+    fn mark(
+        &mut self,
+        party: u32,
+        bucket: u32,
+        flag: FileFlag,
+        next: Place,
+    ) -> (FileOutcome, Place)
+        ensures { IsMove self.old (forwarding self.old.words party bucket flag next) result.0 result.1 self.new }
+    {
+        self.set_flag(bucket, flag);
+        (FileOutcome::Forwards { bucket, party }, next)
     }
 
     /// Makes a party attach a bucket that the party `from` has detached.
@@ -719,6 +885,13 @@ fn same_flag(one: FileFlag, other: FileFlag) -> bool
                 lap: then,
             },
         ) => slot == there && lap == then,
+        (
+            FileFlag::ForwardedBy { party, slot },
+            FileFlag::ForwardedBy {
+                party: holder,
+                slot: there,
+            },
+        ) => party == holder && slot == there,
         _ => false,
     }
 }
@@ -736,6 +909,7 @@ fn process_of(step: FileStep) -> u32
         FileStep::DetachNumber { process, .. } => process,
         FileStep::AttachNumber { process, .. } => process,
         FileStep::Post { process, .. } => process,
+        FileStep::Forward { process, .. } => process,
         FileStep::Fill { process, .. } => process,
         FileStep::Take { process, .. } => process,
         FileStep::Done { process, .. } => process,
@@ -746,6 +920,14 @@ fn process_of(step: FileStep) -> u32
         FileStep::Kill { process } => process,
         FileStep::Release { process, .. } => process,
     }
+}
+
+/// Returns the lap that follows this one.
+fn next_lap(lap: u32) -> u32
+    ensures { result ≡ next_lap lap }
+{
+    let next = (lap as u64 + 1) % (1 << 30);
+    next as u32
 }
 
 /// Returns the value at a position, or `None` if there is no such position.

@@ -1,8 +1,8 @@
-use Rattle.bb_memory_file_machine.proofs.FileEffects.{same_holder}
+use Rattle.bb_memory_file_machine.proofs.FileEffects.{same_keeper}
 use Rattle.bb_memory_file_machine.proofs.FileLives.{one_life}
 use Rattle.bb_memory_file_machine.proofs.FilePools.{pool_always, taken_always}
 use Rattle.bb_memory_file_machine.proofs.FileSettles.{can_settle}
-use Rattle.bb_memory_file_machine.proofs.FileSound.{one_slot}
+use Rattle.bb_memory_file_machine.proofs.FileSound.{one_slot_or}
 use Rattle.bb_memory_file_machine.proofs.FileSteps.{holds_always}
 use Rattle.bb_memory_file_machine.proofs.FileTakers.{taker_received}
 use Rattle.bb_memory_file_machine.proofs.FileTheorem.{by_number_always, can_count, effect_always, exact_always, kept_always, kept_entry_always, kept_slot_always, lives_always, locked_always, nothing_lost, one_process, own_life_always, received_always, settled_always, stays_always}
@@ -14,7 +14,7 @@ use Rattle.bb_memory_pool_machine.proofs.PoolRuns.{pool_run, run_is_sound}
 pub returns : goal.returns
 returns c = record {
   effect = effect_always;
-  one_holder = λ scene steps. same_holder (left_by scene steps).words;
+  one_holder = λ scene steps. same_keeper (left_by scene steps).words;
   kept = kept_always;
   kept_entry = kept_entry_always;
   kept_slot = kept_slot_always;
@@ -22,7 +22,8 @@ returns c = record {
   stays = stays_always;
   taker = taker_received;
   one_slot = λ scene steps bucket slot other.
-      one_slot (left_by scene steps).words bucket slot other (holds_always scene steps).sound;
+      one_slot_or (left_by scene steps).words bucket slot other (holds_always scene steps).sound;
+  forwarded = λ scene steps. (holds_always scene steps).sound.forwarded;
   in_slot = λ scene steps. (holds_always scene steps).sound.taken;
   sent = λ scene steps. (holds_always scene steps).sound.sent;
   entered = λ scene steps. (holds_always scene steps).sound.entered;
