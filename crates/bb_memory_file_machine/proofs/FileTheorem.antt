@@ -12,7 +12,7 @@ use Rattle.std.proofs.Common.{List, None, Option, Some, [], ap, arith, inl, inr,
 use Rattle.std.proofs.lemmas.Bool.{cases_eq, lt-ltb}
 use Rattle.std.proofs.lemmas.List.{length-replicate}
 use Rattle.std.proofs.lemmas.Option.{same_Some}
-use Rattle.std.specs.Prelude.{slice_get, ◌⊎◌}
+use Rattle.std.specs.Prelude.{slice_get, slice_set, ◌⊎◌}
 
 -- the effect of a step, in a state in which the invariant holds
 effect_at : (state : FileState) (step : FileStep) (found : Option Place) → slice_get state.places (process_of step) ≡ found →
@@ -194,6 +194,62 @@ pub stays_always : (scene : FileScene) (steps : List FileStep) (step : FileStep)
 stays_always scene steps step slot bucket lap is =
     let state : FileState = left_by scene steps in
     stays_at state step slot bucket lap (slice_get state.places (process_of step)) refl (holds_always scene steps) is
+
+-- FORWARDS
+
+-- a message that is forwarded to a slot that has it still is after an effect, or is sent there
+made_effect : (words later : FileWords) (process : ℕ) (outcome : FileOutcome) (bucket number slot lap : ℕ) →
+    Effect words process outcome later → IsFlag words bucket (ForwardedBy number slot) → IsSlot words slot (Message lap bucket) →
+    IsFlag later bucket (ForwardedBy number slot) ⊎ IsFlag later bucket (SentTo slot lap)
+made_effect words later process outcome bucket number slot lap (laws.takes party other own free) flag message =
+    inl (stays_apart words.flags other bucket (HeldBy party) Free (ForwardedBy number slot) free flag (λ same. absurd (cc)))
+made_effect words later process outcome bucket number slot lap (laws.gives_back party other own held nowhere) flag message =
+    inl (stays_apart words.flags other bucket Free (HeldBy party) (ForwardedBy number slot) held flag (λ same. absurd (cc)))
+made_effect words later process outcome bucket number slot lap (laws.detaches party other own held nowhere) flag message =
+    inl (stays_apart words.flags other bucket (DetachedBy party) (HeldBy party) (ForwardedBy number slot) held flag (λ same. absurd (cc)))
+made_effect words later process outcome bucket number slot lap (laws.attaches party other from own is) flag message =
+    inl (stays_apart words.flags other bucket (HeldBy party) (DetachedBy from) (ForwardedBy number slot) is flag (λ same. absurd (cc)))
+made_effect words later process outcome bucket number slot lap (laws.receives party other to found own is) flag message =
+    inl (stays_apart words.flags other bucket (HeldBy party) (SentTo to found) (ForwardedBy number slot) is flag (λ same. absurd (cc)))
+made_effect words later process outcome bucket number slot lap (laws.sends party other to found own held is) flag message =
+    inl (stays_apart words.flags other bucket (SentTo to found) (HeldBy party) (ForwardedBy number slot) held flag (λ same. absurd (cc)))
+made_effect words later process outcome bucket number slot lap (laws.forwards party other from to found own held is apart) flag message =
+    inl (stays_apart words.flags other bucket (ForwardedBy party to) (HeldBy party) (ForwardedBy number slot) held flag (λ same. absurd (cc)))
+made_effect words later process outcome bucket number slot lap (laws.holds_again party other to own is not_in) flag message =
+    elim (cases_eq other bucket) [
+      | inl same ↦
+          let flags = one_value words.flags bucket (ForwardedBy party to) (ForwardedBy number slot)
+          (ap (slice_get words.flags) (sym same) ∙ is) flag in
+          let slots : to ≡ slot = cc in
+          absurd (not_in (lap, ap (slice_get words.slots) slots ∙ message ∙ ap (λ (b : ℕ). Some (Message lap b)) (sym same)))
+      | inr apart ↦ inl (slice_get-set_apart words.flags other bucket (HeldBy party) apart ∙ flag)
+    ]
+made_effect words later process outcome bucket number slot lap (laws.arrives party other to found size own is there entry) flag message =
+    elim (cases_eq other bucket) [
+      | inl same ↦
+          let flags = one_value words.flags bucket (ForwardedBy party to) (ForwardedBy number slot)
+          (ap (slice_get words.flags) (sym same) ∙ is) flag in
+          let slots : to ≡ slot = cc in
+          let messages = one_value words.slots slot (Message found other) (Message lap bucket)
+          (ap (slice_get words.slots) (sym slots) ∙ there) message in
+          let laps : found ≡ lap = cc in
+          inr (ap (slice_get (slice_set words.flags other (SentTo to found))) (sym same)
+          ∙ slice_get-set_same words.flags other (SentTo to found) (ForwardedBy party to) is
+          ∙ ap (λ (s : ℕ). Some (SentTo s found)) slots ∙ ap (λ (l : ℕ). Some (SentTo slot l)) laps)
+      | inr apart ↦ inl (slice_get-set_apart words.flags other bucket (SentTo to found) apart ∙ flag)
+    ]
+made_effect words later process outcome bucket number slot lap _ flag message = inl flag
+
+pub made_always : (scene : FileScene) (steps : List FileStep) (step : FileStep) (bucket party slot lap : ℕ) →
+    IsFlag (left_by scene steps).words bucket (ForwardedBy party slot) →
+    IsSlot (left_by scene steps).words slot (Message lap bucket) →
+    IsFlag (file_step (left_by scene steps) step).state.words bucket (ForwardedBy party slot)
+    ⊎ IsFlag (file_step (left_by scene steps) step).state.words bucket (SentTo slot lap)
+made_always scene steps step bucket party slot lap flag message =
+    let state : FileState = left_by scene steps in
+    let change : FileChange = file_step state step in
+    made_effect state.words change.state.words (process_of step) change.outcome bucket party slot lap
+    (effect_in state step (holds_always scene steps)) flag message
 
 -- BY NUMBER
 

@@ -8,7 +8,7 @@ use Rattle.bb_memory_file_machine.specs.FileLaws.{IsSlot}
 use Rattle.bb_memory_file_machine.specs.FileMachine.{Done, Empty, FileStep, Fill, Message, OnSlot, Receives, Slot, Take}
 use Rattle.bb_memory_file_machine.specs.FileQueues.{FileQueue, History, IsLater, IsSlotOf, MayFill, MayTake, Obey, StepObeys, lap_rule, lap_said, next_lap, outcome_after, queue_rules, slot_before, state_after, words_at}
 use Rattle.bb_memory_lists.proofs.SliceGets.{slice_get-replicated}
-use Rattle.std.proofs.Common.{Bool, Some, [], ap, arith, false, refl, subst, sym, true, ℕ, ◌%◌, ◌+◌, ◌-◌, ◌/◌, ◌<◌, ◌∙◌, ◌∷◌, ◌≡◌}
+use Rattle.std.proofs.Common.{Bool, Some, [], ap, arith, false, inl, inr, refl, subst, sym, true, ℕ, ◌%◌, ◌+◌, ◌-◌, ◌/◌, ◌<◌, ◌∙◌, ◌∷◌, ◌≡◌}
 use Rattle.std.proofs.lemmas.Bool.{le-ltb}
 use Rattle.std.specs.Prelude.{if◌then◌else◌, nat_lt, slice_get, ◌^◌}
 

@@ -334,6 +334,14 @@ pub fn file_theorem()
         → IsFlag (left_by scene steps).words bucket (ForwardedBy party slot)
         → IsOnWay (left_by scene steps).words bucket slot }
 
+    // A forward that has filled its slot isn't taken back, whoever is killed: the message stays forwarded
+    // there until it is sent there.
+    ensures made { (scene : FileScene) (steps : List FileStep) (step : FileStep) (bucket party slot lap : ℕ)
+        → IsFlag (left_by scene steps).words bucket (ForwardedBy party slot)
+        → IsSlot (left_by scene steps).words slot (Message lap bucket)
+        → (IsFlag (file_step (left_by scene steps) step).state.words bucket (ForwardedBy party slot)
+        ⊎ IsFlag (file_step (left_by scene steps) step).state.words bucket (SentTo slot lap)) }
+
     // A bucket in a slot is held by a party, which may be forwarding its message, or is sent to this
     // slot: it is never free, and never detached by its number.
     ensures in_slot { (scene : FileScene) (steps : List FileStep) (bucket slot lap : ℕ)

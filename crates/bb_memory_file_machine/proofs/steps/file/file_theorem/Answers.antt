@@ -5,7 +5,7 @@ use Rattle.bb_memory_file_machine.proofs.FileSettles.{can_settle}
 use Rattle.bb_memory_file_machine.proofs.FileSound.{one_slot_or}
 use Rattle.bb_memory_file_machine.proofs.FileSteps.{holds_always}
 use Rattle.bb_memory_file_machine.proofs.FileTakers.{taker_received}
-use Rattle.bb_memory_file_machine.proofs.FileTheorem.{by_number_always, can_count, effect_always, exact_always, kept_always, kept_entry_always, kept_slot_always, lives_always, locked_always, nothing_lost, one_process, own_life_always, received_always, settled_always, stays_always}
+use Rattle.bb_memory_file_machine.proofs.FileTheorem.{by_number_always, can_count, effect_always, exact_always, kept_always, kept_entry_always, kept_slot_always, lives_always, locked_always, made_always, nothing_lost, one_process, own_life_always, received_always, settled_always, stays_always}
 use Rattle.bb_memory_file_machine.proofs.steps.file.file_theorem.Goals as goal
 use Rattle.bb_memory_file_machine.specs.FileMachine.{left_by}
 use Rattle.bb_memory_file_machine.specs.FilePool.{flag_steps, pool_of}
@@ -24,6 +24,7 @@ returns c = record {
   one_slot = λ scene steps bucket slot other.
       one_slot_or (left_by scene steps).words bucket slot other (holds_always scene steps).sound;
   forwarded = λ scene steps. (holds_always scene steps).sound.forwarded;
+  made = made_always;
   in_slot = λ scene steps. (holds_always scene steps).sound.taken;
   sent = λ scene steps. (holds_always scene steps).sound.sent;
   entered = λ scene steps. (holds_always scene steps).sound.entered;
