@@ -2,8 +2,9 @@
 -- messages in order.
 --
 -- A queue of `depth` messages is `depth` slots in a row, which are used in turn. Its messages have
--- tickets, which are numbered from 0 in the order of the posts. A post posts its message when it fills
--- the slot. No word of the file says which ticket is next: senders and receivers look at the slots.
+-- tickets, which are numbered from 0 in the order of the posts. A post, or a forward to the queue, posts
+-- its message when it fills the slot. No word of the file says which ticket is next: senders and
+-- receivers look at the slots.
 use Rattle.bb_memory_file_machine.specs.FileLaws.{IsFlag, IsSlot}
 use Rattle.bb_memory_file_machine.specs.FileMachine.{Done, Empty, FileOutcome, FileScene, FileState, FileStep, FileWords, Fill, Message, OnSlot, Receives, Sends, SentTo, Slot, Take, file_step, opening_state}
 pub use Rattle.bb_memory_file_machine.specs.FileMachine.{next_lap}
@@ -98,7 +99,7 @@ pub record Posted : Type 0 where
   pub bucket : ℕ
 
 -- The messages after one of the queue's slots has got this word: a message that was posted comes last,
--- and one that a party is done with goes.
+-- and one that a party is done with, or that was forwarded to another slot, goes.
 abbrev pub changed_in : FileQueue → ℕ → ℕ → Option Slot → List Posted → List Posted
 changed_in queue next slot (Some (Message lap bucket)) held = held ++ record { ticket = next; bucket = bucket } ∷ []
 changed_in queue next slot word held = filter (λ posted. not (slot_of queue posted.ticket == slot)) held
@@ -178,7 +179,7 @@ pub record MayFill {X : Type 0} (words : List X → FileWords) (queue : FileQueu
   pub filled : IsFilled (lap_before lap slot (slot_before queue slot)) word
 
 -- A receiver may pass the message that a slot has or had at this lap. It has seen that the slot is at a
--- later lap: then a party was done with the message. Or it has seen the message, and has seen later on,
+-- later lap: then a party was done with the message, or it was forwarded. Or it has seen the message, and has seen later on,
 -- and after the moment at which it saw the message that it takes, that the bucket isn't sent.
 pub data MayPass {X : Type 0} (words : List X → FileWords) (list moment : List X) (slot lap : ℕ) : Type 0 where
   over : (word : Slot) → HasSeen words list slot word → IsLater lap (lap_said word) → MayPass words list moment slot lap
@@ -193,7 +194,7 @@ pub record MayTake {X : Type 0} (words : List X → FileWords) (queue : FileQueu
   pub others : (other : ℕ) → IsSlotOf queue other → other ≢ slot →
       MayPass words list look.moment other (lap_before lap slot other)
 
--- a party that is done with the message of a slot lets the slot go on with the next lap
+-- a party that is done with the message of a slot lets the slot go on with the next lap, as a forward does
 abbrev pub MayEmpty : FileWords → ℕ → ℕ → Type 0
 MayEmpty words slot next = (lap bucket : ℕ) → IsSlot words slot (Message lap bucket) → next ≡ next_lap lap
 

@@ -102,7 +102,7 @@ pub fn queue_order_law()
         → Obey lap_rule queue history → Obey queue_rules queue history }
 
     // A message that was received is received again only if a party has sent its bucket again: whoever
-    // has put it back, or a settler.
+    // has put it back, or has forwarded it, or a settler.
     ensures again { (scene : FileScene) (history moment : History) (step : FileStep) (slot bucket party other lap : ℕ)
         → outcome_after scene moment step ≡ Receives slot bucket party → IsMoment (step ∷ moment) history
         → IsFlag (state_after scene history).words bucket (SentTo other lap)

@@ -2,12 +2,15 @@
 //! process.
 ghost use Rattle.bb_memory_file_machine.specs.FileMachine.{Flags, Message, OnSlot, allocate, arrive, attach_number, attaching, clearing, count, counting, deallocate, detach_number, done, fill, forward, forwarding, giving_back, has_clear, is_empty, is_flag, is_nowhere, is_own, lap_of, leave, leave_slot, lock, may_call, move_at, move_of, next, next_lap, opening_state, post, process_of, put_back, recover, refused, release, same_flag, sending, settle_forward, take, unlock, with_entry, with_flag, with_slot};
 ghost use Rattle.bb_memory_file_machine.specs.FileWorld.{FileWorld, IsFileWorld, IsMove, Replays, Steps, world_of};
-ghost use Rattle.std.specs.Prelude.{IfOk, IsSome, if◌then◌else◌, length, slice_get, slice_set, ◌<◌, ◌≡◌};
+ghost use Rattle.std.specs.Prelude.{IfOk, IsSome, if◌then◌else◌, length, slice_get, slice_set, ◌+◌, ◌<◌, ◌≡◌};
 
 use super::{Entry, FileFlag, FileOutcome, FileStep, Place, Slot};
 use bb_memory_pool_machine::steps::PoolStep;
 use std::alloc::{AllocError, Global};
 use std::marker::Model;
+
+/// How many laps a slot has before they come round.
+const LAPS: u64 = 1 << 30;
 
 /// The machine of a pool in a file, with its processes. No step allocates memory.
 #[derive(Drop)]
@@ -642,7 +645,7 @@ impl FileWorld {
             bucket: bucket + 1,
         };
         if !self.is_flag(bucket, FileFlag::HeldBy(party)) {
-            return self.settle_forward(party, bucket);
+            return self.settle_forward(party, bucket, next);
         }
         let Some(Entry::In { slot, length: _ }) = found_at(&self.entries, bucket as usize) else {
             return self.give_back(party, bucket, next);
@@ -654,17 +657,13 @@ impl FileWorld {
     }
 
     /// Makes a settler end a forward of the bucket to which it has come, if the settled number
-    /// forwards its message.
-    fn settle_forward(&mut self, party: u32, bucket: u32) -> (FileOutcome, Place)
-        requires { bucket < length self.old.words.flags }
+    /// forwards its message, and otherwise go on to `next`.
+    fn settle_forward(&mut self, party: u32, bucket: u32, next: Place) -> (FileOutcome, Place)
+        requires { next ≡ Flags party (bucket + 1) }
         ensures { IsMove self.old (settle_forward self.old.words party bucket (slice_get self.old.words.flags bucket))
             result.0 result.1 self.new }
     {
         let here = Place::Flags { party, bucket };
-        let next = Place::Flags {
-            party,
-            bucket: bucket + 1,
-        };
         match found_at(&self.flags, bucket as usize) {
             Some(FileFlag::ForwardedBy { party: other, slot }) if other == party => {
                 match self.lap_of(slot, bucket) {
@@ -926,7 +925,7 @@ fn process_of(step: FileStep) -> u32
 fn next_lap(lap: u32) -> u32
     ensures { result ≡ next_lap lap }
 {
-    let next = (lap as u64 + 1) % (1 << 30);
+    let next = (lap as u64 + 1) % LAPS;
     next as u32
 }
 
