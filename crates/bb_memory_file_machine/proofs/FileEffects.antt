@@ -1,6 +1,6 @@
 -- Each effect of a process keeps what another process relies on.
 use Rattle.bb_memory_file_machine.proofs.FileInvariant.{AreExact, PlaceHas}
-use Rattle.bb_memory_file_machine.specs.FileLaws.{Effect, IsFlag, IsHolder, IsInSome, IsKeeper, IsLock, IsSlot, arrives, attaches, brings, clears, counts, detaches, empties, enters, fills, forwards, frees_lock, gives_back, holder_of, holds_again, none, receives, renames, sends, takes, takes_lock, vacates}
+use Rattle.bb_memory_file_machine.specs.FileLaws.{Effect, IsFlag, IsHolder, IsInSome, IsKeeper, IsLock, IsSlot, arrives, attaches, brings, clears, counts, detaches, empties, enters, fills, forwards, frees_lock, gives_back, holder_of, holds_again, none, receives, renames, resizes, sends, takes, takes_lock, vacates}
 use Rattle.bb_memory_file_machine.specs.FileMachine.{Arriving, Clearing, Counting, DetachedBy, Empty, Entry, FileFlag, FileOutcome, FileWords, Flags, ForwardedBy, Forwarding, Free, HeldBy, In, Message, Nowhere, Place, Posting, Sending, SentTo, Settled, Slot, next_lap, with_entry, with_flag, with_life, with_lock, with_slot}
 use Rattle.bb_memory_lists.proofs.SliceGets.{slice_get-set_apart, slice_get-set_at}
 use Rattle.std.proofs.Common.{List, None, Option, Some, [], ap, arith, inl, inr, length, refl, suc, sym, zero, ℕ, ◌<◌, ◌∙◌, ◌∷◌, ◌≡◌, ◌≢◌}
@@ -227,6 +227,9 @@ rests words later process outcome party other (empties number slot bucket lap ne
     let numbers = other_number words number party process other own lock apart in
     rests_slot words party other lock slot (Message lap bucket) (Empty next) is
     (not_anothers words bucket number party lap (keeper_held words bucket number held) numbers) (λ at same own e. absurd (cc))
+rests words later process outcome party other (resizes number slot bucket lap old size own held is entry) lock apart =
+    rests_entry words party other lock bucket number (In slot size) (keeper_held words bucket number held)
+    (other_number words number party process other own lock apart)
 rests words later process outcome party other (forwards number bucket from slot lap own held is away) lock apart =
     let numbers = other_number words number party process other own lock apart in
     rests_flag words party other lock bucket (HeldBy number) (ForwardedBy number slot) held (another number party numbers)

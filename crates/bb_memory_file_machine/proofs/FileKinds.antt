@@ -1,7 +1,7 @@
 -- Steps of the machine of a pool in a file, by their kinds.
 use Rattle.bb_memory_file_machine.proofs.FileTests.{clear_there, empty_there, flag_missing, flag_there, free_found, lap_missing, lap_there, less_found, own_there}
 use Rattle.bb_memory_file_machine.specs.FileLaws.{IsEntered, IsEntry, IsFlag, IsHolder, IsIn, IsKeeper, IsLife, IsLock, IsSlot, holder_of}
-use Rattle.bb_memory_file_machine.specs.FileMachine.{Allocate, Arriving, AttachNumber, Clearing, Count, Counting, Dead, Deallocate, Detach, DetachNumber, DetachedBy, Done, Empty, Entry, FileFlag, FileMove, FileStep, FileWords, Fill, Flags, Forward, ForwardedBy, Forwarding, Free, HeldBy, In, Kill, Leave, Lock, Message, Moves, Next, Nowhere, OnEntry, OnFlag, OnLife, OnLock, OnSlot, Outside, Place, Post, Posting, PutBack, Receives, Recover, Release, Sending, SentTo, Settled, Take, TryAt, Unlock, allocate, arrive, attach_number, attaching, clearing, count, deallocate, detach_number, done, done_at, fill, finds_free, finds_less, forward, forward_at, forwarding, giving_back, has_clear, is_empty, is_flag, is_own, kill, lap_of, leave, leave_slot, lock, move_at, move_of, next, next_lap, post, put_back, put_back_at, recover, refused, release, sending, settle_at, settle_entry, settle_forward, settle_forward_at, take, unlock, with_entry, with_flag, with_life, with_lock, with_slot}
+use Rattle.bb_memory_file_machine.specs.FileMachine.{Allocate, Arriving, AttachNumber, Clearing, Count, Counting, Dead, Deallocate, Detach, DetachNumber, DetachedBy, Done, Empty, Entry, FileFlag, FileMove, FileStep, FileWords, Fill, Flags, Forward, ForwardedBy, Forwarding, Free, HeldBy, In, Kill, Leave, Lock, Message, Moves, Next, Nowhere, OnEntry, OnFlag, OnLife, OnLock, OnSlot, Outside, Place, Post, Posting, PutBack, Receives, Recover, Release, Resize, Sending, SentTo, Settled, Take, TryAt, Unlock, allocate, arrive, attach_number, attaching, clearing, count, deallocate, detach_number, done, done_at, fill, finds_free, finds_less, forward, forward_at, forwarding, giving_back, has_clear, is_empty, is_flag, is_own, kill, lap_of, leave, leave_slot, lock, move_at, move_of, next, next_lap, post, put_back, put_back_at, recover, refused, release, resize, resize_at, sending, settle_at, settle_entry, settle_forward, settle_forward_at, take, unlock, with_entry, with_flag, with_life, with_lock, with_slot}
 use Rattle.std.proofs.Common.{None, Option, Some, ap, length, refl, suc, sym, zero, ℕ, ◌+◌, ◌<◌, ◌∙◌, ◌≡◌, ◌≢◌, ◌≤◌}
 use Rattle.std.proofs.lemmas.Bool.{cond_both, eqb-false, eqb-true, ltb-false}
 use Rattle.std.proofs.lemmas.Option.{same_Some}
@@ -47,6 +47,9 @@ pub data Kind (words : FileWords) : Place → FileStep → FileMove → Type 0 w
   puts_back : (process party slot bucket lap : ℕ) → IsLock words party process → IsHolder words bucket party →
       IsSlot words slot (Message lap bucket) →
       Kind words Outside (PutBack process party slot bucket) (sending words party bucket slot lap Outside)
+  resizes : (process party slot bucket lap size : ℕ) → IsLock words party process → IsHolder words bucket party →
+      IsSlot words slot (Message lap bucket) → Kind words Outside (Resize process party slot bucket size)
+      (move_of (OnEntry bucket) (with_entry words bucket (In slot size)) Outside)
   begins_forward : (process party from slot bucket lap : ℕ) → IsLock words party process → IsHolder words bucket party →
       IsSlot words from (Message lap bucket) → from ≢ slot → Kind words Outside (Forward process party from slot bucket)
       (forwarding words party bucket (ForwardedBy party slot) (Forwarding party slot bucket))
@@ -212,6 +215,25 @@ module _ (words : FileWords) (process : ℕ) where
       (λ e. fills_forward process party slot bucket lap (empty_there words slot lap e))
       (λ e. refuses (Forwarding party slot bucket) (Fill process lap))
   kind_of_fill place lap = refuses place (Fill process lap)
+
+  kind_of_resize_at : (party slot bucket size : ℕ) (found : Option ℕ) → IsLock words party process →
+      IsHolder words bucket party → lap_of words slot bucket ≡ found →
+      Kind words Outside (Resize process party slot bucket size) (resize_at words Outside slot bucket size found)
+  kind_of_resize_at party slot bucket size None own held e = refuses Outside (Resize process party slot bucket size)
+  kind_of_resize_at party slot bucket size (Some lap) own held e =
+      resizes process party slot bucket lap size own held (lap_there words slot bucket lap e)
+
+  kind_of_resize : (place : Place) (party slot bucket size : ℕ) →
+      Kind words place (Resize process party slot bucket size) (resize words process place party slot bucket size)
+  kind_of_resize Outside party slot bucket size =
+      let step : FileStep = Resize process party slot bucket size in
+      let refusal : Kind words Outside step (refused words Outside) = refuses Outside step in
+      cond_both (is_own words process party) _ _ (λ move. Kind words Outside step move)
+      (λ own. cond_both (is_flag words bucket (HeldBy party)) _ _ (λ move. Kind words Outside step move)
+      (λ held. kind_of_resize_at party slot bucket size (lap_of words slot bucket) (own_there words process party own)
+      (flag_there words bucket (HeldBy party) held) refl)
+      (λ e. refusal)) (λ e. refusal)
+  kind_of_resize place party slot bucket size = refuses place (Resize process party slot bucket size)
 
   kind_of_forward_at : (party from slot bucket : ℕ) (found : Option ℕ) → IsLock words party process →
       IsHolder words bucket party → from ≢ slot → lap_of words from bucket ≡ found →
@@ -396,6 +418,7 @@ kind_of words place (Deallocate process party bucket) = kind_of_deallocate words
 kind_of words place (DetachNumber process party bucket) = kind_of_detach words process place party bucket
 kind_of words place (AttachNumber process party bucket from) = kind_of_attach words process place party bucket from
 kind_of words place (Post process party slot bucket size) = kind_of_post words process place party slot bucket size
+kind_of words place (Resize process party slot bucket size) = kind_of_resize words process place party slot bucket size
 kind_of words place (Forward process party from slot bucket) = kind_of_forward words process place party from slot bucket
 kind_of words place (Fill process lap) = kind_of_fill words process place lap
 kind_of words place (Take process party slot bucket lap) = kind_of_take words process place party slot bucket lap

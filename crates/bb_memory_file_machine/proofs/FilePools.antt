@@ -276,6 +276,8 @@ agree_effect nobody words later process outcome outcomes end
     (laws.fills party slot bucket lap size own held not_in entry empty) many rest = rest
 agree_effect nobody words later process outcome outcomes end (laws.empties party slot bucket lap next own held is) many rest =
     rest
+agree_effect nobody words later process outcome outcomes end
+    (laws.resizes party slot bucket lap old size own held is entry) many rest = rest
 agree_effect nobody words later process outcome outcomes end (laws.brings party slot bucket lap own is empty) many rest = rest
 agree_effect nobody words later process outcome outcomes end
     (laws.vacates party slot bucket lap from old own is message there apart) many rest = rest

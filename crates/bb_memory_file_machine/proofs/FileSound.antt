@@ -1,7 +1,7 @@
 -- Each effect keeps the words sound.
 use Rattle.bb_memory_file_machine.proofs.FileEffects.{below_end, one_value, set_cases, stays_apart}
 use Rattle.bb_memory_file_machine.proofs.FileInvariant.{Sound}
-use Rattle.bb_memory_file_machine.specs.FileLaws.{Effect, IsEntered, IsEntry, IsFlag, IsForwarded, IsForwardedTo, IsHeld, IsHolder, IsIdle, IsIn, IsInSome, IsOnWay, IsSlot, arrives, attaches, brings, clears, counts, detaches, empties, enters, fills, forwards, frees_lock, gives_back, holds_again, none, receives, renames, sends, takes, takes_lock, vacates}
+use Rattle.bb_memory_file_machine.specs.FileLaws.{Effect, IsEntered, IsEntry, IsFlag, IsForwarded, IsForwardedTo, IsHeld, IsHolder, IsIdle, IsIn, IsInSome, IsOnWay, IsSlot, arrives, attaches, brings, clears, counts, detaches, empties, enters, fills, forwards, frees_lock, gives_back, holds_again, none, receives, renames, resizes, sends, takes, takes_lock, vacates}
 use Rattle.bb_memory_file_machine.specs.FileMachine.{DetachedBy, Empty, Entry, FileFlag, FileOutcome, FileWords, ForwardedBy, Free, HeldBy, In, Message, Nowhere, SentTo, next_lap, with_entry, with_flag, with_lock, with_slot}
 use Rattle.bb_memory_lists.proofs.SliceGets.{length-set_at, slice_get-set_apart, slice_get-set_at}
 use Rattle.std.proofs.Common.{List, None, Option, Some, [], ap, arith, inl, inr, length, refl, subst, suc, sym, zero, ℕ, ◌<◌, ◌∙◌, ◌∷◌, ◌≡◌, ◌≢◌}
@@ -277,6 +277,38 @@ sound_entry words party bucket entry sound held not_in = record {
       slice_get-set_apart words.entries bucket at entry apart ∙ sound.nowhere at idle;
 }
 
+-- the entry of a bucket that a party holds gets another length
+sound_resize : (words : FileWords) (party slot bucket lap old size : ℕ) → Sound words → IsHolder words bucket party →
+    IsSlot words slot (Message lap bucket) → IsEntry words bucket (In slot old) → Sound (with_entry words bucket (In slot size))
+sound_resize words party slot bucket lap old size sound held is entry = record {
+  same_entries = length-set_at words.entries bucket (In slot size) ∙ sound.same_entries;
+  same_lives = sound.same_lives;
+  sent = sound.sent;
+  taken = sound.taken;
+  entered = λ at other has. elim (cases_eq bucket at) [
+    | inl same ↦
+        let there : IsIn words bucket other = (has.0, has.1 ∙ ap (λ (b : ℕ). Some (Message has.0 b)) (sym same)) in
+        let slots : slot ≡ other = one_slot words bucket slot other (named_held words bucket party sound held) (lap, is) there in
+        inl (
+          size,
+          slice_get-set_at words.entries bucket at (In slot size) (In slot old) same entry
+              ∙ ap (λ (s : ℕ). Some (In s size)) slots,
+        )
+    | inr apart ↦ elim (sound.entered at other has) [
+      | inl was ↦ inl (was.0, slice_get-set_apart words.entries bucket at (In slot size) apart ∙ was.1)
+      | inr to ↦ inr to
+    ]
+  ];
+  forwarded = λ at number to to_is.
+      let apart : bucket ≢ at =
+      λ same. let flags = one_value words.flags at (HeldBy party) (ForwardedBy number to)
+      (ap (slice_get words.flags) (sym same) ∙ held) to_is in absurd (cc) in
+      way_apart words bucket at to (In slot size) apart (sound.forwarded at number to to_is);
+  nowhere = λ at idle.
+      let apart : bucket ≢ at = λ same. held_idle words party at (ap (slice_get words.flags) (sym same) ∙ held) idle in
+      slice_get-set_apart words.entries bucket at (In slot size) apart ∙ sound.nowhere at idle;
+}
+
 -- the entry of a bucket that is forwarded to a slot, and that the slot that its entry named hasn't any
 -- more, names the slot
 sound_rename : (words : FileWords) (party slot bucket lap from size : ℕ) → Sound words →
@@ -288,8 +320,11 @@ sound_rename words party slot bucket lap from size sound is message entry not_in
   sent = sound.sent;
   taken = sound.taken;
   entered = λ at other has. elim (cases_eq bucket at) [
-    | inl same ↦ inl (size, slice_get-set_at words.entries bucket at (In slot size) (In from size) same entry
-        ∙ ap (λ (s : ℕ). Some (In s size)) (only at other same has (sound.entered at other has)))
+    | inl same ↦ inl (
+      size,
+      slice_get-set_at words.entries bucket at (In slot size) (In from size) same entry
+          ∙ ap (λ (s : ℕ). Some (In s size)) (only at other same has (sound.entered at other has)),
+    )
     | inr apart ↦ elim (sound.entered at other has) [
       | inl was ↦ inl (was.0, slice_get-set_apart words.entries bucket at (In slot size) apart ∙ was.1)
       | inr to ↦ inr to
@@ -346,10 +381,16 @@ sound_fill words slot bucket lap sound mine named empty = record {
             let e = this.1 in
             let one : bucket ≡ at = cc in
             elim named [
-              | inl entered ↦ inl (entered.0, ap (slice_get words.entries) (sym one) ∙ entered.1
-                  ∙ ap (λ (s : ℕ). Some (In s entered.0)) this.0)
-              | inr to ↦ inr (to.0, ap (slice_get words.flags) (sym one) ∙ to.1
-                  ∙ ap (λ (s : ℕ). Some (ForwardedBy to.0 s)) this.0)
+              | inl entered ↦ inl (
+                entered.0,
+                ap (slice_get words.entries) (sym one) ∙ entered.1
+                    ∙ ap (λ (s : ℕ). Some (In s entered.0)) this.0,
+              )
+              | inr to ↦ inr (
+                to.0,
+                ap (slice_get words.flags) (sym one) ∙ to.1
+                    ∙ ap (λ (s : ℕ). Some (ForwardedBy to.0 s)) this.0,
+              )
             ]
       ];
   forwarded = λ at party to is.
@@ -357,10 +398,16 @@ sound_fill words slot bucket lap sound mine named empty = record {
         way.0,
         way.1,
         elim way.2 [
-          | inl has ↦ inl (has.0, stays_apart words.slots slot way.0 (Message lap bucket) (Empty lap) (Message has.0 at) empty
-              has.1 (λ e. absurd (cc)))
-          | inr has ↦ inr (has.0, stays_apart words.slots slot to (Message lap bucket) (Empty lap) (Message has.0 at) empty
-              has.1 (λ e. absurd (cc)))
+          | inl has ↦ inl (
+            has.0,
+            stays_apart words.slots slot way.0 (Message lap bucket) (Empty lap) (Message has.0 at) empty
+                has.1 (λ e. absurd (cc)),
+          )
+          | inr has ↦ inr (
+            has.0,
+            stays_apart words.slots slot to (Message lap bucket) (Empty lap) (Message has.0 at) empty
+                has.1 (λ e. absurd (cc)),
+          )
         ],
       );
   nowhere = sound.nowhere;
@@ -457,6 +504,8 @@ sound_after words later process outcome (fills party slot bucket lap size own he
 sound_after words later process outcome (empties party slot bucket lap next own held is) sound =
     sound_empty words slot bucket lap next (HeldBy party) sound held (λ other same e. absurd (cc)) is
     (λ number to same. absurd (cc))
+sound_after words later process outcome (resizes party slot bucket lap old size own held is entry) sound =
+    sound_resize words party slot bucket lap old size sound held is entry
 sound_after words later process outcome (forwards party bucket from slot lap own held is apart) sound =
     sound_forward words party bucket from slot lap sound held is
 sound_after words later process outcome (holds_again party bucket slot own is not_in) sound =
@@ -468,8 +517,11 @@ sound_after words later process outcome (vacates party slot bucket lap from old 
     (λ number to same. let way = sound.forwarded bucket party slot is in let slots : slot ≡ to = cc in (
       way.0,
       way.1,
-      inr (lap, slice_get-set_apart words.slots from to (Empty (next_lap old)) (λ e. apart (e ∙ sym slots))
-          ∙ ap (slice_get words.slots) (sym slots) ∙ message),
+      inr (
+        lap,
+        slice_get-set_apart words.slots from to (Empty (next_lap old)) (λ e. apart (e ∙ sym slots))
+            ∙ ap (slice_get words.slots) (sym slots) ∙ message,
+      ),
     ))
 sound_after words later process outcome (renames party slot bucket lap from size own is message entry not_in) sound =
     sound_rename words party slot bucket lap from size sound is message entry not_in

@@ -1,11 +1,11 @@
 -- The invariant of a state holds after each step.
 use Rattle.bb_memory_file_machine.proofs.FileEffects.{below_end, exact_rests, keeper_held, one_value, place_rests, rests, same_holder, set_cases, stays_apart}
 use Rattle.bb_memory_file_machine.proofs.FileInvariant.{AreExact, Holds, IsAtWork, IsGiven, PlaceHas, Sound}
-use Rattle.bb_memory_file_machine.proofs.FileKinds.{Kind, all_flags, allocates, arrives, attaches, begins_forward, clears, counts, counts_again, detaches, dies, empties, fills, fills_forward, gives, gives_up, gives_up_forward, is_unheld, joins, kind_of, leaves, locks, posts, puts_back, receives, recovers, refuses, releases, renames, sends, settles, settles_arrives, settles_entry, settles_forward, settles_renames, settles_sent, settles_vacates, unlocks, unlocks_first, vacates}
+use Rattle.bb_memory_file_machine.proofs.FileKinds.{Kind, all_flags, allocates, arrives, attaches, begins_forward, clears, counts, counts_again, detaches, dies, empties, fills, fills_forward, gives, gives_up, gives_up_forward, is_unheld, joins, kind_of, leaves, locks, posts, puts_back, receives, recovers, refuses, releases, renames, resizes, sends, settles, settles_arrives, settles_entry, settles_forward, settles_renames, settles_sent, settles_vacates, unlocks, unlocks_first, vacates}
 use Rattle.bb_memory_file_machine.proofs.FileSound.{entry_there, named_held, named_still, not_in_slot, one_entry, one_slot, sound_after, there_below}
 use Rattle.bb_memory_file_machine.specs.FileLaws.{Effect, IsEntered, IsEntry, IsFlag, IsHolder, IsIn, IsInSome, IsKeeper, holder_of}
 use Rattle.bb_memory_file_machine.specs.FileLaws as laws
-use Rattle.bb_memory_file_machine.specs.FileMachine.{Arriving, DetachedBy, Dies, Empty, Entry, FileFlag, FileMove, FileScene, FileState, FileStep, FileWords, Flags, ForwardedBy, Forwarding, Free, HeldBy, In, Message, Moves, Nowhere, Outside, Place, Posting, Refused, SentTo, Settled, change_at, file_after, file_step, left_by, move_at, next_lap, opening_state, process_of, with_entry, with_flag, with_slot}
+use Rattle.bb_memory_file_machine.specs.FileMachine.{DetachedBy, Dies, Empty, Entry, FileFlag, FileMove, FileScene, FileState, FileStep, FileWords, Flags, ForwardedBy, Forwarding, Free, HeldBy, In, Message, Moves, Nowhere, Outside, Place, Posting, Refused, SentTo, Settled, change_at, file_after, file_step, left_by, move_at, next_lap, opening_state, process_of, with_entry, with_flag, with_slot}
 use Rattle.bb_memory_lists.proofs.SliceGets.{slice_get-replicated, slice_get-set_apart, slice_get-set_at, slice_get-set_same}
 use Rattle.std.proofs.Common.{List, None, Option, Some, [], ap, arith, inl, inr, refl, subst, sym, zero, ℕ, ◌+◌, ◌<◌, ◌∙◌, ◌∷◌, ◌≡◌, ◌≢◌}
 use Rattle.std.proofs.lemmas.Bool.{cases_eq}
@@ -88,6 +88,9 @@ effect_of words place step move (settles_sent process party bucket slot lap held
     laws.sends party bucket slot lap own held is
 effect_of words place step move (settles_entry process party bucket slot held entered not_in) sound (own, given) =
     laws.clears party bucket own held (left_behind words bucket slot party sound held entered not_in)
+effect_of words place step move (resizes process party slot bucket lap size own held is) sound has =
+    let entered = named_held words bucket party sound held slot (lap, is) in
+    laws.resizes party slot bucket lap entered.0 size own held is entered.1
 effect_of words place step move (begins_forward process party from slot bucket lap own held is apart) sound has =
     laws.forwards party bucket from slot lap own held is apart
 effect_of words place step move (fills_forward process party slot bucket lap empty) sound (own, flag, not_in) =
@@ -154,8 +157,7 @@ place_after words place step move (locks process party free) sound has =
 place_after words place step move (counts process party life more is less) sound has = (has, no_bucket_before words party)
 place_after words place step move (counts_again process party life more is less) sound has = has
 place_after words place step move (leaves process party own) sound has = (own, no_bucket_before words party)
-place_after words place step move (posts process party slot bucket size own held nowhere) sound has =
-    (
+place_after words place step move (posts process party slot bucket size own held nowhere) sound has = (
   own,
   held,
   (size, slice_get-set_same words.entries bucket (In slot size) Nowhere nowhere),
@@ -408,6 +410,16 @@ exact_after words place step move (unlocks process number) sound (own, given) ex
     elim (set_cases words.locks number party None (Some process) (Some process) own lock) [
       | inl before ↦ exact party bucket slot before.1 held entered
       | inr this ↦ let locks = this.1 in absurd (cc)
+    ]
+exact_after words place step move (resizes process number slot at lap size own mine is) sound has exact =
+    let was = named_held words at number sound mine slot (lap, is) in
+    λ party bucket other lock held entered.
+    elim (set_cases words.entries at bucket (In slot size) (In slot was.0) (In other entered.0) was.1 entered.1) [
+      | inl before ↦ exact party bucket other lock held (entered.0, before.1)
+      | inr this ↦
+          let entries = this.1 in
+          let slots : slot ≡ other = cc in
+          inl (lap, ap (slice_get words.slots) (sym slots) ∙ is ∙ ap (λ (b : ℕ). Some (Message lap b)) this.0)
     ]
 exact_after words place step move (begins_forward process number from slot at lap own held is apart) sound has exact =
     let left = exact_left words process place exact at (HeldBy number) (ForwardedBy number slot) held (λ party same. absurd (cc)) in

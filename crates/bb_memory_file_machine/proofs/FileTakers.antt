@@ -310,28 +310,29 @@ filled_untaken : (state : FileState) (place : Place) (step : FileStep) (move : F
     IsSlot move.words slot (Message lap bucket) → IsUntaken party slot bucket lap (change_by state (process_of step) move).state
 filled_untaken state place step move process found slot bucket lap party (fills by number at which here empty)
     (own, held, entered, not_in) is said there message = (
-    (λ now other at_place lock at_now.
-    let slots : at ≡ slot = cc in
-    let written = one_value (slice_set state.words.slots at (Message here which)) at (Message here which) (Message lap bucket)
-    (slice_get-set_same state.words.slots at (Message here which) (Empty here) empty)
-    (ap (slice_get (slice_set state.words.slots at (Message here which))) slots ∙ message) in
-    let buckets : which ≡ bucket = cc in
-    let same : number ≡ party =
-    same_holder state.words bucket number party (ap (slice_get state.words.flags) (sym buckets) ∙ held) now in
-    let owner : by ≡ other =
-    same_process state.words party by other (ap (slice_get state.words.locks) (sym same) ∙ own) lock in
-    let placed : Sending number at which here ≡ at_place =
-    one_value (slice_set state.places by (Sending number at which here)) by (Sending number at which here) at_place
-    (slice_get-set_same state.places by (Sending number at which here) (Posting number at which) there)
-    (ap (slice_get (slice_set state.places by (Sending number at which here))) owner ∙ at_now) in
-    subst (IsBefore party slot bucket lap) placed (same, buckets)),
-    (λ to now.
-    let written = one_value (slice_set state.words.slots at (Message here which)) at (Message here which) (Message lap bucket)
-    (slice_get-set_same state.words.slots at (Message here which) (Empty here) empty)
-    (ap (slice_get (slice_set state.words.slots at (Message here which))) (slot_said at slot said) ∙ message) in
-    let buckets : which ≡ bucket = cc in
-    let flags = one_value state.words.flags bucket (HeldBy number) (ForwardedBy party to)
-    (ap (slice_get state.words.flags) (sym buckets) ∙ held) now in absurd (cc)))
+      (λ now other at_place lock at_now.
+          let slots : at ≡ slot = cc in
+          let written = one_value (slice_set state.words.slots at (Message here which)) at (Message here which) (Message lap bucket)
+          (slice_get-set_same state.words.slots at (Message here which) (Empty here) empty)
+          (ap (slice_get (slice_set state.words.slots at (Message here which))) slots ∙ message) in
+          let buckets : which ≡ bucket = cc in
+          let same : number ≡ party =
+          same_holder state.words bucket number party (ap (slice_get state.words.flags) (sym buckets) ∙ held) now in
+          let owner : by ≡ other =
+          same_process state.words party by other (ap (slice_get state.words.locks) (sym same) ∙ own) lock in
+          let placed : Sending number at which here ≡ at_place =
+          one_value (slice_set state.places by (Sending number at which here)) by (Sending number at which here) at_place
+          (slice_get-set_same state.places by (Sending number at which here) (Posting number at which) there)
+          (ap (slice_get (slice_set state.places by (Sending number at which here))) owner ∙ at_now) in
+          subst (IsBefore party slot bucket lap) placed (same, buckets)),
+      (λ to now.
+          let written = one_value (slice_set state.words.slots at (Message here which)) at (Message here which) (Message lap bucket)
+          (slice_get-set_same state.words.slots at (Message here which) (Empty here) empty)
+          (ap (slice_get (slice_set state.words.slots at (Message here which))) (slot_said at slot said) ∙ message) in
+          let buckets : which ≡ bucket = cc in
+          let flags = one_value state.words.flags bucket (HeldBy number) (ForwardedBy party to)
+          (ap (slice_get state.words.flags) (sym buckets) ∙ held) now in absurd (cc)),
+    )
 filled_untaken state place step move process found slot bucket lap party (fills_forward by number at which here empty)
     (own, flag, not_in) is said there message =
     let slots : at ≡ slot = slot_said at slot said in

@@ -6,7 +6,7 @@ use Rattle.bb_memory_file_machine.specs.FileQueues.{AreInOrder, FileQueue, HasHa
 use Rattle.bb_memory_lists.proofs.ListEntries.{contains-behind, contains-first, contains-none}
 use Rattle.bb_memory_lists.proofs.SliceGets.{slice_get-set_apart, slice_get-set_same}
 use Rattle.std.proofs.Common.{Bool, Contains, List, None, Option, Some, [], ap, arith, false, filter, inl, inr, length, refl, subst, suc, sym, true, zero, ℕ, ◌++◌, ◌+◌, ◌/◌, ◌<◌, ◌∙◌, ◌∷◌, ◌≡◌, ◌≢◌, ◌≤◌}
-use Rattle.std.proofs.lemmas.Bool.{cases_eq, cond_both, eq-eqb, ne_eqb}
+use Rattle.std.proofs.lemmas.Bool.{cases_eq, cond_both}
 use Rattle.std.specs.Prelude.{if◌then◌else◌, slice_get, slice_set, ◌==◌, ◌⊎◌}
 
 -- COUNTS

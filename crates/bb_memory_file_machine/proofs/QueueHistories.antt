@@ -7,7 +7,7 @@ use Rattle.bb_memory_file_machine.proofs.FileTheorem.{effect_in, received_at}
 use Rattle.bb_memory_file_machine.specs.FileLaws.{Effect, HasReceived, IsFlag, IsPlace, IsSlot}
 use Rattle.bb_memory_file_machine.specs.FileLaws as laws
 use Rattle.bb_memory_file_machine.specs.FileMachine.{Arriving, Dead, DetachedBy, Done, Empty, FileMove, FileOutcome, FileScene, FileState, FileStep, FileWords, Fill, ForwardedBy, Forwarding, Free, HeldBy, Message, OnSlot, Place, Posting, Receives, Sending, Sends, SentTo, Slot, Take, change_at, change_by, file_after, left_by, move_at, next_lap, process_of}
-use Rattle.bb_memory_file_machine.specs.FileQueues.{FileQueue, HasHappened, History, IsMoment, Obey, Rules, earlier, now, outcome_after, state_after}
+use Rattle.bb_memory_file_machine.specs.FileQueues.{HasHappened, History, IsMoment, earlier, now, outcome_after, state_after}
 use Rattle.bb_memory_lists.proofs.SliceGets.{slice_get-set_apart, slice_get-set_same}
 use Rattle.std.proofs.Common.{List, None, Option, Some, [], ap, append-nil, append_assoc, inl, inr, refl, reverse, sym, ℕ, ◌++◌, ◌∙◌, ◌∷◌, ◌≡◌}
 use Rattle.std.proofs.lemmas.Bool.{cases_eq}

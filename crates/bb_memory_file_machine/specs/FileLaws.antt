@@ -161,6 +161,10 @@ pub data Effect (words : FileWords) (process : ℕ) : FileOutcome → FileWords 
   -- the party empties a slot whose bucket it holds
   empties : (party slot bucket lap next : ℕ) → IsLock words party process → IsHolder words bucket party →
       IsSlot words slot (Message lap bucket) → Effect words process (OnSlot slot) (with_slot words slot (Empty next))
+  -- the entry of the party's bucket, which names the slot that has the bucket, gets another length
+  resizes : (party slot bucket lap old size : ℕ) → IsLock words party process → IsHolder words bucket party →
+      IsSlot words slot (Message lap bucket) → IsEntry words bucket (In slot old) →
+      Effect words process (OnEntry bucket) (with_entry words bucket (In slot size))
   -- the party begins to forward the message in its bucket from the slot that has it to another one
   forwards : (party bucket from slot lap : ℕ) → IsLock words party process → IsHolder words bucket party →
       IsSlot words from (Message lap bucket) → from ≢ slot →

@@ -7,7 +7,7 @@ pub use Rattle.bb_memory_file_machine.specs.declared.steps.file.FileFlag.TheVari
 pub use Rattle.bb_memory_file_machine.specs.declared.steps.file.FileOutcome.{FileOutcome}
 pub use Rattle.bb_memory_file_machine.specs.declared.steps.file.FileOutcome.TheVariants.{Dies, Forwards, Moves, OnEntry, OnFlag, OnLife, OnLock, OnSlot, Receives, Refused, Sends}
 pub use Rattle.bb_memory_file_machine.specs.declared.steps.file.FileStep.{FileStep}
-pub use Rattle.bb_memory_file_machine.specs.declared.steps.file.FileStep.TheVariants.{Allocate, AttachNumber, Count, Deallocate, DetachNumber, Done, Fill, Forward, Kill, Leave, Lock, Next, Post, PutBack, Recover, Release, Take, Unlock}
+pub use Rattle.bb_memory_file_machine.specs.declared.steps.file.FileStep.TheVariants.{Allocate, AttachNumber, Count, Deallocate, DetachNumber, Done, Fill, Forward, Kill, Leave, Lock, Next, Post, PutBack, Recover, Release, Resize, Take, Unlock}
 pub use Rattle.bb_memory_file_machine.specs.declared.steps.file.Place.{Place}
 pub use Rattle.bb_memory_file_machine.specs.declared.steps.file.Place.TheVariants.{Arriving, Clearing, Counting, Dead, Flags, Forwarding, Outside, Posting, Sending, Settled}
 pub use Rattle.bb_memory_file_machine.specs.declared.steps.file.Slot.{Slot}
@@ -314,6 +314,20 @@ put_back words process place party slot bucket =
     then put_back_at words place party slot bucket (lap_of words slot bucket)
     else refused words place) else refused words place
 
+-- a party writes the entry of a bucket in whose slot it has found this lap
+abbrev pub resize_at : FileWords → Place → ℕ → ℕ → ℕ → Option ℕ → FileMove
+resize_at words place slot bucket length (Some lap) =
+    move_of (OnEntry bucket) (with_entry words bucket (In slot length)) Outside
+resize_at words place slot bucket length None = refused words place
+
+-- A party writes anew how long a message is that it has taken, and isn't done with: it may have changed
+-- the message before it puts it back, `bb_pool_file_detach`, or forwards it.
+abbrev pub resize : FileWords → ℕ → Place → ℕ → ℕ → ℕ → ℕ → FileMove
+resize words process place party slot bucket length =
+    if may_call words process place party then (if is_flag words bucket (HeldBy party)
+    then resize_at words place slot bucket length (lap_of words slot bucket)
+    else refused words place) else refused words place
+
 -- FORWARDS
 
 -- a party marks a bucket in whose slot it has found this lap: it forwards the message to another slot
@@ -445,6 +459,7 @@ process_of (Deallocate process party bucket) = process
 process_of (DetachNumber process party bucket) = process
 process_of (AttachNumber process party bucket from) = process
 process_of (Post process party slot bucket length) = process
+process_of (Resize process party slot bucket length) = process
 process_of (Forward process party from slot bucket) = process
 process_of (Fill process lap) = process
 process_of (Take process party slot bucket lap) = process
@@ -466,6 +481,7 @@ move_at words place (Deallocate process party bucket) = deallocate words process
 move_at words place (DetachNumber process party bucket) = detach_number words process place party bucket
 move_at words place (AttachNumber process party bucket from) = attach_number words process place party bucket from
 move_at words place (Post process party slot bucket length) = post words process place party slot bucket length
+move_at words place (Resize process party slot bucket length) = resize words process place party slot bucket length
 move_at words place (Forward process party from slot bucket) = forward words process place party from slot bucket
 move_at words place (Fill process lap) = fill words place lap
 move_at words place (Take process party slot bucket lap) = take words process place party slot bucket lap

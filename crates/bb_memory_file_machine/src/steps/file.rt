@@ -161,6 +161,15 @@ pub enum FileStep {
         bucket: u32,
         length: u32,
     },
+    /// The party writes anew how long the message in its bucket is, which is in this slot: it writes
+    /// the bucket's entry.
+    Resize {
+        process: u32,
+        party: u32,
+        slot: u32,
+        bucket: u32,
+        length: u32,
+    },
     /// The party begins to forward the message in its bucket from one slot to another: it writes
     /// the bucket's flag.
     Forward {

@@ -1,6 +1,6 @@
 //! The law about the kinds of steps of the machine of a pool in a file: each is possible.
 ghost use Rattle.bb_memory_file_machine.specs.FileLaws.{IsEntry, IsFlag, IsHolder, IsIn, IsKeeper, IsLife, IsLock, IsPlace, IsSlot};
-ghost use Rattle.bb_memory_file_machine.specs.FileMachine.{Allocate, Arriving, AttachFrom, AttachNumber, Clearing, Count, Counting, Dead, Deallocate, Detach, DetachNumber, DetachedBy, Dies, Done, Empty, FileState, Fill, Flags, Forward, ForwardedBy, Forwarding, Forwards, Free, GiveBack, HeldBy, In, Kill, Leave, Lock, Message, Moves, Next, Nowhere, OnEntry, OnFlag, OnLife, OnLock, OnSlot, Outside, Place, Post, Posting, PutBack, Receives, Recover, Release, Sending, Sends, SentTo, Settled, Take, TryAt, Unlock, next_lap, with_entry, with_flag, with_life, with_lock, with_slot};
+ghost use Rattle.bb_memory_file_machine.specs.FileMachine.{Allocate, Arriving, AttachFrom, AttachNumber, Clearing, Count, Counting, Dead, Deallocate, Detach, DetachNumber, DetachedBy, Dies, Done, Empty, FileState, Fill, Flags, Forward, ForwardedBy, Forwarding, Forwards, Free, GiveBack, HeldBy, In, Kill, Leave, Lock, Message, Moves, Next, Nowhere, OnEntry, OnFlag, OnLife, OnLock, OnSlot, Outside, Place, Post, Posting, PutBack, Receives, Recover, Release, Resize, Sending, Sends, SentTo, Settled, Take, TryAt, Unlock, next_lap, with_entry, with_flag, with_life, with_lock, with_slot};
 ghost use Rattle.bb_memory_file_machine.specs.FileMoves.{IsUnlocked, Makes, MayBegin};
 ghost use Rattle.std.specs.Prelude.{None, Some, length, ℕ, ◌+◌, ◌<◌, ◌≢◌, ◌≤◌};
 
@@ -108,6 +108,12 @@ pub fn file_steps_law()
     ensures done_clears { (state : FileState) (process party bucket : ℕ)
         → IsPlace state process (Clearing party bucket)
         → Makes state (Next process) (OnEntry bucket) (with_entry state.words bucket Nowhere) Outside }
+
+    // A party that holds the bucket of a message writes anew how long the message is.
+    ensures resizes { (state : FileState) (process party slot bucket lap size : ℕ) → MayBegin state process party
+        → IsHolder state.words bucket party → IsSlot state.words slot (Message lap bucket)
+        → Makes state (Resize process party slot bucket size)
+        (OnEntry bucket) (with_entry state.words bucket (In slot size)) Outside }
 
     // FORWARDS
 

@@ -1,6 +1,6 @@
 //! A machine of a pool in a file that can be run: the words and locks, and the progress of each
 //! process.
-ghost use Rattle.bb_memory_file_machine.specs.FileMachine.{Flags, Message, OnSlot, allocate, arrive, attach_number, attaching, clearing, count, counting, deallocate, detach_number, done, fill, forward, forwarding, giving_back, has_clear, is_empty, is_flag, is_nowhere, is_own, lap_of, leave, leave_slot, lock, may_call, move_at, move_of, next, next_lap, opening_state, post, process_of, put_back, recover, refused, release, same_flag, sending, settle_forward, take, unlock, with_entry, with_flag, with_slot};
+ghost use Rattle.bb_memory_file_machine.specs.FileMachine.{Flags, Message, OnSlot, allocate, arrive, attach_number, attaching, clearing, count, counting, deallocate, detach_number, done, fill, forward, forwarding, giving_back, has_clear, is_empty, is_flag, is_nowhere, is_own, lap_of, leave, leave_slot, lock, may_call, move_at, move_of, next, next_lap, opening_state, post, process_of, put_back, recover, refused, release, resize, same_flag, sending, settle_forward, take, unlock, with_entry, with_flag, with_slot};
 ghost use Rattle.bb_memory_file_machine.specs.FileWorld.{FileWorld, IsFileWorld, IsMove, Replays, Steps, world_of};
 ghost use Rattle.std.specs.Prelude.{IfOk, IsSome, if◌then◌else◌, length, slice_get, slice_set, ◌+◌, ◌<◌, ◌≡◌};
 
@@ -175,6 +175,13 @@ impl FileWorld {
                 bucket,
                 length,
             } => self.post(process, place, party, slot, bucket, length),
+            FileStep::Resize {
+                process,
+                party,
+                slot,
+                bucket,
+                length,
+            } => self.resize(process, place, party, slot, bucket, length),
             FileStep::Forward {
                 process,
                 party,
@@ -441,6 +448,32 @@ impl FileWorld {
             }
             _ => (FileOutcome::Refused, place),
         }
+    }
+
+    /// Makes a party that holds the bucket of a message write anew how long the message is.
+    fn resize(
+        &mut self,
+        process: u32,
+        place: Place,
+        party: u32,
+        slot: u32,
+        bucket: u32,
+        length: u32,
+    ) -> (FileOutcome, Place)
+        ensures { IsMove self.old (resize self.old.words process place party slot bucket length) result.0 result.1 self.new }
+    {
+        if !self.may_call(process, place, party) {
+            return (FileOutcome::Refused, place);
+        }
+        if !self.is_flag(bucket, FileFlag::HeldBy(party)) {
+            return (FileOutcome::Refused, place);
+        }
+        if self.lap_of(slot, bucket).is_none() {
+            return (FileOutcome::Refused, place);
+        }
+        let entry = Entry::In { slot, length };
+        self.set_entry(bucket, entry);
+        (FileOutcome::OnEntry(bucket), Place::Outside)
     }
 
     /// Makes a party begin to forward the message in its bucket from one slot to another.
@@ -724,13 +757,7 @@ impl FileWorld {
     }
 
     /// Writes the flag of a bucket whose message a party forwards, or doesn't any more.
-    fn mark(
-        &mut self,
-        party: u32,
-        bucket: u32,
-        flag: FileFlag,
-        next: Place,
-    ) -> (FileOutcome, Place)
+    fn mark(&mut self, party: u32, bucket: u32, flag: FileFlag, next: Place) -> (FileOutcome, Place)
         ensures { IsMove self.old (forwarding self.old.words party bucket flag next) result.0 result.1 self.new }
     {
         self.set_flag(bucket, flag);
@@ -908,6 +935,7 @@ fn process_of(step: FileStep) -> u32
         FileStep::DetachNumber { process, .. } => process,
         FileStep::AttachNumber { process, .. } => process,
         FileStep::Post { process, .. } => process,
+        FileStep::Resize { process, .. } => process,
         FileStep::Forward { process, .. } => process,
         FileStep::Fill { process, .. } => process,
         FileStep::Take { process, .. } => process,

@@ -67,6 +67,7 @@ returns c = record {
   says_done = λ state process party slot bucket lap next may held has.
       simp (may.place, may.lock, held, has, itself) refl;
   done_clears = λ state process party bucket there. simp there refl;
+  resizes = λ state process party slot bucket lap size may held has. simp (may.place, may.lock, held, has, itself) refl;
   forwards = λ state process party from slot bucket lap may held has apart.
       simp (may.place, may.lock, held, has, ne_eqb from slot apart, itself) refl;
   forward_fills = λ state process party slot bucket lap there empty. simp (there, empty, itself) refl;
@@ -82,19 +83,42 @@ returns c = record {
       simp (there, held, entry, no_lap state.words slot bucket not, held_below state.words bucket party held, itself) refl;
   settler_gives_back = λ state process party bucket there held clear.
       simp (there, held, clear, held_below state.words bucket party held, itself) refl;
-  settler_takes_back = λ state process party bucket slot there flag not_in. simp (there, flag,
-      no_lap state.words slot bucket not_in, flag_below state.words bucket (ForwardedBy party slot) flag, itself) refl;
-  settler_empties = λ state process party bucket slot lap from size old there flag has entry apart message. simp (there, flag,
-      has, entry, message, flag_below state.words bucket (ForwardedBy party slot) flag, ne_eqb from slot apart, itself) refl;
-  settler_enters = λ state process party bucket slot lap from size there flag has entry apart not_in. simp (there, flag,
-      has, entry, no_lap state.words from bucket not_in, flag_below state.words bucket (ForwardedBy party slot) flag,
-      ne_eqb from slot apart, itself) refl;
+  settler_takes_back = λ state process party bucket slot there flag not_in. simp (
+    there,
+    flag,
+    no_lap state.words slot bucket not_in,
+    flag_below state.words bucket (ForwardedBy party slot) flag,
+    itself,
+  ) refl;
+  settler_empties = λ state process party bucket slot lap from size old there flag has entry apart message. simp (
+    there,
+    flag,
+    has,
+    entry,
+    message,
+    flag_below state.words bucket (ForwardedBy party slot) flag,
+    ne_eqb from slot apart,
+    itself,
+  ) refl;
+  settler_enters = λ state process party bucket slot lap from size there flag has entry apart not_in. simp (
+    there,
+    flag,
+    has,
+    entry,
+    no_lap state.words from bucket not_in,
+    flag_below state.words bucket (ForwardedBy party slot) flag,
+    ne_eqb from slot apart,
+    itself,
+  ) refl;
   settler_ends_forward = λ state process party bucket slot lap size there flag has entry.
       simp (there, flag, has, entry, flag_below state.words bucket (ForwardedBy party slot) flag, itself) refl;
   settler_passes_unheld = λ state process party bucket there not below.
-      simp (there, not_flag state.words bucket (HeldBy party) (λ held. not (HeldBy party, held, refl)),
-      lt-ltb bucket (length state.words.flags) below,
-      passes_unheld state.words party bucket (slice_get state.words.flags bucket) refl not) refl;
+      simp (
+        there,
+        not_flag state.words bucket (HeldBy party) (λ held. not (HeldBy party, held, refl)),
+        lt-ltb bucket (length state.words.flags) below,
+        passes_unheld state.words party bucket (slice_get state.words.flags bucket) refl not,
+      ) refl;
   settler_ends_flags = λ state process party bucket there end.
       simp (there, le-ltb bucket (length state.words.flags) end) refl;
   settler_recovers = λ state process party bucket there is. simp (there, is, itself) refl;
