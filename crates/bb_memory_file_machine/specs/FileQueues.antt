@@ -6,8 +6,8 @@
 -- its message when it fills the slot. No word of the file says which ticket is next: senders and
 -- receivers look at the slots.
 use Rattle.bb_memory_file_machine.specs.FileLaws.{IsFlag, IsSlot}
-use Rattle.bb_memory_file_machine.specs.FileMachine.{Done, Empty, FileOutcome, FileScene, FileState, FileStep, FileWords, Fill, Message, OnSlot, Receives, Sends, SentTo, Slot, Take, file_step, opening_state}
 pub use Rattle.bb_memory_file_machine.specs.FileMachine.{next_lap}
+use Rattle.bb_memory_file_machine.specs.FileMachine.{Done, Empty, FileOutcome, FileScene, FileState, FileStep, FileWords, Fill, Message, OnSlot, Receives, Sends, SentTo, Slot, Take, file_step, opening_state}
 use Rattle.std.specs.Prelude.{Bool, Contains, List, None, Option, Some, [], false, filter, if◌then◌else◌, nat_lt, not, slice_get, true, ℕ, ◌%◌, ◌*◌, ◌++◌, ◌+◌, ◌-◌, ◌/◌, ◌<◌, ◌==◌, ◌^◌, ◌∷◌, ◌≡◌, ◌≢◌, ◌≤◌, ◌⊎◌}
 
 -- HISTORIES
