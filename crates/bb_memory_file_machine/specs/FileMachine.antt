@@ -337,8 +337,8 @@ forward_at words place party slot bucket (Some lap) =
 forward_at words place party slot bucket None = refused words place
 
 -- A party begins to forward a message that it has taken, and isn't done with, from its slot to another
--- one: `bb_pool_file_forward`. From now on the flag says where the message is to go. No other call does
--- anything with the bucket until the forward ends.
+-- one. From now on the flag says where the message is to go. No other call does anything with the bucket
+-- until the forward ends.
 abbrev pub forward : FileWords → ℕ → Place → ℕ → ℕ → ℕ → ℕ → FileMove
 forward words process place party from slot bucket =
     if may_call words process place party then (if is_flag words bucket (HeldBy party)
@@ -410,8 +410,8 @@ settle_flag words party bucket =
 -- THE NEXT STEP
 
 -- The next step of the call that the process is in. `Posting` and `Sending` are places in
--- `bb_pool_file_post`, `Forwarding` and `Arriving` are places in `bb_pool_file_forward`, and `Clearing`
--- is one in `bb_pool_file_done`; the others are places of a settler. A process at `Posting` that can't
+-- `bb_pool_file_post`, `Forwarding` and `Arriving` are places in a forward, and `Clearing` is one in
+-- `bb_pool_file_done`; the others are places of a settler. A process at `Posting` that can't
 -- fill its slot clears the entry, and one at `Forwarding` holds the bucket as before. A process at
 -- `Counting` takes no next step: it counts.
 abbrev pub next : FileWords → Place → FileMove
