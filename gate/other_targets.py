@@ -21,7 +21,7 @@ FLAGS = ("-O1", "-Wall", "-Wextra", "-Werror", "-pedantic")
 # The seconds after which a program is killed, since it hangs.
 LONGEST = "600"
 # Needed by the linker, and by one object of the archive from another one.
-OWN = re.compile(r"_GLOBAL_OFFSET_TABLE_|bb_\w+|memory_(?:lend|end_loan)|file_\w+")
+OWN = re.compile(r"_GLOBAL_OFFSET_TABLE_|bb_\w+|memory_(?:lend|take_back|end_loan)|file_\w+")
 # Loads, stores and exchanges of ARM64 that other steps may overtake. A relaxed load or store isn't
 # among them: it looks like one of memory that no other thread uses.
 WEAK = re.compile(

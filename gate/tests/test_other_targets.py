@@ -19,7 +19,8 @@ class Symbols(unittest.TestCase):
         self.assertEqual(other_targets.named_on(PAGE), {"malloc", "free", "open"})
 
     def test_unnamed(self) -> None:
-        symbols = "\na.o:\n                 U free\n                 U memory_lend\n"
+        names = ("free", "memory_lend", "memory_take_back")
+        symbols = "\na.o:\n" + "".join(f"{'U':>18} {name}\n" for name in names)
         self.assertEqual(other_targets.unnamed(symbols, PAGE), [])
         posts = f"{symbols}                 U file_post\n"
         self.assertEqual(other_targets.unnamed(posts, PAGE), [])
